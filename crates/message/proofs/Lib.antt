@@ -1,0 +1,5 @@
+pub mod Rules
+pub mod Lists
+pub mod Fields
+pub mod RoundTrip
+pub mod Places
