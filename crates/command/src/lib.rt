@@ -181,16 +181,13 @@ fn header_in(s: &[u8]) -> Header
     requires { ⌜ 9 ≤ length (now s) ⌝ }
     ensures { λ r. ⌜ r ≡ headerIn (now (s .entry)) ⌝ }
 {
-    Header::new()
-        .with(0, s[0])
-        .with(1, s[1])
-        .with(2, s[2])
-        .with(3, s[3])
-        .with(4, s[4])
-        .with(5, s[5])
-        .with(6, s[6])
-        .with(7, s[7])
-        .with(8, s[8])
+    let mut h = Header::new();
+    let mut i = 0;
+    while i < 9 {
+        h = h.with(i, s[i]);
+        i += 1;
+    }
+    h
 }
 
 fn wide(n: u16) -> usize

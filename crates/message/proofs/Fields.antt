@@ -4,7 +4,7 @@ use native.Mathlib.Omega.{arith}
 use mathlib.Core.Path.{_≡_, refl, sym, _∙_, ap, ap₂}
 use mathlib.Core.List.{List, [], _∷_, _++_, append-assoc}
 use lib.Dec.{lit<}
-use lib.ListN.{length, take, drop, getD, length-append, length-take, length-drop}
+use lib.ListN.{length, take, drop, set, getD, replicate, length-append, length-take, length-drop}
 use lib.Seq.{take-at, drop-at, take-add, length-take-le, getD-take, getD-drop}
 use Rattle.field.specs.Field.{field, valueOf, Below}
 use Rattle.field.proofs.Laws.{length-digits, number-digits, digits-number}
@@ -36,6 +36,18 @@ below-take (suc n) (x ∷ s) h (suc i) = below-take n s (λ j. h (suc j)) i
 
 pub below-drop : (n : ℕ) (s : List ℕ) → Below 256 s → Below 256 (drop n s)
 below-drop n s h i = rw getD-drop (h (n + i))
+
+pub below-set : (s : List ℕ) (i x : ℕ) → Below 256 s → x < 256 → Below 256 (set s i x)
+below-set [] i x h p j = lit< tt
+below-set (y ∷ s) zero x h p zero = p
+below-set (y ∷ s) zero x h p (suc j) = h (suc j)
+below-set (y ∷ s) (suc i) x h p zero = h 0
+below-set (y ∷ s) (suc i) x h p (suc j) = below-set s i x (λ k. h (suc k)) p j
+
+pub zeros-below : (n : ℕ) → Below 256 (replicate n 0)
+zeros-below zero i = lit< tt
+zeros-below (suc n) zero = lit< tt
+zeros-below (suc n) (suc i) = zeros-below n i
 
 -- The bytes of a field's value are the field's bytes.
 pub field-value : (w : ℕ) (s : List ℕ) → w ≤ length s → Below 256 s → field w (valueOf (take w s)) ≡ take w s

@@ -16,14 +16,10 @@ use Rattle.message.specs.Format.{Format, Message, laid, bytesOf, size, s
 use Rattle.message.specs.Reading.{valuesIn, announced, messageIn, reading}
 use Rattle.message.specs.Writing.{writing, written, left}
 use Rattle.message.specs.RoundTrip.{Fit, ReadWritten, WrittenRead}
+use Rattle.message.proofs.Readings.{read-whole, given-whole, given-message}
 use Rattle.message.proofs.Fields.{length-laid, value-at, values-laid, below-take, below-drop, field-value, laid-values}
 
--- What a reader and a writer that did not refuse had tested.
-pub was-read : (t u : Bool) (x m : Message) → cond t (refused 9) (cond u (gives x) (refused 10)) ≡ gives m → (t ≡ false) × ((u ≡ true) × (x ≡ m))
-was-read true u x m e = absurd (let z : _≡_ {A = ℕ} 0 1 = cc in omega arith)
-was-read false true x m e = (refl, (refl, (cc)))
-was-read false false x m e = absurd (let z : _≡_ {A = ℕ} 0 1 = cc in omega arith)
-
+-- What a writer that did not refuse had tested.
 pub was-written : (t u : Bool) (x n : ℕ) → cond t (refused 2) (cond u (refused 11) (gives x)) ≡ gives n → (t ≡ false) × ((u ≡ false) × (x ≡ n))
 was-written true u x m e = absurd (let z : _≡_ {A = ℕ} 0 1 = cc in omega arith)
 was-written false true x m e = absurd (let z : _≡_ {A = ℕ} 0 1 = cc in omega arith)
@@ -32,10 +28,6 @@ was-written false false x m e = (refl, (refl, (cc)))
 module _ (f : Format) where
   pub length-bytes : (m : Message) → length (bytesOf f m) ≡ least f + length (m .«data»)
   length-bytes m = simp (length-append, length-laid, length-digits) (omega arith)
-
-  -- A slice that announces its own length is read.
-  reads : (s : List ℕ) → length s ≡ least f + announced f s → reading f s ≡ gives (messageIn f s)
-  reads s l = rw (le-ltb (length s) (least f) (omega arith), eq-eqb (length s) (least f + announced f s) l)
 
   -- What is behind the fields, what is behind the data length, and what that announces.
   module _ (m : Message) where
@@ -62,7 +54,7 @@ module _ (f : Format) where
       ap₂ (λ (k : ℕ) (l : List ℕ). drop k l) (announced-own m h) (to-data m) ∙ drop-at d tail (length d) refl in
       let ends : valuesIn (f .after) (drop (announced f s) (drop (start f) s)) ≡ m .after =
       ap (valuesIn (f .after)) (rest ∙ sym (append-nil tail)) ∙ values-laid [] q in
-      reads s (length-bytes m ∙ ap (λ (k : ℕ). least f + k) (sym (announced-own m h)))
+      read-whole f s (length-bytes m ∙ ap (λ (k : ℕ). least f + k) (sym (announced-own m h)))
       ∙ (λ i. gives (record { before = fields i; «data» = items i; after = ends i }))
 
   pub read-written : ReadWritten f
@@ -101,13 +93,12 @@ module _ (f : Format) where
 
   pub written-read : WrittenRead f
   written-read s m out b e h =
-      let was = was-read (ltb (length s) (least f)) (eqb (length s) (least f + announced f s)) (messageIn f s) m e in
-      let whole : length s ≡ least f + announced f s = eqb-true _ _ (was .1 .0) in
+      let whole : length s ≡ least f + announced f s = given-whole f s e in
       let items : length (messageIn f s .«data») ≡ announced f s =
       length-take-le (announced f s) (drop (start f) s) (rw length-drop (omega arith)) in
       let small : announced f s ≤ 65535 = announced-below s b (omega arith) in
       let room : writing f (length (messageIn f s .«data»)) (length out) ≡ gives (length s) =
       rw (items, le-ltb 65535 (announced f s) small, le-ltb (length out) (least f + announced f s) (omega arith)) (ap gives (sym whole)) in
-      ap (λ (x : Message). written f x out) (sym (was .1 .1))
+      ap (λ (x : Message). written f x out) (sym (given-message f s e))
       ∙ ap (λ (x : Answer ℕ). left x (bytesOf f (messageIn f s)) out) room
       ∙ ap (λ (l : List ℕ). l ++ drop (length s) out) (bytes-read s b whole)
