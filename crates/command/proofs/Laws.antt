@@ -45,7 +45,7 @@ pub record Holds (h : Header) (t : List ℕ) : Type 0 where
 header-bytes : (t : List ℕ) → length t ≡ 9 → Below 256 t → headerBytes (headerIn t) ≡ t
 header-bytes t n b =
     let front : laid (commandFormat .before) (valuesIn (commandFormat .before) t) ≡ take 7 t = laid-values (commandFormat .before) t (omega arith) b in
-    let count : field 2 (announced commandFormat t) ≡ take 2 (drop 7 t) = field-value 2 (drop 7 t) (rw length-drop (omega arith)) (below-drop 7 t b) in
+    let count : field 2 (announced 7 t) ≡ take 2 (drop 7 t) = field-value 2 (drop 7 t) (rw length-drop (omega arith)) (below-drop 7 t b) in
     (λ i. front i ++ count i) ∙ sym (take-add 7 2 t) ∙ take-all 9 t (omega arith)
 
 pub holds-with : {h r : Header} {t : List ℕ} (i b : ℕ) → Holds h t → b < 256 → r ≡ headerIn (set (headerBytes h) i b) → Holds r (set t i b)

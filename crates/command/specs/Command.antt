@@ -1,10 +1,9 @@
 -- Document 01, "Messages" (000, 4.3): a command as the code holds it, and the message that it is.
 use Prim.Native.Nat.{ℕ}
-use mathlib.Core.List.{List, [], _∷_, _++_}
+use mathlib.Core.List.{List, [], _∷_}
 use lib.ListN.{getD}
-use Rattle.field.specs.Field.{field}
 use Rattle.message.specs.Answer.{Answer, gives, refused}
-use Rattle.message.specs.Format.{Message, commandFormat, laid}
+use Rattle.message.specs.Format.{Message, commandFormat, headOf, size}
 use Rattle.message.specs.Reading.{valuesIn, announced}
 use Rattle.command.specs.declared.Command.{Command}
 use Rattle.command.specs.declared.Header.{Header}
@@ -36,7 +35,7 @@ numbered d Disagrees = refused 10
 
 -- The nine bytes before the data, and what they say.
 abbrev pub headerBytes : Header → List ℕ
-headerBytes h = laid (commandFormat .before) (fieldsOf (h .command)) ++ field 2 (h .«data_length»)
+headerBytes h = headOf commandFormat (fieldsOf (h .command)) (h .«data_length»)
 
 abbrev pub headerIn : List ℕ → Header
-headerIn s = record { command = commandFrom (valuesIn (commandFormat .before) s); «data_length» = announced commandFormat s }
+headerIn s = record { command = commandFrom (valuesIn (commandFormat .before) s); «data_length» = announced (size (commandFormat .before)) s }

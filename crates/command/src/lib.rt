@@ -1,16 +1,16 @@
 // The command message: device code 1, command code 1, logical unit 1, record number 2, buffer length 2, data length 2,
 // then the data.
 ghost use mathlib.Core.Path.{_≡_};
-ghost use mathlib.Core.List.{[], _++_};
+ghost use mathlib.Core.List.{[]};
 ghost use Prim.Native.Nat.{_≤_};
 ghost use lib.ListN.{length, set};
-ghost use Rattle.field.specs.Field.{field};
-ghost use Rattle.message.specs.Format.{commandFormat, laid};
+ghost use Rattle.message.specs.Format.{commandFormat, headOf, bytesOf, least};
 ghost use Rattle.message.specs.Reading.{reading, dataIn};
-ghost use Rattle.message.specs.Writing.{writing, written};
+ghost use Rattle.message.specs.Writing.{writing, writtenAs};
 ghost use Rattle.message.specs.Writing.{numbered as writer·numbered};
-ghost use Rattle.message.specs.Place.{placeOf, nibbleIn};
+ghost use Rattle.message.specs.Place.{placeIn, nibbleIn};
 ghost use Rattle.command.specs.Command.{fieldsOf, messageOf, numbered, headerBytes, headerIn};
+use message::Checked;
 use message::Place;
 use message::Written;
 
@@ -35,69 +35,48 @@ pub enum Reading {
 
 // Reads a slice that must hold exactly one command.
 pub fn read(s: &[u8]) -> Reading
-    ensures { λ r. ⌜ numbered (dataIn (reading commandFormat (now (s .entry)))) r ≡ reading commandFormat (now (s .entry)) ⌝ }
+    ensures { λ r. ⌜ numbered (dataIn commandFormat (now (s .entry))) r ≡ reading commandFormat (now (s .entry)) ⌝ }
 {
-    if s.len() < 9 {
-        return Reading::Short;
-    }
-    let h = header_in(s);
-    let n = wide(h.data_length);
-    if s.len() == 9 + n {
-        let c = h.command;
-        Reading::Fields(c)
-    } else {
-        Reading::Disagrees
+    match message::check(s, 7, 0) {
+        Checked::Whole(_) => {
+            let h = header_in(s);
+            let c = h.command;
+            Reading::Fields(c)
+        }
+        Checked::Short => Reading::Short,
+        Checked::Disagrees => Reading::Disagrees,
     }
 }
 
 // The data field of the command that a slice holds, as that part of the slice; nothing where `read` refuses.
 pub fn data_of(s: &[u8]) -> &[u8]
-    ensures { λ r. ⌜ now r ≡ dataIn (reading commandFormat (now (s .entry))) ⌝ }
+    ensures { λ r. ⌜ now r ≡ dataIn commandFormat (now (s .entry)) ⌝ }
 {
-    match read(s) {
-        Reading::Fields(_) => &s[9..],
-        Reading::Short => &s[..0],
-        Reading::Disagrees => &s[..0],
-    }
+    message::data_of(s, 7, 0)
 }
 
 // Writes a command with its data to the front of a lent buffer. Bytes past it keep their values, and all do where it refuses.
 pub fn write(c: Command, data: &[u8], out: &mut [u8]) -> Written
-    ensures { λ r. ⌜ (writer·numbered r ≡ writing commandFormat (length (now («data» .entry))) (length (now (out .entry)))) × (now (out .exit) ≡ written commandFormat (messageOf c (now («data» .entry))) (now (out .entry))) ⌝ }
+    ensures { λ r. ⌜ (writer·numbered r ≡ writing (least commandFormat) (length (now («data» .entry))) (length (now (out .entry)))) × (now (out .exit) ≡ writtenAs commandFormat (messageOf c (now («data» .entry))) (now (out .entry))) ⌝ }
 {
-    let n = data.len();
-    if 65535 < n {
-        return Written::TooLong;
-    }
-    if out.len() < 9 + n {
-        return Written::NoRoom;
-    }
-    let head = head_of(c, n);
-    bytes::copy(&head, out);
-    bytes::copy(data, &mut out[9..]);
-    Written::Length(9 + n)
+    let head = head_of(c, data.len());
+    message::write(&head, data, &[], out)
 }
 
 // What stands at byte i of a command with n bytes of data.
 pub fn place(c: Command, n: usize, i: usize) -> Place
-    ensures { λ r. ⌜ r ≡ placeOf commandFormat (fieldsOf c) n [] i ⌝ }
+    ensures { λ r. ⌜ r ≡ placeIn (headOf commandFormat (fieldsOf c) n) n [] i ⌝ }
 {
-    if i < 9 {
-        let head = head_of(c, n);
-        return Place::Field(head[i]);
-    }
-    let j = i - 9;
-    if j < n {
-        return Place::Item(j);
-    }
-    Place::Past
+    let head = head_of(c, n);
+    message::place_of(&head, n, &[], i)
 }
 
 // Nibble i of a command with its data; past its end 15.
 pub fn nibble(c: Command, data: &[u8], i: usize) -> u8
-    ensures { λ r. ⌜ r ≡ nibbleIn commandFormat (messageOf c (now («data» .entry))) i ⌝ }
+    ensures { λ r. ⌜ r ≡ nibbleIn (bytesOf commandFormat (messageOf c (now («data» .entry)))) i ⌝ }
 {
-    message::nibble_at(place(c, data.len(), i / 2), data, i)
+    let head = head_of(c, data.len());
+    message::nibble(&head, data, &[], i)
 }
 
 // The nine bytes before the data.
@@ -162,7 +141,7 @@ impl Header {
 }
 
 fn head_of(c: Command, n: usize) -> [u8; 9]
-    ensures { λ r. ⌜ r ≡ laid (commandFormat .before) (fieldsOf c) ++ field 2 n ⌝ }
+    ensures { λ r. ⌜ r ≡ headOf commandFormat (fieldsOf c) n ⌝ }
 {
     [
         c.device,
@@ -188,10 +167,4 @@ fn header_in(s: &[u8]) -> Header
         i += 1;
     }
     h
-}
-
-fn wide(n: u16) -> usize
-    ensures { λ r. ⌜ r ≡ n ⌝ }
-{
-    n as usize
 }

@@ -29,10 +29,16 @@ laid [] vs = []
 laid (w ∷ ws) [] = field w 0 ++ laid ws []
 laid (w ∷ ws) (v ∷ vs) = field w v ++ laid ws vs
 
+-- What stands before the data of n bytes, and what stands behind it.
+abbrev pub headOf : Format → List ℕ → ℕ → List ℕ
+headOf f vs n = laid (f .before) vs ++ field 2 n
+
+abbrev pub endOf : Format → List ℕ → List ℕ
+endOf f vs = laid (f .after) vs
+
 -- The bytes of a message.
 abbrev pub bytesOf : Format → Message → List ℕ
-bytesOf f m =
-    laid (f .before) (m .before) ++ (field 2 (length (m .«data»)) ++ (m .«data» ++ laid (f .after) (m .after)))
+bytesOf f m = headOf f (m .before) (length (m .«data»)) ++ (m .«data» ++ endOf f (m .after))
 
 -- How many bytes fields of these widths take.
 abbrev pub size : List ℕ → ℕ

@@ -6,9 +6,9 @@ use mathlib.Core.List.{List, [], _∷_, _++_}
 use lib.ListN.{length, take, drop}
 use Rattle.field.specs.Field.{Below}
 use Rattle.message.specs.Answer.{Answer, gives}
-use Rattle.message.specs.Format.{Format, Message, bytesOf}
+use Rattle.message.specs.Format.{Format, Message, least}
 use Rattle.message.specs.Reading.{reading}
-use Rattle.message.specs.Writing.{writing, written}
+use Rattle.message.specs.Writing.{writing, writtenAs}
 
 -- A value for each field, and each within its field's width.
 pub data Fit : List ℕ → List ℕ → Type 0 where
@@ -21,8 +21,8 @@ ReadWritten f =
     (m : Message) (out : List ℕ) (n : ℕ)
     → Fit (f .before) (m .before)
     → Fit (f .after) (m .after)
-    → writing f (length (m .«data»)) (length out) ≡ gives n
-    → reading f (take n (written f m out)) ≡ gives m
+    → writing (least f) (length (m .«data»)) (length out) ≡ gives n
+    → reading f (take n (writtenAs f m out)) ≡ gives m
 
 -- What was read, written into any buffer that is long enough, is the same bytes.
 abbrev pub WrittenRead : Format → Type 0
@@ -31,4 +31,4 @@ WrittenRead f =
     → Below 256 s
     → reading f s ≡ gives m
     → length s ≤ length out
-    → written f m out ≡ s ++ drop (length s) out
+    → writtenAs f m out ≡ s ++ drop (length s) out

@@ -5,21 +5,27 @@ use mathlib.Core.List.{List, _++_}
 use lib.Dec.{ltb}
 use lib.ListN.{length, drop}
 use Rattle.message.specs.Answer.{Answer, gives, refused}
-use Rattle.message.specs.Format.{Format, Message, bytesOf, least}
+use Rattle.message.specs.Format.{Format, Message, headOf, endOf}
 use Rattle.message.specs.declared.Written.{Written}
 use Rattle.message.specs.declared.Written.the-variants.{Length, TooLong, NoRoom}
 
--- 2: data over 65,535. 11: a buffer too short for the message. Else the message's length. n data bytes, room for so many.
-abbrev pub writing : Format → ℕ → ℕ → Answer ℕ
-writing f n room = cond (ltb 65535 n) (refused 2) (cond (ltb room (least f + n)) (refused 11) (gives (least f + n)))
+-- Fields of so many bytes and n bytes of data, into a buffer with so much room. 2: data over 65,535. 11: the buffer is too short for
+-- the message. Else the message's length.
+abbrev pub writing : ℕ → ℕ → ℕ → Answer ℕ
+writing fields n room = cond (ltb 65535 n) (refused 2) (cond (ltb room (fields + n)) (refused 11) (gives (fields + n)))
 
 -- The buffer afterwards: the message, and past it the bytes that were there. A refusal leaves every byte.
 abbrev pub left : Answer ℕ → List ℕ → List ℕ → List ℕ
 left (gives n) bytes out = bytes ++ drop n out
 left (refused k) bytes out = out
 
-abbrev pub written : Format → Message → List ℕ → List ℕ
-written f m out = left (writing f (length (m .«data»)) (length out)) (bytesOf f m) out
+-- Head, data and end written to the front of a buffer.
+abbrev pub written : List ℕ → List ℕ → List ℕ → List ℕ → List ℕ
+written head d end out = left (writing (length head + length end) (length d) (length out)) (head ++ (d ++ end)) out
+
+-- A message of a format written to the front of a buffer.
+abbrev pub writtenAs : Format → Message → List ℕ → List ℕ
+writtenAs f m out = written (headOf f (m .before) (length (m .«data»))) (m .«data») (endOf f (m .after)) out
 
 -- The number and value of each answer of a writer.
 abbrev pub numbered : Written → Answer ℕ

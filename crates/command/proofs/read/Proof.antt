@@ -1,54 +1,68 @@
-use Prim.Native.Nat.{ℕ, _+_}
-use mathlib.Core.Path.{_≡_, sym, _∙_, ap}
-use lib.ListN.{length}
-use Rattle.message.specs.Answer.{gives}
+use Prim.Native.Nat.{ℕ}
+use native.Mathlib.Omega.{arith}
+use mathlib.Core.Path.{_≡_, _∙_, ap, sym}
+use Rattle.message.specs.Answer.{Answer, gives}
 use Rattle.message.specs.Format.{commandFormat}
-use Rattle.message.specs.Reading.{announced, messageIn}
-use Rattle.message.proofs.Readings.{read-short, read-disagrees, read-whole}
+use Rattle.message.specs.Reading.{checking, dataBy, readBy, found}
+use Rattle.message.proofs.Readings.{found-whole}
 use Rattle.command.specs.Command.{messageOf}
-use Rattle.command.specs.declared.Header.{Header}
 use borrow.Author.Needs.{needs}
 use Rattle.command.proofs.read.Statement.{statement}
 use Rattle.command.proofs.read.Tie as tie
 use Rattle.command.proofs.read.Reads as reads
 use Rattle.command.proofs.read.Lts as lts
 use Rattle.command.proofs.header_in.Reads as header-in-reads
-use Rattle.command.proofs.wide.Reads as wide-reads
+use Rattle.message.proofs.check.Reads as check-reads
 
--- src/lib.rt:41:9
-returns : tie.Need-returns
-returns c = sym (read-short commandFormat (c .before .before .args .s .now) (c .if1 .taken))
+-- src/lib.rt:40:11
+check-requires : tie.Need-check-requires
+check-requires c κs = search needs
 
--- src/lib.rt:43:9
+-- src/lib.rt:42:17
+enum-told : tie.Need-enum-told
+enum-told c = search needs
+
+-- In the arm of `Whole` the slice is a header and data.
+whole : (c : tie.After-enum-told) → (n : ℕ) × (checking 7 0 (c .before .before .before .before .args .s .now) ≡ gives n)
+whole c = (_, sym (c .before .before .check .ensures) ∙ ap found (c .enum-told .given .1))
+
+-- src/lib.rt:42:17
 header-in-requires : tie.Need-header-in-requires
-header-in-requires c κs = search needs
+header-in-requires c κs = omega (arith, found-whole 7 0 (c .before .before .before .before .args .s .now) (whole c .1) .1)
 
--- src/lib.rt:44:9
-wide-requires : tie.Need-wide-requires
-wide-requires c κs = search needs
+-- src/lib.rt:46:27
+enum-told-2 : tie.Need-enum-told-2
+enum-told-2 c = search needs
 
--- src/lib.rt:45:19
-add-if2 : tie.Need-add-if2
-add-if2 c = search needs
+-- src/lib.rt:47:31
+enum-told-3 : tie.Need-enum-told-3
+enum-told-3 c = search needs
+
+-- src/lib.rt:37:1
+returns : tie.Need-returns
+returns c =
+    let s = c .before .before .before .before .before .before .args .s .now in
+    let h = c .before .header-in .ensures in
+    let e = whole (c .before .before) .1 in
+    (λ i. gives (messageOf (h i .command) (dataBy (e i) 7 s))) ∙ sym (ap (λ (a : Answer ℕ). readBy a commandFormat s) e)
 
 -- src/lib.rt:37:1
 returns-2 : tie.Need-returns-2
-returns-2 c =
-    let s = c .before .before .before .before .before .before .args .s .now in
-    let h = c .before .before .before .header-in .ensures in
-    let l : length s ≡ 9 + announced commandFormat s =
-    c .before .if2 .taken ∙ ap (λ (n : ℕ). 9 + n) (c .before .before .wide .ensures ∙ ap (λ (x : Header). x .«data_length») h) in
-    let e = read-whole commandFormat s l in
-    rw e (ap (λ (x : Header). gives (messageOf (x .command) (messageIn commandFormat s .«data»))) h)
+returns-2 c = sym (ap (λ (a : Answer ℕ). readBy a commandFormat (c .before .before .before .before .args .s .now)) (sym (c .before .before .check .ensures) ∙ ap found (c .enum-told2 .given .1)))
 
 -- src/lib.rt:37:1
 returns-3 : tie.Need-returns-3
-returns-3 c =
-    let s = c .before .before .before .before .before .args .s .now in
-    let h = c .before .before .header-in .ensures in
-    let n = c .before .wide .ensures ∙ ap (λ (x : Header). x .«data_length») h in
-    sym (read-disagrees commandFormat s (c .before .before .before .if1 .left) (λ e. c .if2 .left (e ∙ ap (λ (k : ℕ). 9 + k) (sym n))))
+returns-3 c = sym (ap (λ (a : Answer ℕ). readBy a commandFormat (c .before .before .before .before .args .s .now)) (sym (c .before .before .check .ensures) ∙ ap found (c .enum-told3 .given .1)))
 
 pub read-spec : {M : Type 1} → statement M
 read-spec =
-    tie.close (tie.spec returns header-in-requires wide-requires add-if2 returns-2 returns-3)
+    tie.close
+    (tie.spec
+    check-requires
+    enum-told
+    header-in-requires
+    enum-told-2
+    enum-told-3
+    returns
+    returns-2
+    returns-3)

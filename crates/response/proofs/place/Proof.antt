@@ -1,0 +1,46 @@
+use Prim.Native.Nat.{ℕ}
+use native.Mathlib.Nat.{mod-eq-of-lt}
+use mathlib.Core.Path.{_∙_, ap₂, sym}
+use mathlib.Core.List.{List, [], _∷_}
+use Rattle.message.specs.Place.{placeIn}
+use borrow.Author.Needs.{needs}
+use Rattle.response.proofs.place.Statement.{statement}
+use Rattle.response.proofs.place.Tie as tie
+use Rattle.response.proofs.place.Reads as reads
+use Rattle.response.proofs.place.Lts as lts
+use Rattle.message.proofs.place_of.Reads as place-of-reads
+use Rattle.response.proofs.head_of.Reads as head-of-reads
+
+-- src/lib.rt:62:16
+head-of-requires : tie.Need-head-of-requires
+head-of-requires c κs = search needs
+
+-- src/lib.rt:63:23
+slice-aggregate-place-of : tie.Need-slice-aggregate-place-of
+slice-aggregate-place-of c = search needs
+
+-- src/lib.rt:63:33
+slice-aggregate-place-of-2 : tie.Need-slice-aggregate-place-of-2
+slice-aggregate-place-of-2 c = search needs
+
+-- src/lib.rt:63:5
+place-of-requires : tie.Need-place-of-requires
+place-of-requires c κs = search needs
+
+-- src/lib.rt:59:1
+returns : tie.Need-returns
+returns c =
+    let a = c .before .before .before .before .args in
+    let status = sym (mod-eq-of-lt (c .before .before .before .before .fits .status .fits)) in
+    c .place-of .ensures
+    ∙ ap₂ (λ (h : List ℕ) (x : ℕ). placeIn h (a .n) (x ∷ []) (a .i)) (c .before .before .before .head-of .ensures) status
+
+pub place-spec : {M : Type 1} → statement M
+place-spec =
+    tie.close
+    (tie.spec
+    head-of-requires
+    slice-aggregate-place-of
+    slice-aggregate-place-of-2
+    place-of-requires
+    returns)
