@@ -11,17 +11,8 @@ use Rattle.message.specs.Format.{commandFormat, laid}
 use Rattle.message.specs.Reading.{valuesIn, announced}
 use Rattle.message.proofs.Lists.{elements-drop}
 use Rattle.message.proofs.Fields.{laid-values, field-value, below-drop, below-set}
-use Rattle.command.specs.Command.{headerBytes, headerIn}
-use Rattle.command.specs.declared.Command.{Command}
+use Rattle.command.specs.Command.{InRange, headerBytes, headerIn}
 use Rattle.command.specs.declared.Header.{Header}
-
--- What the types of a command's and a header's fields say.
-pub record InRange (c : Command) : Type 0 where
-  pub device : c .device < 256
-  pub command : c .command < 256
-  pub unit : c .«logical_unit» < 256
-  pub number : c .«record_number» < 65536
-  pub buffer : c .«buffer_length» < 65536
 
 -- A two-byte field is the value of its bytes.
 pub pair-value : (x : ℕ) → x < 65536 → x % 256 + 256 * (x / 256 % 256) ≡ x

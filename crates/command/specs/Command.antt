@@ -1,5 +1,5 @@
 -- Document 01, "Messages" (000, 4.3): a command as the code holds it, and the message that it is.
-use Prim.Native.Nat.{ℕ}
+use Prim.Native.Nat.{ℕ, _<_}
 use mathlib.Core.List.{List, [], _∷_}
 use lib.ListN.{getD}
 use Rattle.message.specs.Answer.{Answer, gives, refused}
@@ -9,6 +9,14 @@ use Rattle.command.specs.declared.Command.{Command}
 use Rattle.command.specs.declared.Header.{Header}
 use Rattle.command.specs.declared.Reading.{Reading}
 use Rattle.command.specs.declared.Reading.the-variants.{Fields, Short, Disagrees}
+
+-- What the types of a command's fields say of them.
+pub record InRange (c : Command) : Type 0 where
+  pub device : c .device < 256
+  pub command : c .command < 256
+  pub unit : c .«logical_unit» < 256
+  pub number : c .«record_number» < 65536
+  pub buffer : c .«buffer_length» < 65536
 
 -- The values of a command's fields in the order of its format, and the command of such values.
 abbrev pub fieldsOf : Command → List ℕ

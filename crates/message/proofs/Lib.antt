@@ -5,3 +5,4 @@ pub mod Readings
 pub mod RoundTrip
 pub mod Writings
 pub mod Places
+pub mod Answers

@@ -1,37 +1,28 @@
+-- `command::head_of` meets its contract: a byte is its own only digit in base 256.
 use Prim.Native.Nat.{_<_}
 use native.Mathlib.Nat.{mod-eq-of-lt}
 use borrow.Author.Needs.{needs}
 use Rattle.command.proofs.head_of.Statement.{statement}
 use Rattle.command.proofs.head_of.Tie as tie
-use Rattle.command.proofs.head_of.Reads as reads
-use Rattle.command.proofs.head_of.Lts as lts
-use Rattle.field.proofs.byte.Reads as byte-reads
 
--- src/lib.rt:171:9
 byte-requires : tie.Need-byte-requires
 byte-requires c κs = search needs
 
--- src/lib.rt:172:9
 byte-requires-2 : tie.Need-byte-requires-2
 byte-requires-2 c κs = search needs
 
--- src/lib.rt:173:9
 byte-requires-3 : tie.Need-byte-requires-3
 byte-requires-3 c κs = search needs
 
--- src/lib.rt:174:9
 byte-requires-4 : tie.Need-byte-requires-4
 byte-requires-4 c κs = search needs
 
--- src/lib.rt:175:9
 cast-t8 : tie.Need-cast-t8
 cast-t8 c = search needs
 
--- src/lib.rt:176:9
 cast-t11 : tie.Need-cast-t11
 cast-t11 c = search needs
 
--- src/lib.rt:164:1
 returns : tie.Need-returns
 returns c =
     let a = c .before .before .before .before in

@@ -1,3 +1,4 @@
+-- `command::header_in` meets its contract: after i turns the header holds the slice's first i bytes, the others 0.
 use Prim.Native.Nat.{ℕ, _-_, _≤_}
 use native.Mathlib.Omega.{arith}
 use native.Mathlib.Numerals.{add-one}
@@ -9,13 +10,8 @@ use Rattle.message.proofs.Lists.{copy-next}
 use Rattle.message.proofs.Fields.{zeros-below}
 use Rattle.command.specs.Command.{headerIn}
 use Rattle.command.proofs.Laws.{Holds, holds-with, header-front}
--- `command::header_in` meets its contract: after i turns the header holds the slice's first i bytes, the others 0.
 use Rattle.command.proofs.header_in.Statement.{statement}
 use Rattle.command.proofs.header_in.Tie as tie
-use Rattle.command.proofs.header_in.Reads as reads
-use Rattle.command.proofs.header_in.Lts as lts
-use Rattle.command.proofs.Header.new.Reads as new-reads
-use Rattle.command.proofs.Header.with.Reads as with-reads
 
 abbrev Inv-loop : tie.InvT-loop
 Inv-loop s h₀ i₀ h i = (i ≤ 9) × Holds h (take i s ++ drop i (replicate 9 0))

@@ -1,3 +1,4 @@
+-- `command::nibble` meets its contract: the bytes before the data are the format's.
 use Prim.Native.Nat.{ℕ}
 use mathlib.Core.Path.{_∙_, ap}
 use mathlib.Core.List.{List, [], _++_}
@@ -5,28 +6,19 @@ use Rattle.message.specs.Place.{nibbleIn}
 use borrow.Author.Needs.{needs}
 use Rattle.command.proofs.nibble.Statement.{statement}
 use Rattle.command.proofs.nibble.Tie as tie
-use Rattle.command.proofs.nibble.Reads as reads
-use Rattle.command.proofs.nibble.Lts as lts
-use Rattle.command.proofs.head_of.Reads as head-of-reads
-use Rattle.message.proofs.nibble.Reads as nibble-reads
 
--- src/lib.rt:83:16
 head-of-requires : tie.Need-head-of-requires
 head-of-requires c κs = search needs
 
--- src/lib.rt:84:21
 slice-aggregate-nibble : tie.Need-slice-aggregate-nibble
 slice-aggregate-nibble c = search needs
 
--- src/lib.rt:84:34
 slice-aggregate-nibble-2 : tie.Need-slice-aggregate-nibble-2
 slice-aggregate-nibble-2 c = search needs
 
--- src/lib.rt:84:5
 nibble-requires : tie.Need-nibble-requires
 nibble-requires c κs = search needs
 
--- src/lib.rt:80:1
 returns : tie.Need-returns
 returns c =
     let a = c .before .before .before .before .before .args in

@@ -1,3 +1,4 @@
+-- `command::place` meets its contract: the bytes before the data are the format's.
 use Prim.Native.Nat.{ℕ}
 use mathlib.Core.Path.{_∙_, ap}
 use mathlib.Core.List.{List, []}
@@ -5,28 +6,19 @@ use Rattle.message.specs.Place.{placeIn}
 use borrow.Author.Needs.{needs}
 use Rattle.command.proofs.place.Statement.{statement}
 use Rattle.command.proofs.place.Tie as tie
-use Rattle.command.proofs.place.Reads as reads
-use Rattle.command.proofs.place.Lts as lts
-use Rattle.command.proofs.head_of.Reads as head-of-reads
-use Rattle.message.proofs.place_of.Reads as place-of-reads
 
--- src/lib.rt:75:16
 head-of-requires : tie.Need-head-of-requires
 head-of-requires c κs = search needs
 
--- src/lib.rt:76:23
 slice-aggregate-place-of : tie.Need-slice-aggregate-place-of
 slice-aggregate-place-of c = search needs
 
--- src/lib.rt:76:33
 slice-aggregate-place-of-2 : tie.Need-slice-aggregate-place-of-2
 slice-aggregate-place-of-2 c = search needs
 
--- src/lib.rt:76:5
 place-of-requires : tie.Need-place-of-requires
 place-of-requires c κs = search needs
 
--- src/lib.rt:72:1
 returns : tie.Need-returns
 returns c =
     let a = c .before .before .before .before .args in

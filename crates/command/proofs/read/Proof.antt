@@ -1,3 +1,4 @@
+-- `command::read` meets its contract: the check's answer is the reader's, and a whole slice begins with a header.
 use Prim.Native.Nat.{ℕ}
 use native.Mathlib.Omega.{arith}
 use mathlib.Core.Path.{_≡_, _∙_, ap, sym}
@@ -9,16 +10,10 @@ use Rattle.command.specs.Command.{messageOf}
 use borrow.Author.Needs.{needs}
 use Rattle.command.proofs.read.Statement.{statement}
 use Rattle.command.proofs.read.Tie as tie
-use Rattle.command.proofs.read.Reads as reads
-use Rattle.command.proofs.read.Lts as lts
-use Rattle.command.proofs.header_in.Reads as header-in-reads
-use Rattle.message.proofs.check.Reads as check-reads
 
--- src/lib.rt:40:11
 check-requires : tie.Need-check-requires
 check-requires c κs = search needs
 
--- src/lib.rt:42:17
 enum-told : tie.Need-enum-told
 enum-told c = search needs
 
@@ -26,19 +21,15 @@ enum-told c = search needs
 whole : (c : tie.After-enum-told) → (n : ℕ) × (checking 7 0 (c .before .before .before .before .args .s .now) ≡ gives n)
 whole c = (_, sym (c .before .before .check .ensures) ∙ ap found (c .enum-told .given .1))
 
--- src/lib.rt:42:17
 header-in-requires : tie.Need-header-in-requires
 header-in-requires c κs = omega (arith, found-whole 7 0 (c .before .before .before .before .args .s .now) (whole c .1) .1)
 
--- src/lib.rt:46:27
 enum-told-2 : tie.Need-enum-told-2
 enum-told-2 c = search needs
 
--- src/lib.rt:47:31
 enum-told-3 : tie.Need-enum-told-3
 enum-told-3 c = search needs
 
--- src/lib.rt:37:1
 returns : tie.Need-returns
 returns c =
     let s = c .before .before .before .before .before .before .args .s .now in
@@ -46,11 +37,9 @@ returns c =
     let e = whole (c .before .before) .1 in
     (λ i. gives (messageOf (h i .command) (dataBy (e i) 7 s))) ∙ sym (ap (λ (a : Answer ℕ). readBy a commandFormat s) e)
 
--- src/lib.rt:37:1
 returns-2 : tie.Need-returns-2
 returns-2 c = sym (ap (λ (a : Answer ℕ). readBy a commandFormat (c .before .before .before .before .args .s .now)) (sym (c .before .before .check .ensures) ∙ ap found (c .enum-told2 .given .1)))
 
--- src/lib.rt:37:1
 returns-3 : tie.Need-returns-3
 returns-3 c = sym (ap (λ (a : Answer ℕ). readBy a commandFormat (c .before .before .before .before .args .s .now)) (sym (c .before .before .check .ensures) ∙ ap found (c .enum-told3 .given .1)))
 

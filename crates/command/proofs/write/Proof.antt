@@ -1,3 +1,4 @@
+-- `command::write` meets its contract: the bytes before the data are the format's.
 use Prim.Native.Nat.{ℕ, _+_}
 use mathlib.Core.Path.{_∙_, ap}
 use mathlib.Core.List.{List, []}
@@ -6,32 +7,22 @@ use Rattle.message.specs.Writing.{writing, written}
 use borrow.Author.Needs.{needs}
 use Rattle.command.proofs.write.Statement.{statement}
 use Rattle.command.proofs.write.Tie as tie
-use Rattle.command.proofs.write.Reads as reads
-use Rattle.command.proofs.write.Lts as lts
-use Rattle.command.proofs.head_of.Reads as head-of-reads
-use Rattle.message.proofs.write.Reads as write-reads
 
--- src/lib.rt:67:16
 head-of-requires : tie.Need-head-of-requires
 head-of-requires c κs = search needs
 
--- src/lib.rt:68:20
 slice-aggregate-write : tie.Need-slice-aggregate-write
 slice-aggregate-write c = search needs
 
--- src/lib.rt:68:33
 slice-aggregate-write-2 : tie.Need-slice-aggregate-write-2
 slice-aggregate-write-2 c = search needs
 
--- src/lib.rt:68:5
 write-requires : tie.Need-write-requires
 write-requires c κs = search needs
 
--- src/lib.rt:64:1
 same-length : tie.Need-same-length
 same-length c = search needs
 
--- src/lib.rt:64:1
 returns : tie.Need-returns
 returns c =
     let at-head = c .before .before .before .before .before .before in

@@ -1,33 +1,24 @@
+-- `field::with_byte` meets its contract: the new byte and the other one, in their order, are the new field's bytes.
 use Rattle.field.proofs.Laws.{odd}
 use borrow.Author.Needs.{needs}
 use Rattle.field.proofs.with_byte.Statement.{statement}
 use Rattle.field.proofs.with_byte.Tie as tie
-use Rattle.field.proofs.with_byte.Reads as reads
-use Rattle.field.proofs.with_byte.Lts as lts
-use Rattle.field.proofs.byte.Reads as byte-reads
-use Rattle.field.proofs.value_of.Reads as value-of-reads
 
--- src/lib.rt:31:21
 byte-requires : tie.Need-byte-requires
 byte-requires c κs = search needs
 
--- src/lib.rt:31:9
 value-of-requires : tie.Need-value-of-requires
 value-of-requires c κs = search needs
 
--- src/lib.rt:33:18
 byte-requires-2 : tie.Need-byte-requires-2
 byte-requires-2 c κs = search needs
 
--- src/lib.rt:33:9
 value-of-requires-2 : tie.Need-value-of-requires-2
 value-of-requires-2 c κs = search needs
 
--- src/lib.rt:27:1
 returns : tie.Need-returns
 returns c = simp (c .before .before .if1 .taken) (simp (← (c .before .byte .ensures)) (c .value-of .ensures))
 
--- src/lib.rt:27:1
 returns-2 : tie.Need-returns-2
 returns-2 c = simp (odd _ (c .before .before .if1 .left)) (simp (← (c .before .byte2 .ensures)) (c .value-of2 .ensures))
 

@@ -1,40 +1,31 @@
+-- `message::byte_at` meets its contract: a data byte past the data, like any byte past the message, is 255.
 use lib.ListN.{List·getD-eq-default}
 use Rattle.message.proofs.Lists.{getD-within}
 use borrow.Author.Needs.{needs}
 use Rattle.message.proofs.byte_at.Statement.{statement}
 use Rattle.message.proofs.byte_at.Tie as tie
-use Rattle.message.proofs.byte_at.Reads as reads
-use Rattle.message.proofs.byte_at.Lts as lts
 
--- src/lib.rt:36:22
 enum-known-p : tie.Need-enum-known-p
 enum-known-p c = search needs
 
--- src/lib.rt:37:21
 enum-known-p-2 : tie.Need-enum-known-p-2
 enum-known-p-2 c = search needs
 
--- src/lib.rt:37:49
 shared-slice-read-result : tie.Need-shared-slice-read-result
 shared-slice-read-result c = search needs
 
--- src/lib.rt:38:24
 enum-told : tie.Need-enum-told
 enum-told c = search needs
 
--- src/lib.rt:32:1
 returns : tie.Need-returns
 returns c = search needs
 
--- src/lib.rt:32:1
 returns-2 : tie.Need-returns-2
 returns-2 c = simp (c .before .before .before .p2 .given .1) (getD-within (c .before .before .before .before .before .args .«data» .now) _ 0 255 (c .before .if1 .taken))
 
--- src/lib.rt:32:1
 returns-3 : tie.Need-returns-3
 returns-3 c = simp (c .before .before .p2 .given .1, List·getD-eq-default, c .if1 .left)
 
--- src/lib.rt:32:1
 returns-4 : tie.Need-returns-4
 returns-4 c = search needs
 

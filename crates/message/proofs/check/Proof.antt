@@ -1,3 +1,4 @@
+-- `message::check` meets its contract: the two bytes at the length field's place are what it announces; the tests decide the rest.
 use Prim.Native.Nat.{ℕ, suc, _+_}
 use native.Mathlib.Numerals.{add-one}
 use native.Mathlib.Omega.{arith}
@@ -12,44 +13,31 @@ use Rattle.message.proofs.Rules.{tests}
 use borrow.Author.Needs.{needs}
 use Rattle.message.proofs.check.Statement.{statement}
 use Rattle.message.proofs.check.Tie as tie
-use Rattle.message.proofs.check.Reads as reads
-use Rattle.message.proofs.check.Lts as lts
-use Rattle.field.proofs.value_of.Reads as value-of-reads
-use Rattle.message.proofs.wide.Reads as wide-reads
 
--- src/lib.rt:46:18
 add-fields : tie.Need-add-fields
 add-fields c = search needs
 
--- src/lib.rt:46:18
 add-fields-2 : tie.Need-add-fields-2
 add-fields-2 c = search needs
 
--- src/lib.rt:48:9
 returns : tie.Need-returns
 returns c = simp (tests, c .if1 .taken)
 
--- src/lib.rt:50:34
 shared-slice-read-value-of : tie.Need-shared-slice-read-value-of
 shared-slice-read-value-of c = search needs
 
--- src/lib.rt:50:42
 add-value-of : tie.Need-add-value-of
 add-value-of c = search needs
 
--- src/lib.rt:50:40
 shared-slice-read-value-of-2 : tie.Need-shared-slice-read-value-of-2
 shared-slice-read-value-of-2 c = search needs
 
--- src/lib.rt:50:18
 value-of-requires : tie.Need-value-of-requires
 value-of-requires c κs = search needs
 
--- src/lib.rt:50:9
 wide-requires : tie.Need-wide-requires
 wide-requires c κs = search needs
 
--- src/lib.rt:51:19
 add-if2 : tie.Need-add-if2
 add-if2 c = search needs
 
@@ -64,14 +52,12 @@ announces c =
     ∙ ap (λ (k : ℕ). valueOf (getD (a .s .now) (a .at) 0 ∷ getD (a .s .now) k 0 ∷ [])) next
     ∙ sym (announced-at (a .at) (a .s .now) (omega (arith, at-test .if1 .left)))
 
--- src/lib.rt:52:9
 returns-2 : tie.Need-returns-2
 returns-2 c =
     let a = c .before .before .before .before .before .before .before .args in
     let n = announces (c .before) in
     sym (check-whole (a .at) (a .behind) (a .s .now) (c .if2 .taken ∙ ap (λ (k : ℕ). a .at + 2 + a .behind + k) n) ∙ ap gives (sym n))
 
--- src/lib.rt:42:1
 returns-3 : tie.Need-returns-3
 returns-3 c =
     let at-test = c .before .before .before .before .before in

@@ -1,3 +1,4 @@
+-- `message::data_of` meets its contract: where `check` finds a message, the data is the part behind the length field, and is there.
 use Prim.Native.Nat.{ℕ, _+_}
 use native.Mathlib.Nat.{add-sub-cancel-left}
 use native.Mathlib.Omega.{arith}
@@ -8,19 +9,13 @@ use Rattle.message.proofs.Readings.{found-whole}
 use borrow.Author.Needs.{needs}
 use Rattle.message.proofs.data_of.Statement.{statement}
 use Rattle.message.proofs.data_of.Tie as tie
-use Rattle.message.proofs.data_of.Reads as reads
-use Rattle.message.proofs.data_of.Lts as lts
-use Rattle.message.proofs.check.Reads as check-reads
 
--- src/lib.rt:61:11
 check-requires : tie.Need-check-requires
 check-requires c κs = search needs
 
--- src/lib.rt:62:24
 enum-known-n : tie.Need-enum-known-n
 enum-known-n c = search needs
 
--- src/lib.rt:63:24
 add-from : tie.Need-add-from
 add-from c = search needs
 
@@ -31,39 +26,30 @@ whole c =
     let a = c .before .before .before .before .before .args in
     found-whole (a .at) (a .behind) (a .s .now) (sym (c .before .before .before .check .ensures) ∙ ap found (c .before .n .given .1)) .1
 
--- src/lib.rt:64:22
 add-to : tie.Need-add-to
 add-to c = omega (arith, whole c)
 
--- src/lib.rt:65:13
 sub-result : tie.Need-sub-result
 sub-result c = search needs
 
--- src/lib.rt:65:13
 part-result-start : tie.Need-part-result-start
 part-result-start c = search needs
 
--- src/lib.rt:65:13
 part-result-end : tie.Need-part-result-end
 part-result-end c = omega (arith, whole c)
 
--- src/lib.rt:67:27
 enum-told : tie.Need-enum-told
 enum-told c = search needs
 
--- src/lib.rt:67:27
 slice-aggregate-result : tie.Need-slice-aggregate-result
 slice-aggregate-result c = search needs
 
--- src/lib.rt:68:31
 enum-told-2 : tie.Need-enum-told-2
 enum-told-2 c = search needs
 
--- src/lib.rt:68:31
 slice-aggregate-result-2 : tie.Need-slice-aggregate-result-2
 slice-aggregate-result-2 c = search needs
 
--- src/lib.rt:58:1
 returns : tie.Need-returns
 returns c =
     let a = c .before .before .before .before .before .before .args in
@@ -71,11 +57,9 @@ returns c =
     ap (λ (k : ℕ). take k (drop (a .at + 2) (a .s .now))) (add-sub-cancel-left (a .at + 2) n)
     ∙ simp (← (c .before .before .before .before .check .ensures), c .before .before .n .given .1)
 
--- src/lib.rt:58:1
 returns-2 : tie.Need-returns-2
 returns-2 c = simp (← (c .before .before .before .check .ensures)) (simp (c .before .enum-told .given .1))
 
--- src/lib.rt:58:1
 returns-3 : tie.Need-returns-3
 returns-3 c = simp (← (c .before .before .before .check .ensures)) (simp (c .before .enum-told2 .given .1))
 

@@ -1,3 +1,4 @@
+-- `message::put` meets its contract: three copies, each into the tail behind the one before.
 use Prim.Native.Nat.{_+_, _-_}
 use native.Mathlib.Omega.{arith}
 use mathlib.Core.Path.{_≡_}
@@ -7,59 +8,43 @@ use Rattle.message.proofs.Writings.{put-tail, put-together}
 use borrow.Author.Needs.{needs}
 use Rattle.message.proofs.put.Statement.{statement}
 use Rattle.message.proofs.put.Tie as tie
-use Rattle.message.proofs.put.Reads as reads
-use Rattle.message.proofs.put.Lts as lts
-use Rattle.bytes.proofs.copy.Reads as copy-reads
 
--- src/lib.rt:52:18
 add-behind : tie.Need-add-behind
 add-behind c = search needs
 
--- src/lib.rt:53:5
 copy-requires : tie.Need-copy-requires
 copy-requires c κs = search needs
 
--- src/lib.rt:54:23
 sub-copy : tie.Need-sub-copy
 sub-copy c = search needs
 
--- src/lib.rt:54:23
 part-copy-start : tie.Need-part-copy-start
 part-copy-start c = search needs
 
--- src/lib.rt:54:23
 part-copy-end : tie.Need-part-copy-end
 part-copy-end c = search needs
 
--- src/lib.rt:54:5
 copy-requires-2 : tie.Need-copy-requires-2
 copy-requires-2 c κs = search needs
 
--- src/lib.rt:55:22
 sub-copy-2 : tie.Need-sub-copy-2
 sub-copy-2 c = search needs
 
--- src/lib.rt:55:22
 part-copy-start-2 : tie.Need-part-copy-start-2
 part-copy-start-2 c = search needs
 
--- src/lib.rt:55:22
 part-copy-end-2 : tie.Need-part-copy-end-2
 part-copy-end-2 c = search needs
 
--- src/lib.rt:55:5
 copy-requires-3 : tie.Need-copy-requires-3
 copy-requires-3 c κs = search needs
 
--- src/lib.rt:56:5
 add-result : tie.Need-add-result
 add-result c = search needs
 
--- src/lib.rt:47:1
 same-length : tie.Need-same-length
 same-length c = search needs
 
--- src/lib.rt:47:1
 returns : tie.Need-returns
 returns c =
     let at-third = c .before .before in

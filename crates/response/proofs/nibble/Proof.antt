@@ -1,3 +1,4 @@
+-- `response::nibble` meets its contract: the bytes around the data are the format's.
 use Prim.Native.Nat.{ℕ}
 use native.Mathlib.Nat.{mod-eq-of-lt}
 use mathlib.Core.Path.{_∙_, ap₂, sym}
@@ -6,28 +7,19 @@ use Rattle.message.specs.Place.{nibbleIn}
 use borrow.Author.Needs.{needs}
 use Rattle.response.proofs.nibble.Statement.{statement}
 use Rattle.response.proofs.nibble.Tie as tie
-use Rattle.response.proofs.nibble.Reads as reads
-use Rattle.response.proofs.nibble.Lts as lts
-use Rattle.message.proofs.nibble.Reads as nibble-reads
-use Rattle.response.proofs.head_of.Reads as head-of-reads
 
--- src/lib.rt:70:16
 head-of-requires : tie.Need-head-of-requires
 head-of-requires c κs = search needs
 
--- src/lib.rt:71:21
 slice-aggregate-nibble : tie.Need-slice-aggregate-nibble
 slice-aggregate-nibble c = search needs
 
--- src/lib.rt:71:34
 slice-aggregate-nibble-2 : tie.Need-slice-aggregate-nibble-2
 slice-aggregate-nibble-2 c = search needs
 
--- src/lib.rt:71:5
 nibble-requires : tie.Need-nibble-requires
 nibble-requires c κs = search needs
 
--- src/lib.rt:67:1
 returns : tie.Need-returns
 returns c =
     let a = c .before .before .before .before .before .args in

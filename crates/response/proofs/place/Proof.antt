@@ -1,3 +1,4 @@
+-- `response::place` meets its contract: the bytes around the data are the format's.
 use Prim.Native.Nat.{ℕ}
 use native.Mathlib.Nat.{mod-eq-of-lt}
 use mathlib.Core.Path.{_∙_, ap₂, sym}
@@ -6,28 +7,19 @@ use Rattle.message.specs.Place.{placeIn}
 use borrow.Author.Needs.{needs}
 use Rattle.response.proofs.place.Statement.{statement}
 use Rattle.response.proofs.place.Tie as tie
-use Rattle.response.proofs.place.Reads as reads
-use Rattle.response.proofs.place.Lts as lts
-use Rattle.message.proofs.place_of.Reads as place-of-reads
-use Rattle.response.proofs.head_of.Reads as head-of-reads
 
--- src/lib.rt:62:16
 head-of-requires : tie.Need-head-of-requires
 head-of-requires c κs = search needs
 
--- src/lib.rt:63:23
 slice-aggregate-place-of : tie.Need-slice-aggregate-place-of
 slice-aggregate-place-of c = search needs
 
--- src/lib.rt:63:33
 slice-aggregate-place-of-2 : tie.Need-slice-aggregate-place-of-2
 slice-aggregate-place-of-2 c = search needs
 
--- src/lib.rt:63:5
 place-of-requires : tie.Need-place-of-requires
 place-of-requires c κs = search needs
 
--- src/lib.rt:59:1
 returns : tie.Need-returns
 returns c =
     let a = c .before .before .before .before .args in

@@ -1,3 +1,4 @@
+-- `response::read` meets its contract: the check's answer is the reader's, and the status stands behind the data.
 use Prim.Native.Nat.{ℕ, _+_}
 use native.Mathlib.Omega.{arith}
 use mathlib.Core.Path.{_≡_, _∙_, ap, sym}
@@ -11,15 +12,10 @@ use Rattle.response.proofs.Laws.{status-at}
 use borrow.Author.Needs.{needs}
 use Rattle.response.proofs.read.Statement.{statement}
 use Rattle.response.proofs.read.Tie as tie
-use Rattle.response.proofs.read.Reads as reads
-use Rattle.response.proofs.read.Lts as lts
-use Rattle.message.proofs.check.Reads as check-reads
 
--- src/lib.rt:29:11
 check-requires : tie.Need-check-requires
 check-requires c κs = search needs
 
--- src/lib.rt:30:24
 enum-known-n : tie.Need-enum-known-n
 enum-known-n c = search needs
 
@@ -31,23 +27,18 @@ whole c =
     let e = sym (c .before .before .before .check .ensures) ∙ ap found (c .before .n .given .1) in
     (e, found-whole 0 1 s e .1)
 
--- src/lib.rt:30:48
 add-t5 : tie.Need-add-t5
 add-t5 c = omega (arith, whole c .1)
 
--- src/lib.rt:30:46
 shared-slice-read-t7 : tie.Need-shared-slice-read-t7
 shared-slice-read-t7 c = omega (arith, whole (c .before) .1)
 
--- src/lib.rt:31:27
 enum-told : tie.Need-enum-told
 enum-told c = search needs
 
--- src/lib.rt:32:31
 enum-told-2 : tie.Need-enum-told-2
 enum-told-2 c = search needs
 
--- src/lib.rt:26:1
 returns : tie.Need-returns
 returns c =
     let s = c .before .before .before .before .before .before .args .s .now in
@@ -55,11 +46,9 @@ returns c =
     (λ i. gives (messageOf (dataBy (e i) 0 s) (status-at s (c .before .before .n .given .0 .0) (omega (arith, whole (c .before) .1)) i)))
     ∙ sym (ap (λ (a : Answer ℕ). readBy a responseFormat s) e)
 
--- src/lib.rt:26:1
 returns-2 : tie.Need-returns-2
 returns-2 c = sym (ap (λ (a : Answer ℕ). readBy a responseFormat (c .before .before .before .before .args .s .now)) (sym (c .before .before .check .ensures) ∙ ap found (c .enum-told .given .1)))
 
--- src/lib.rt:26:1
 returns-3 : tie.Need-returns-3
 returns-3 c = sym (ap (λ (a : Answer ℕ). readBy a responseFormat (c .before .before .before .before .args .s .now)) (sym (c .before .before .check .ensures) ∙ ap found (c .enum-told2 .given .1)))
 

@@ -1,3 +1,4 @@
+-- `response::write` meets its contract: the bytes around the data are the format's.
 use Prim.Native.Nat.{ℕ, _+_}
 use native.Mathlib.Nat.{mod-eq-of-lt}
 use mathlib.Core.Path.{_∙_, ap, ap₂, sym}
@@ -7,32 +8,22 @@ use Rattle.message.specs.Writing.{writing, written}
 use borrow.Author.Needs.{needs}
 use Rattle.response.proofs.write.Statement.{statement}
 use Rattle.response.proofs.write.Tie as tie
-use Rattle.response.proofs.write.Reads as reads
-use Rattle.response.proofs.write.Lts as lts
-use Rattle.message.proofs.write.Reads as write-reads
-use Rattle.response.proofs.head_of.Reads as head-of-reads
 
--- src/lib.rt:54:16
 head-of-requires : tie.Need-head-of-requires
 head-of-requires c κs = search needs
 
--- src/lib.rt:55:20
 slice-aggregate-write : tie.Need-slice-aggregate-write
 slice-aggregate-write c = search needs
 
--- src/lib.rt:55:33
 slice-aggregate-write-2 : tie.Need-slice-aggregate-write-2
 slice-aggregate-write-2 c = search needs
 
--- src/lib.rt:55:5
 write-requires : tie.Need-write-requires
 write-requires c κs = search needs
 
--- src/lib.rt:51:1
 same-length : tie.Need-same-length
 same-length c = search needs
 
--- src/lib.rt:51:1
 returns : tie.Need-returns
 returns c =
     let at-head = c .before .before .before .before .before .before in

@@ -1,39 +1,31 @@
+-- `command::Header::with` meets its contract: at each place the other fields are the values of their own bytes.
 use Prim.Native.Nat.{ℕ, suc, _<_, _≤_, zero-le}
 use mathlib.Core.Path.{_≡_, sym}
 use native.Mathlib.Omega.{arith}
-use Rattle.command.proofs.Laws.{InRange, values, with-none}
+use Rattle.command.specs.Command.{InRange}
+use Rattle.command.proofs.Laws.{values, with-none}
 use borrow.Author.Needs.{needs}
 use Rattle.command.proofs.Header.with.Statement.{statement}
 use Rattle.command.proofs.Header.with.Tie as tie
-use Rattle.command.proofs.Header.with.Reads as reads
-use Rattle.command.proofs.Header.with.Lts as lts
-use Rattle.field.proofs.with_byte.Reads as with-byte-reads
 
--- src/lib.rt:138:21
 with-byte-requires : tie.Need-with-byte-requires
 with-byte-requires c κs = search needs
 
--- src/lib.rt:142:21
 with-byte-requires-2 : tie.Need-with-byte-requires-2
 with-byte-requires-2 c κs = search needs
 
--- src/lib.rt:146:21
 with-byte-requires-3 : tie.Need-with-byte-requires-3
 with-byte-requires-3 c κs = search needs
 
--- src/lib.rt:150:21
 with-byte-requires-4 : tie.Need-with-byte-requires-4
 with-byte-requires-4 c κs = search needs
 
--- src/lib.rt:153:18
 with-byte-requires-5 : tie.Need-with-byte-requires-5
 with-byte-requires-5 c κs = search needs
 
--- src/lib.rt:154:18
 with-byte-requires-6 : tie.Need-with-byte-requires-6
 with-byte-requires-6 c κs = search needs
 
--- src/lib.rt:128:5
 -- What the types of the header's fields say of them.
 ranged : (c : tie.Start) → InRange (c .args .self .command)
 ranged c = record { device = search needs; command = search needs; unit = search needs; number = search needs; buffer = search needs }
@@ -44,39 +36,30 @@ long c = search needs
 returns : tie.Need-returns
 returns c = let r = ranged (c .before .before) in simp (values, c .match .keys1, r .device, r .command, r .unit, r .number, r .buffer, long (c .before .before))
 
--- src/lib.rt:128:5
 returns-2 : tie.Need-returns-2
 returns-2 c = let r = ranged (c .before .before) in simp (values, c .match .keys2, r .device, r .command, r .unit, r .number, r .buffer, long (c .before .before))
 
--- src/lib.rt:128:5
 returns-3 : tie.Need-returns-3
 returns-3 c = let r = ranged (c .before .before) in simp (values, c .match .keys3, r .device, r .command, r .unit, r .number, r .buffer, long (c .before .before))
 
--- src/lib.rt:128:5
 returns-4 : tie.Need-returns-4
 returns-4 c = let r = ranged (c .before .before .before) in simp (values, c .before .match .keys4, c .with-byte .ensures, r .device, r .command, r .unit, r .number, r .buffer, long (c .before .before .before))
 
--- src/lib.rt:128:5
 returns-5 : tie.Need-returns-5
 returns-5 c = let r = ranged (c .before .before .before) in simp (values, c .before .match .keys5, c .with-byte2 .ensures, r .device, r .command, r .unit, r .number, r .buffer, long (c .before .before .before))
 
--- src/lib.rt:128:5
 returns-6 : tie.Need-returns-6
 returns-6 c = let r = ranged (c .before .before .before) in simp (values, c .before .match .keys6, c .with-byte3 .ensures, r .device, r .command, r .unit, r .number, r .buffer, long (c .before .before .before))
 
--- src/lib.rt:128:5
 returns-7 : tie.Need-returns-7
 returns-7 c = let r = ranged (c .before .before .before) in simp (values, c .before .match .keys7, c .with-byte4 .ensures, r .device, r .command, r .unit, r .number, r .buffer, long (c .before .before .before))
 
--- src/lib.rt:128:5
 returns-8 : tie.Need-returns-8
 returns-8 c = let r = ranged (c .before .before .before) in simp (values, c .before .match .keys8, c .with-byte5 .ensures, r .device, r .command, r .unit, r .number, r .buffer, long (c .before .before .before))
 
--- src/lib.rt:128:5
 returns-9 : tie.Need-returns-9
 returns-9 c = let r = ranged (c .before .before .before) in simp (values, c .before .match .keys9, c .with-byte6 .ensures, r .device, r .command, r .unit, r .number, r .buffer, long (c .before .before .before))
 
--- src/lib.rt:128:5
 up : {i : ℕ} (j : ℕ) → j ≤ i → (i ≡ j → ⊥) → suc j ≤ i
 up j p n = omega arith
 
