@@ -7,7 +7,8 @@ use lib.Dec.{eqb}
 use Rattle.message.specs.Answer.{Answer, gives, refused, OneAnswer}
 use Rattle.message.specs.Format.{Message}
 use Rattle.message.proofs.Answers.{by-inverse}
-use Rattle.command.specs.Command.{commandFrom, numbered}
+use Rattle.header.specs.Header.{commandFrom}
+use Rattle.command.specs.Command.{numbered}
 use Rattle.command.specs.declared.Reading.{Reading}
 use Rattle.command.specs.declared.Reading.the-variants.{Fields, Short, Disagrees}
 

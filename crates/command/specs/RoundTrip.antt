@@ -8,8 +8,9 @@ use Rattle.message.specs.Answer.{gives}
 use Rattle.message.specs.Format.{commandFormat, least}
 use Rattle.message.specs.Reading.{reading}
 use Rattle.message.specs.Writing.{writing, writtenAs}
-use Rattle.command.specs.Command.{InRange, messageOf}
-use Rattle.command.specs.declared.Command.{Command}
+use Rattle.header.specs.Header.{InRange}
+use Rattle.command.specs.Command.{messageOf}
+use Rattle.header.specs.declared.Command.{Command}
 
 -- "Writing then reading gives the same fields."
 abbrev pub ReadWritten : Type 0

@@ -9,7 +9,7 @@ use Rattle.message.specs.Format.{commandFormat, bytesOf, least}
 use Rattle.message.specs.Reading.{reading}
 use Rattle.message.specs.Writing.{writing, writtenAs}
 use Rattle.command.specs.Command.{messageOf}
-use Rattle.command.specs.declared.Command.{Command}
+use Rattle.header.specs.declared.Command.{Command}
 
 -- What a case is about: bytes, nibbles, the number of a refusal, or that none came.
 pub data Outcome : Type 0 where

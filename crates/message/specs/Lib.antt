@@ -3,4 +3,4 @@ pub mod Format
 pub mod Reading
 pub mod Writing
 pub mod RoundTrip
-pub mod Place
+pub mod Nibbles

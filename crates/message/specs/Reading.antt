@@ -7,8 +7,6 @@ use lib.ListN.{length, take, drop}
 use Rattle.field.specs.Field.{valueOf}
 use Rattle.message.specs.Answer.{Answer, gives, refused}
 use Rattle.message.specs.Format.{Format, Message, size, start}
-use Rattle.message.specs.declared.Checked.{Checked}
-use Rattle.message.specs.declared.Checked.the-variants.{Whole, Short, Disagrees}
 
 -- What the length field at this place of a slice announces.
 abbrev pub announced : ℕ → List ℕ → ℕ
@@ -48,9 +46,3 @@ readBy (refused k) f s = refused k
 
 abbrev pub reading : Format → List ℕ → Answer Message
 reading f s = readBy (checking (size (f .before)) (size (f .after)) s) f s
-
--- The number and value of each answer of the check.
-abbrev pub found : Checked → Answer ℕ
-found (Whole n) = gives n
-found Short = refused 9
-found Disagrees = refused 10

@@ -6,8 +6,6 @@ use lib.Dec.{ltb}
 use lib.ListN.{length, drop}
 use Rattle.message.specs.Answer.{Answer, gives, refused}
 use Rattle.message.specs.Format.{Format, Message, headOf, endOf}
-use Rattle.message.specs.declared.Written.{Written}
-use Rattle.message.specs.declared.Written.the-variants.{Length, TooLong, NoRoom}
 
 -- Fields of so many bytes and n bytes of data, into a buffer with so much room. 2: data over 65,535. 11: the buffer is too short for
 -- the message. Else the message's length.
@@ -26,9 +24,3 @@ written head d end out = left (writing (length head + length end) (length d) (le
 -- A message of a format written to the front of a buffer.
 abbrev pub writtenAs : Format → Message → List ℕ → List ℕ
 writtenAs f m out = written (headOf f (m .before) (length (m .«data»))) (m .«data») (endOf f (m .after)) out
-
--- The number and value of each answer of a writer.
-abbrev pub numbered : Written → Answer ℕ
-numbered (Length n) = gives n
-numbered TooLong = refused 2
-numbered NoRoom = refused 11

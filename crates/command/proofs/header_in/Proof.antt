@@ -8,8 +8,8 @@ use borrow.Author.Needs.{needs}
 use lib.ListN.{take, drop, set, getD, replicate}
 use Rattle.message.proofs.Lists.{copy-next}
 use Rattle.message.proofs.Fields.{zeros-below}
-use Rattle.command.specs.Command.{headerIn}
-use Rattle.command.proofs.Laws.{Holds, holds-with, header-front}
+use Rattle.header.specs.Header.{headerIn}
+use Rattle.header.proofs.Laws.{Holds, holds-with, header-front}
 use Rattle.command.proofs.header_in.Statement.{statement}
 use Rattle.command.proofs.header_in.Tie as tie
 

@@ -4,7 +4,8 @@ use native.Mathlib.Omega.{arith}
 use mathlib.Core.Path.{_≡_, _∙_, ap, sym}
 use Rattle.message.specs.Answer.{Answer, gives}
 use Rattle.message.specs.Format.{commandFormat}
-use Rattle.message.specs.Reading.{checking, dataBy, readBy, found}
+use Rattle.message.specs.Reading.{checking, dataBy, readBy}
+use Rattle.reader.specs.Numbers.{found}
 use Rattle.message.proofs.Readings.{found-whole}
 use Rattle.command.specs.Command.{messageOf}
 use borrow.Author.Needs.{needs}

@@ -8,8 +8,8 @@ use borrow.Author.Needs.{needs}
 use Rattle.command.proofs.write.Statement.{statement}
 use Rattle.command.proofs.write.Tie as tie
 
-head-of-requires : tie.Need-head-of-requires
-head-of-requires c κs = search needs
+bytes-of-requires : tie.Need-bytes-of-requires
+bytes-of-requires c κs = search needs
 
 slice-aggregate-write : tie.Need-slice-aggregate-write
 slice-aggregate-write c = search needs
@@ -29,7 +29,7 @@ returns c =
     let a = at-head .before .before .before .args in
     let d = a .«data» .now in
     let out = a .out .now in
-    let made = at-head .head-of .ensures in
+    let made = at-head .bytes-of .ensures in
     let put = c .before .before .write .ensures in (
       put .0 ∙ ap (λ (h : List ℕ). writing (length h + 0) (length d) (length out)) made,
       put .1 ∙ ap (λ (h : List ℕ). written h d [] out) made,
@@ -39,7 +39,7 @@ pub write-spec : {M : Type 1} → statement M
 write-spec =
     tie.close
     (tie.spec
-    head-of-requires
+    bytes-of-requires
     slice-aggregate-write
     slice-aggregate-write-2
     write-requires

@@ -3,7 +3,7 @@ use Prim.Native.Nat.{ℕ}
 use native.Mathlib.Nat.{mod-eq-of-lt}
 use mathlib.Core.Path.{_∙_, ap₂, sym}
 use mathlib.Core.List.{List, [], _∷_, _++_}
-use Rattle.message.specs.Place.{nibbleIn}
+use Rattle.message.specs.Nibbles.{nibbleIn}
 use borrow.Author.Needs.{needs}
 use Rattle.response.proofs.nibble.Statement.{statement}
 use Rattle.response.proofs.nibble.Tie as tie

@@ -5,7 +5,8 @@ use mathlib.Core.Path.{_≡_, _∙_, ap, sym}
 use lib.ListN.{length}
 use Rattle.message.specs.Answer.{Answer, gives}
 use Rattle.message.specs.Format.{responseFormat}
-use Rattle.message.specs.Reading.{checking, dataBy, readBy, found}
+use Rattle.message.specs.Reading.{checking, dataBy, readBy}
+use Rattle.reader.specs.Numbers.{found}
 use Rattle.message.proofs.Readings.{found-whole}
 use Rattle.response.specs.Response.{messageOf}
 use Rattle.response.proofs.Laws.{status-at}
