@@ -1,34 +1,25 @@
 use borrow.Author.Needs.{needs}
 use Rattle.line.proofs.Sender.step.Statement.{statement}
 use Rattle.line.proofs.Sender.step.Tie as tie
-use Rattle.line.proofs.Sender.step.Reads as reads
-use Rattle.line.proofs.Sender.step.Lts as lts
 
--- src/lib.rt:27:29
 enum-told : tie.Need-enum-told
 enum-told c = search needs
 
--- src/lib.rt:28:28
 enum-known-self : tie.Need-enum-known-self
 enum-known-self c = search needs
 
--- src/lib.rt:29:26
 enum-known-self-2 : tie.Need-enum-known-self-2
 enum-known-self-2 c = search needs
 
--- src/lib.rt:23:5
 returns : tie.Need-returns
 returns c = simp (c .enum-told .given .1)
 
--- src/lib.rt:23:5
 returns-2 : tie.Need-returns-2
 returns-2 c = simp (c .before .self .given .1)
 
--- src/lib.rt:23:5
 returns-3 : tie.Need-returns-3
 returns-3 c = simp (c .before .before .self2 .given .1, c .if1 .taken)
 
--- src/lib.rt:23:5
 returns-4 : tie.Need-returns-4
 returns-4 c = search needs
 

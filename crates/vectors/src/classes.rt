@@ -1,0 +1,19 @@
+// The class of each device code.
+use crate::line;
+use crate::line::Line;
+
+pub fn run() {
+    Line::of(b"Classes of the device codes").end();
+    let mut classes = [0u8; 256];
+    fill(&mut classes);
+    line::rows(&classes);
+}
+
+// Place i becomes the class of code i.
+fn fill(classes: &mut [u8]) {
+    let mut i = 0;
+    while i < classes.len() {
+        classes[i] = device::class_of((i % 256) as u8);
+        i += 1;
+    }
+}

@@ -1,0 +1,138 @@
+// Messages with data lengths on both sides of each limit, written into lent buffers and read back.
+use crate::line::Line;
+use crate::messages;
+use crate::messages::Message;
+use crate::papers;
+use crate::slices;
+use header::Command;
+use writer::Written;
+
+// What a buffer is filled with before a message is written into it.
+const BEFORE: u8 = 0xEE;
+
+pub fn run() {
+    Line::of(b"Writing into buffers of EE: room to spare, one byte short, exactly as long").end();
+    let mut data = [0u8; 65536];
+    let mut space = [0u8; 65600];
+    every_length(&mut data, &mut space);
+}
+
+fn every_length(data: &mut [u8; 65536], space: &mut [u8; 65600]) {
+    slices::fill_by_rule(data);
+    rooms(b"Command M1", papers::open(), b"\x50\x00\xC0", space);
+    lengths(b"Command", write(), data, space);
+    rooms(
+        b"Response M2",
+        Message::Response(0x00),
+        b"\x50\x00\x00\x00",
+        space,
+    );
+    lengths(b"Response", Message::Response(0x0D), data, space);
+}
+
+// A command whose header shows by its bytes which field each is of.
+fn write() -> Message {
+    let c = Command {
+        device: 20,
+        command: 0x04,
+        logical_unit: 7,
+        record_number: 0x0201,
+        buffer_length: 0x0403,
+    };
+    Message::Command(c)
+}
+
+fn lengths(title: &[u8], m: Message, data: &[u8], space: &mut [u8; 65600]) {
+    rooms(title, m, slices::part(data, 0, 0), space);
+    rooms(title, m, slices::part(data, 0, 1), space);
+    rooms(title, m, slices::part(data, 0, 255), space);
+    rooms(title, m, slices::part(data, 0, 256), space);
+    rooms(title, m, slices::part(data, 0, 65535), space);
+    rooms(title, m, data, space);
+    no_room(m, data, space);
+}
+
+// Into all of the space, into one byte too few, and into just enough.
+fn rooms(title: &[u8], m: Message, data: &[u8], space: &mut [u8]) {
+    let n = data.len();
+    Line::of(title).words(b", data length ").decimal(n).end();
+    into(m, data, space);
+    // No data here is longer. The test says that the sum fits.
+    if n <= 65536 {
+        let room = n + m.shortest();
+        if room <= space.len() {
+            into(m, data, &mut space[0..room - 1]);
+            into(m, data, &mut space[0..room]);
+        }
+    }
+}
+
+fn no_room(m: Message, data: &[u8], space: &mut [u8]) {
+    into(m, data, &mut space[0..0]);
+}
+
+fn into(m: Message, data: &[u8], out: &mut [u8]) {
+    slices::fill(out, BEFORE);
+    let answer = m.write(data, out);
+    outcome(m, data, answer, out);
+}
+
+// What became of the buffer that a message was written into.
+fn outcome(m: Message, data: &[u8], answer: Written, s: &[u8]) {
+    let n = messages::length_of(answer);
+    let line = Line::of(b"  into ").decimal(s.len()).words(b": ");
+    kept(messages::written(line, answer), slices::part(s, n, s.len()));
+    if 0 < n {
+        read_back(m, data, slices::part(s, 0, n));
+    }
+}
+
+// The bytes past the message; where the writer refused, all of them.
+fn kept(line: Line, s: &[u8]) {
+    line.words(b", still EE: ")
+        .decimal(slices::count(s, BEFORE))
+        .words(b" of ")
+        .decimal(s.len())
+        .end();
+}
+
+fn read_back(m: Message, data: &[u8], s: &[u8]) {
+    parts(m, s);
+    let found = m.data_of(s);
+    m.read(Line::of(b"    read: "), s)
+        .words(b", data length ")
+        .decimal(found.len())
+        .words(b", ")
+        .decimal(slices::same(found, data))
+        .words(b" as given")
+        .end();
+}
+
+// The header, the first and the last byte of the data, and a response's status.
+fn parts(m: Message, s: &[u8]) {
+    let n = s.len();
+    match m {
+        Message::Command(_) => header_and_data(slices::part(s, 0, 9), slices::part(s, 9, n)).end(),
+        Message::Response(_) => {
+            if 2 < n {
+                header_and_data(slices::part(s, 0, 2), slices::part(s, 2, n - 1))
+                    .words(b", status ")
+                    .hex(s[n - 1])
+                    .end();
+            }
+        }
+    }
+}
+
+fn header_and_data(before: &[u8], data: &[u8]) -> Line {
+    let line = Line::of(b"    header").bytes(before);
+    let n = data.len();
+    if n == 0 {
+        line.words(b", no data")
+    } else {
+        line.words(b", data ")
+            .hex(data[0])
+            .words(b" to ")
+            .hex(data[n - 1])
+    }
+}
