@@ -1,12 +1,12 @@
 // The class of each device code.
-use crate::line;
-use crate::line::Line;
+use crate::text;
+use crate::text::Text;
 
 pub fn run() {
-    Line::of(b"Classes of the device codes").end();
+    Text::of(b"Classes of the device codes").end();
     let mut classes = [0u8; 256];
     fill(&mut classes);
-    line::rows(&classes);
+    text::rows(&classes);
 }
 
 // Place i becomes the class of code i.

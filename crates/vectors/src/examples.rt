@@ -1,13 +1,13 @@
 // The worked examples of source document 000: each message is written from its fields and read back.
-use crate::line::Line;
 use crate::messages;
 use crate::messages::Message;
 use crate::nibbles;
 use crate::papers;
 use crate::slices;
+use crate::text::Text;
 
 pub fn run() {
-    Line::of(b"Worked examples (source document 000, 7.1 and 7.2)").end();
+    Text::of(b"Worked examples (source document 000, 7.1 and 7.2)").end();
     // The scan of 7.1 prints O and 0 alike; its words, odd parity, make the last byte the letter O.
     example(
         b"7.1 open, command",
@@ -24,17 +24,17 @@ pub fn run() {
 }
 
 fn example(title: &[u8], m: Message, data: &[u8]) {
-    Line::of(title).end();
+    Text::of(title).end();
     let mut space = [0u8; 32];
     let answer = m.write(data, &mut space);
-    messages::written(Line::of(b"  written: "), answer).end();
+    messages::written(Text::of(b"  written: "), answer).end();
     read_back(m, slices::part(&space, 0, messages::length_of(answer)));
-    Line::of(b"  nibbles").end();
+    Text::of(b"  nibbles").end();
     nibbles::of(m, data, messages::length_of(answer));
 }
 
 fn read_back(m: Message, s: &[u8]) {
-    Line::of(b"  bytes").bytes(s).end();
-    m.read(Line::of(b"  read: "), s).end();
-    messages::data(Line::of(b"  "), m.data_of(s)).end();
+    Text::of(b"  bytes").bytes(s).end();
+    m.read(Text::of(b"  read: "), s).end();
+    messages::data(Text::of(b"  "), m.data_of(s)).end();
 }

@@ -1,9 +1,9 @@
 // Messages with data lengths on both sides of each limit, written into lent buffers and read back.
-use crate::line::Line;
 use crate::messages;
 use crate::messages::Message;
 use crate::papers;
 use crate::slices;
+use crate::text::Text;
 use header::Command;
 use writer::Written;
 
@@ -11,7 +11,7 @@ use writer::Written;
 const BEFORE: u8 = 0xEE;
 
 pub fn run() {
-    Line::of(b"Writing into buffers of EE: room to spare, one byte short, exactly as long").end();
+    Text::of(b"Writing into buffers of EE: room to spare, one byte short, exactly as long").end();
     let mut data = [0u8; 65536];
     let mut space = [0u8; 65600];
     every_length(&mut data, &mut space);
@@ -55,7 +55,7 @@ fn lengths(title: &[u8], m: Message, data: &[u8], space: &mut [u8; 65600]) {
 // Into all of the space, into one byte too few, and into just enough.
 fn rooms(title: &[u8], m: Message, data: &[u8], space: &mut [u8]) {
     let n = data.len();
-    Line::of(title).words(b", data length ").decimal(n).end();
+    Text::of(title).words(b", data length ").decimal(n).end();
     into(m, data, space);
     // No data here is longer. The test says that the sum fits.
     if n <= 65536 {
@@ -80,16 +80,16 @@ fn into(m: Message, data: &[u8], out: &mut [u8]) {
 // What became of the buffer that a message was written into.
 fn outcome(m: Message, data: &[u8], answer: Written, s: &[u8]) {
     let n = messages::length_of(answer);
-    let line = Line::of(b"  into ").decimal(s.len()).words(b": ");
-    kept(messages::written(line, answer), slices::part(s, n, s.len()));
+    let text = Text::of(b"  into ").decimal(s.len()).words(b": ");
+    kept(messages::written(text, answer), slices::part(s, n, s.len()));
     if 0 < n {
         read_back(m, data, slices::part(s, 0, n));
     }
 }
 
 // The bytes past the message; where the writer refused, all of them.
-fn kept(line: Line, s: &[u8]) {
-    line.words(b", still EE: ")
+fn kept(text: Text, s: &[u8]) {
+    text.words(b", still EE: ")
         .decimal(slices::count(s, BEFORE))
         .words(b" of ")
         .decimal(s.len())
@@ -99,7 +99,7 @@ fn kept(line: Line, s: &[u8]) {
 fn read_back(m: Message, data: &[u8], s: &[u8]) {
     parts(m, s);
     let found = m.data_of(s);
-    m.read(Line::of(b"    read: "), s)
+    m.read(Text::of(b"    read: "), s)
         .words(b", data length ")
         .decimal(found.len())
         .words(b", ")
@@ -124,13 +124,13 @@ fn parts(m: Message, s: &[u8]) {
     }
 }
 
-fn header_and_data(before: &[u8], data: &[u8]) -> Line {
-    let line = Line::of(b"    header").bytes(before);
+fn header_and_data(before: &[u8], data: &[u8]) -> Text {
+    let text = Text::of(b"    header").bytes(before);
     let n = data.len();
     if n == 0 {
-        line.words(b", no data")
+        text.words(b", no data")
     } else {
-        line.words(b", data ")
+        text.words(b", data ")
             .hex(data[0])
             .words(b" to ")
             .hex(data[n - 1])

@@ -3,21 +3,21 @@
 mod classes;
 mod examples;
 mod lengths;
-mod line;
 mod messages;
 mod nibbles;
 mod papers;
 mod readings;
 mod slices;
+mod text;
 
 fn main() {
     examples::run();
-    line::blank();
+    text::blank();
     readings::run();
-    line::blank();
+    text::blank();
     lengths::run();
-    line::blank();
+    text::blank();
     nibbles::run();
-    line::blank();
+    text::blank();
     classes::run();
 }

@@ -1,6 +1,6 @@
 // Commands and responses under one name, so that each case is run on both.
 ghost use Prim.Native.Nat.{_≤_};
-use crate::line::Line;
+use crate::text::Text;
 use header::Command;
 use writer::Written;
 
@@ -20,10 +20,10 @@ impl Message {
     }
 
     // What reading a slice as a message of this kind comes to, in words.
-    pub fn read(self, line: Line, s: &[u8]) -> Line {
+    pub fn read(self, text: Text, s: &[u8]) -> Text {
         match self {
-            Message::Command(_) => command_read(line, s),
-            Message::Response(_) => response_read(line, s),
+            Message::Command(_) => command_read(text, s),
+            Message::Response(_) => response_read(text, s),
         }
     }
 
@@ -53,16 +53,16 @@ impl Message {
     }
 }
 
-fn command_read(line: Line, s: &[u8]) -> Line {
+fn command_read(text: Text, s: &[u8]) -> Text {
     match command::read(s) {
-        command::Reading::Fields(c) => fields(line, c),
-        command::Reading::Short => line.words(b"refusal 9"),
-        command::Reading::Disagrees => line.words(b"refusal 10"),
+        command::Reading::Fields(c) => fields(text, c),
+        command::Reading::Short => text.words(b"refusal 9"),
+        command::Reading::Disagrees => text.words(b"refusal 10"),
     }
 }
 
-fn fields(line: Line, c: Command) -> Line {
-    line.words(b"device ")
+fn fields(text: Text, c: Command) -> Text {
+    text.words(b"device ")
         .decimal(c.device as usize)
         .words(b", command ")
         .hex(c.command)
@@ -74,20 +74,20 @@ fn fields(line: Line, c: Command) -> Line {
         .decimal(c.buffer_length as usize)
 }
 
-fn response_read(line: Line, s: &[u8]) -> Line {
+fn response_read(text: Text, s: &[u8]) -> Text {
     match response::read(s) {
-        response::Reading::Status(status) => line.words(b"status ").hex(status),
-        response::Reading::Short => line.words(b"refusal 9"),
-        response::Reading::Disagrees => line.words(b"refusal 10"),
+        response::Reading::Status(status) => text.words(b"status ").hex(status),
+        response::Reading::Short => text.words(b"refusal 9"),
+        response::Reading::Disagrees => text.words(b"refusal 10"),
     }
 }
 
 // What writing a message comes to, in words.
-pub fn written(line: Line, answer: Written) -> Line {
+pub fn written(text: Text, answer: Written) -> Text {
     match answer {
-        Written::Length(n) => line.words(b"length ").decimal(n),
-        Written::TooLong => line.words(b"refusal 2"),
-        Written::NoRoom => line.words(b"refusal 11"),
+        Written::Length(n) => text.words(b"length ").decimal(n),
+        Written::TooLong => text.words(b"refusal 2"),
+        Written::NoRoom => text.words(b"refusal 11"),
     }
 }
 
@@ -101,10 +101,10 @@ pub fn length_of(answer: Written) -> usize {
 }
 
 // A data field, byte for byte.
-pub fn data(line: Line, s: &[u8]) -> Line {
+pub fn data(text: Text, s: &[u8]) -> Text {
     if s.len() == 0 {
-        line.words(b"no data")
+        text.words(b"no data")
     } else {
-        line.words(b"data").bytes(s)
+        text.words(b"data").bytes(s)
     }
 }

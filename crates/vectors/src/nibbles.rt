@@ -1,15 +1,15 @@
 // Messages as nibbles.
-use crate::line;
-use crate::line::Line;
 use crate::messages::Message;
 use crate::papers;
 use crate::slices;
+use crate::text;
+use crate::text::Text;
 
 pub fn run() {
-    Line::of(b"Nibbles, and two past the end").end();
-    Line::of(b"M1, command").end();
+    Text::of(b"Nibbles, and two past the end").end();
+    Text::of(b"M1, command").end();
     of(papers::open(), b"\x50\x00\xC0", 13);
-    Line::of(b"M2, response").end();
+    Text::of(b"M2, response").end();
     of(Message::Response(0x00), b"\x50\x00\x00\x00", 8);
     let mut data = [0u8; 65535];
     longest(&mut data);
@@ -20,7 +20,7 @@ pub fn of(m: Message, data: &[u8], n: usize) {
     let mut nibbles = [0u8; 64];
     fill(m, data, &mut nibbles);
     if n <= 32 {
-        line::rows(slices::part(&nibbles, 0, 2 * n));
+        text::rows(slices::part(&nibbles, 0, 2 * n));
     }
 }
 
@@ -34,7 +34,7 @@ fn fill(m: Message, data: &[u8], nibbles: &mut [u8]) {
 
 fn longest(data: &mut [u8; 65535]) {
     slices::fill_by_rule(data);
-    Line::of(b"Command, data length 65535").end();
+    Text::of(b"Command, data length 65535").end();
     let last_byte = 18 + 2 * 65534;
     at(data, last_byte);
     at(data, last_byte + 1);
@@ -44,7 +44,7 @@ fn longest(data: &mut [u8; 65535]) {
 
 fn at(data: &[u8], i: usize) {
     let nibble = papers::open().nibble(data, i);
-    Line::of(b"  nibble ")
+    Text::of(b"  nibble ")
         .decimal(i)
         .words(b": ")
         .decimal(nibble as usize)

@@ -1,24 +1,24 @@
 // Every cut of a message, and of two messages one behind the other, read as one.
-use crate::line;
-use crate::line::Line;
 use crate::messages;
 use crate::messages::Message;
 use crate::papers;
 use crate::slices;
+use crate::text;
+use crate::text::Text;
 
 pub fn run() {
-    Line::of(b"Reading the first bytes of M1 and a second command behind it").end();
+    Text::of(b"Reading the first bytes of M1 and a second command behind it").end();
     cuts(
         papers::open(),
         b"\x14\x00\x01\x00\x00\x04\x00\x03\x00\x50\x00\xC0\x14\x03\x01\x00\x00\x50\x00\x00\x00",
     );
     reading(
         papers::open(),
-        Line::of(b"  M10, 9 bytes that announce 1: "),
+        Text::of(b"  M10, 9 bytes that announce 1: "),
         b"\x14\x00\x01\x00\x00\x04\x00\x01\x00",
     );
-    line::blank();
-    Line::of(b"Reading the first bytes of M2 and a second response behind it").end();
+    text::blank();
+    Text::of(b"Reading the first bytes of M2 and a second response behind it").end();
     cuts(
         Message::Response(0x00),
         b"\x04\x00\x50\x00\x00\x00\x00\x00\x00\x05",
@@ -26,7 +26,7 @@ pub fn run() {
 }
 
 fn cuts(m: Message, s: &[u8]) {
-    Line::of(b"  all").bytes(s).end();
+    Text::of(b"  all").bytes(s).end();
     let mut k = 0;
     while k < s.len() {
         cut(m, s, k);
@@ -36,11 +36,11 @@ fn cuts(m: Message, s: &[u8]) {
 }
 
 fn cut(m: Message, s: &[u8], k: usize) {
-    let line = Line::of(b"  first ").decimal(k).words(b": ");
-    reading(m, line, slices::part(s, 0, k));
+    let text = Text::of(b"  first ").decimal(k).words(b": ");
+    reading(m, text, slices::part(s, 0, k));
 }
 
-fn reading(m: Message, line: Line, s: &[u8]) {
-    let read = m.read(line, s).words(b", ");
+fn reading(m: Message, text: Text, s: &[u8]) {
+    let read = m.read(text, s).words(b", ");
     messages::data(read, m.data_of(s)).end();
 }

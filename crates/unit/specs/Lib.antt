@@ -1,0 +1,3 @@
+pub mod Unit
+pub mod Step
+pub mod Calls
