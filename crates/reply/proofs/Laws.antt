@@ -1,1 +1,43 @@
--- x
+-- A response's data by its places: an open's four bytes, a read's oldest bytes.
+use Prim.Native.Nat.{ℕ, zero, suc, _<_, _≤_, min}
+use native.Mathlib.Omega.{arith}
+use mathlib.Core.Path.{_≡_, refl, sym, _∙_, ap}
+use mathlib.Core.List.{List, [], _∷_, _++_}
+use lib.ListN.{length, getD, take, length-take, List·getD-eq-default}
+use lib.Seq.{getD-take}
+use Rattle.field.specs.Field.{field}
+use Rattle.queue.specs.Queue.{held, contents, byteAt}
+use Rattle.queue.specs.declared.Queue.{Queue}
+use Rattle.queue.proofs.Laws.{length-contents, byte-of-contents}
+use Rattle.serial.specs.declared.Reply.{Reply}
+use Rattle.serial.specs.declared.Reply.the-variants.{Silent, Status, Opened, Bytes, Polled}
+use Rattle.reply.specs.Reply.{replyData, replyLength}
+
+pub opened-first : (accepted : ℕ) → accepted < 256 → accepted ≡ getD (field 2 accepted ++ field 2 0) 0 255
+opened-first accepted h = omega arith
+
+pub opened-rest : (accepted j : ℕ) → accepted < 256 → (j ≡ 0 → ⊥) → j < 4 → 0 ≡ getD (field 2 accepted ++ field 2 0) j 255
+opened-rest accepted zero h n l = absurd (n refl)
+opened-rest accepted (suc zero) h n l = omega arith
+opened-rest accepted (suc (suc zero)) h n l = refl
+opened-rest accepted (suc (suc (suc zero))) h n l = refl
+opened-rest accepted (suc (suc (suc (suc j)))) h n l = absurd (omega arith)
+
+pub opened-past : (accepted j : ℕ) → 4 ≤ j → 255 ≡ getD (field 2 accepted ++ field 2 0) j 255
+opened-past accepted j h = sym (List·getD-eq-default (field 2 accepted ++ field 2 0) 255 h)
+
+pub queued-at : (bytes : List ℕ) (q : Queue) (n j : ℕ) → j < min n (held q) → byteAt bytes q j ≡ getD (take n (contents bytes q)) j 255
+queued-at bytes q n j h = byte-of-contents bytes q j 255 (omega arith) ∙ sym (getD-take n (contents bytes q) j 255 (omega arith))
+
+pub queued-past : (bytes : List ℕ) (q : Queue) (n j : ℕ) → min n (held q) ≤ j → 255 ≡ getD (take n (contents bytes q)) j 255
+queued-past bytes q n j h =
+    let l : length (take n (contents bytes q)) ≡ min n (held q) = length-take n (contents bytes q) ∙ ap (min n) (length-contents bytes q) in
+    sym (List·getD-eq-default (take n (contents bytes q)) 255 (omega arith))
+
+-- How long the data is.
+pub length-data : (bytes : List ℕ) (q : Queue) (r : Reply) → length (replyData (contents bytes q) r) ≡ replyLength q r
+length-data bytes q Silent = refl
+length-data bytes q (Status number) = refl
+length-data bytes q (Opened accepted) = refl
+length-data bytes q (Bytes n) = length-take n (contents bytes q) ∙ ap (min n) (length-contents bytes q)
+length-data bytes q Polled = refl

@@ -1,3 +1,0 @@
-pub mod Unit
-pub mod Step
-pub mod Calls
