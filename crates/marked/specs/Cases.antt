@@ -10,6 +10,10 @@ use Rattle.message.specs.Reading.{reading}
 use Rattle.message.specs.Writing.{writing, writtenAs}
 use Rattle.command.specs.Command.{messageOf}
 use Rattle.header.specs.declared.Command.{Command}
+use Rattle.queue.specs.Queue.{contents, emptyQueue}
+use Rattle.reply.specs.Reply.{responseBytes}
+use Rattle.serial.specs.Serial.{newSerial, verdictOf, applied}
+use Rattle.serial.specs.declared.Serial.{Serial}
 
 -- What a case is about: bytes, nibbles, the number of a refusal, or that none came.
 pub data Outcome : Type 0 where
@@ -36,11 +40,53 @@ openData = 0x50 ∷ 0x00 ∷ 0xC0 ∷ []
 abbrev pub openBytes : List ℕ
 openBytes = 0x14 ∷ 0x00 ∷ 0x01 ∷ 0x00 ∷ 0x00 ∷ 0x04 ∷ 0x00 ∷ 0x03 ∷ 0x00 ∷ 0x50 ∷ 0x00 ∷ 0xC0 ∷ []
 
+-- The response of a unit in a state, whose input queue has these bytes, to a command with data.
+abbrev pub answerOf : Serial → List ℕ → Command → List ℕ → List ℕ
+answerOf s input c d = responseBytes (contents input (s .input)) (verdictOf s c (length d) d .reply)
+
+-- The unit after a command with data; a read of device 20 with a buffer length.
+abbrev pub unitAfter : Serial → Command → List ℕ → Serial
+unitAfter s c d = applied s (verdictOf s c (length d) d .effect) d
+
+abbrev pub readDevice20 : ℕ → Command
+readDevice20 buffer = record { device = 20; command = 0x03; «logical_unit» = 1; «record_number» = 0; «buffer_length» = buffer }
+
+-- A unit that is open by M1, with the three bytes 41 42 43 in its input queue.
+abbrev pub withThree : Serial
+withThree = record {
+  opening = unitAfter newSerial openDevice20 openData .opening;
+  enabled = false;
+  requesting = false;
+  input = record { head = 0; count = 3 };
+  output = emptyQueue;
+}
+
+abbrev pub three : List ℕ
+three = 0x41 ∷ 0x42 ∷ 0x43 ∷ []
+
 abbrev pub cases : List Case
 cases =
     -- M1: the bytes; first nibbles 4, 1
     record { given = bytes (bytesOf commandFormat (messageOf openDevice20 openData)); paper = bytes openBytes } ∷
     record { given = inNibbles (take 2 (nibbles openBytes)); paper = inNibbles (4 ∷ 1 ∷ []) } ∷
+    -- M2: answer from a closed unit
+    record { given = bytes (answerOf newSerial [] openDevice20 openData); paper = bytes (0x04 ∷ 0x00 ∷ 0x50 ∷ 0x00 ∷ 0x00 ∷ 0x00 ∷ 0x00 ∷ []) } ∷
+    -- M3: M1 again while open
+    record { given = bytes (answerOf (unitAfter newSerial openDevice20 openData) [] openDevice20 openData); paper = bytes (0x00 ∷ 0x00 ∷ 0x05 ∷ []) } ∷
+    -- M4: closed, data 50 00
+    record { given = bytes (answerOf newSerial [] openDevice20 (0x50 ∷ 0x00 ∷ [])); paper = bytes (0x00 ∷ 0x00 ∷ 0x02 ∷ []) } ∷
+    -- M5: attributes 00, and E0
+    record { given = bytes (answerOf newSerial [] openDevice20 (0x50 ∷ 0x00 ∷ 0x00 ∷ [])); paper = bytes (0x00 ∷ 0x00 ∷ 0x13 ∷ []) } ∷
+    record { given = bytes (answerOf newSerial [] openDevice20 (0x50 ∷ 0x00 ∷ 0xE0 ∷ [])); paper = bytes (0x00 ∷ 0x00 ∷ 0x11 ∷ []) } ∷
+    -- M6: requested 0 accepts 80; 128 accepts 128; 129 gives 0C
+    record { given = bytes (answerOf newSerial [] openDevice20 (0 ∷ 0x00 ∷ 0xC0 ∷ [])); paper = bytes (0x04 ∷ 0x00 ∷ 80 ∷ 0x00 ∷ 0x00 ∷ 0x00 ∷ 0x00 ∷ []) } ∷
+    record { given = bytes (answerOf newSerial [] openDevice20 (128 ∷ 0x00 ∷ 0xC0 ∷ [])); paper = bytes (0x04 ∷ 0x00 ∷ 128 ∷ 0x00 ∷ 0x00 ∷ 0x00 ∷ 0x00 ∷ []) } ∷
+    record { given = bytes (answerOf newSerial [] openDevice20 (129 ∷ 0x00 ∷ 0xC0 ∷ [])); paper = bytes (0x00 ∷ 0x00 ∷ 0x0C ∷ []) } ∷
+    -- M7: queue 41 42 43, read with buffer 5, and with buffer 2
+    record { given = bytes (answerOf withThree three (readDevice20 5) []); paper = bytes (0x03 ∷ 0x00 ∷ 0x41 ∷ 0x42 ∷ 0x43 ∷ 0x00 ∷ []) } ∷
+    record { given = bytes (answerOf withThree three (readDevice20 2) []); paper = bytes (0x02 ∷ 0x00 ∷ 0x41 ∷ 0x42 ∷ 0x00 ∷ []) } ∷
+    -- M8: read when opened with attributes 80 (output)
+    record { given = bytes (answerOf (unitAfter newSerial openDevice20 (0x50 ∷ 0x00 ∷ 0x80 ∷ [])) [] (readDevice20 5) []); paper = bytes (0x00 ∷ 0x00 ∷ 0x0F ∷ []) } ∷
     -- M10: command slices of 8 bytes, and of 9 bytes announcing 1
     record { given = outcome (reading commandFormat (replicate 8 0)); paper = refusal 9 } ∷
     record { given = outcome (reading commandFormat (0 ∷ 0 ∷ 0 ∷ 0 ∷ 0 ∷ 0 ∷ 0 ∷ 1 ∷ 0 ∷ [])); paper = refusal 10 } ∷

@@ -58,8 +58,8 @@ pub fn step(
     ensures { λ r. ⌜ (r ≡ phaseStep phase own s seen busy (now (buffer .entry)) (now (input .entry))) × ((now (buffer .exit) ≡ phaseBuffer phase seen (now (buffer .entry))) × (now (output .exit) ≡ phaseOutput phase s seen (now (buffer .entry)) (now (output .entry)))) ⌝ }
 {
     match phase {
-        Phase::Idle => moved(idle(seen.hsk), s),
-        Phase::Selecting(ear, half, low) => moved(selecting(own, ear, half, low, seen, busy), s),
+        Phase::Idle => moves(idle(seen.hsk), s),
+        Phase::Selecting(ear, half, low) => moves(selecting(own, ear, half, low, seen, busy), s),
         Phase::Receiving(ear, progress) => receiving(s, ear, progress, seen, busy, buffer, output),
         Phase::Responding(reply, i, sender, wait) => responding(
             s,
@@ -70,11 +70,11 @@ pub fn step(
             seen.hsk,
             input,
         ),
-        Phase::SittingOut(_) => moved(Phase::SittingOut(false), s),
+        Phase::SittingOut(_) => moves(Phase::SittingOut(false), s),
     }
 }
 
-fn moved(phase: Phase, serial: Serial) -> Moved
+fn moves(phase: Phase, serial: Serial) -> Moved
     ensures { λ r. ⌜ r ≡ moves phase serial ⌝ }
 {
     Moved { phase, serial }
@@ -147,7 +147,7 @@ fn receiving(
 {
     match progress {
         Progress::Taking(p) => taking(s, ear, p, seen, busy, buffer, output),
-        Progress::Answered(reply) => moved(answered(ear, reply, seen.hsk, busy), s),
+        Progress::Answered(reply) => moves(answered(ear, reply, seen.hsk, busy), s),
     }
 }
 
@@ -169,12 +169,12 @@ fn taking(
         let mut next = p;
         next.half = true;
         next.low = seen.nibble;
-        return moved(
+        return moves(
             Phase::Receiving(Listener::Holding, Progress::Taking(next)),
             s,
         );
     }
-    moved(
+    moves(
         Phase::Receiving(ear.step(seen.hsk, busy), Progress::Taking(p)),
         s,
     )
@@ -191,7 +191,7 @@ fn take_byte(s: Serial, p: Partial, b: u8, buffer: &mut [u8], output: &mut [u8; 
     if 8 + n as u32 <= place {
         return answer(s, header, buffer, output);
     }
-    moved(
+    moves(
         Phase::Receiving(
             Listener::Holding,
             Progress::Taking(whole_bytes(header, place + 1)),
@@ -233,7 +233,7 @@ fn answer(s: Serial, header: Header, buffer: &[u8], output: &mut [u8; 256]) -> M
     let reply = v.reply;
     let effect = v.effect;
     let after = s.after(effect, d, output);
-    moved(
+    moves(
         Phase::Receiving(Listener::Holding, Progress::Answered(reply)),
         after,
     )
@@ -286,15 +286,15 @@ fn responding(
     ensures { λ r. ⌜ r ≡ respondingStep s reply i sender wait hsk (now (input .entry)) ⌝ }
 {
     if wait {
-        return moved(Phase::Responding(reply, i, sender, false), s);
+        return moves(Phase::Responding(reply, i, sender, false), s);
     }
     let q = s.input;
     if sender.sent(hsk) {
         if wide(i) < reply::last(reply, q) {
-            return moved(Phase::Responding(reply, i + 1, Sender::Next, false), s);
+            return moves(Phase::Responding(reply, i + 1, Sender::Next, false), s);
         }
-        return moved(Phase::SittingOut(false), s.finish(reply));
+        return moves(Phase::SittingOut(false), s.finish(reply));
     }
     let n = reply::nibble(reply, q, input, wide(i));
-    moved(Phase::Responding(reply, i, sender.step(hsk, n), false), s)
+    moves(Phase::Responding(reply, i, sender.step(hsk, n), false), s)
 }

@@ -7,12 +7,15 @@ use mathlib.Core.Path.{_≡_, refl, sym, _∙_, ap}
 use mathlib.Core.Logic.{_≢_}
 use mathlib.Core.Bool.{Bool, true, false, cond}
 use mathlib.Core.List.{List, [], _∷_, _++_, append-assoc, append-nil}
+use borrow.Author.Tests.{le-leb, lt-leb}
 use lib.ListN.{length, getD, set, drop, length-set}
 use lib.Seq.{drop-cons, getD-set-same, getD-set-other}
 use Rattle.queue.specs.Queue.{held, room, from, contents, emptyQueue, byteAt, stored, fits, queueWith, bytesWith, queueWithout, poppedFrom, popped}
 use Rattle.queue.specs.declared.Queue.{Queue}
 use Rattle.queue.specs.declared.Popped.the-variants.{Byte, Nothing}
-use Rattle.queue.proofs.Rules.{tests}
+
+-- From an order of numbers to the test of whether there is room.
+pub ruleset tests = (le-leb, lt-leb)
 
 -- How much a queue holds.
 pub held-below : (q : Queue) → held q ≤ 256
@@ -28,7 +31,7 @@ held-without q n = omega arith
 pub room-freed : (q : Queue) (n : ℕ) → n ≤ held q → room (queueWithout n q) ≡ room q + n
 room-freed q n h = omega arith
 
--- What a queue holds is so long, and nothing at first.
+-- How long the list is; that of a new queue is empty.
 length-from : (bytes : List ℕ) (at n : ℕ) → length (from bytes at n) ≡ n
 length-from bytes at zero = refl
 length-from bytes at (suc n) = ap suc (length-from bytes (suc at) n)
@@ -97,7 +100,7 @@ length-with bytes q bs = either (fits q bs)
     either true = length-stored bytes (q .head + held q) bs
     either false = refl
 
--- One byte more of those that are put in.
+-- Storing what is left after one byte more was stored.
 pub stored-next : (bytes : List ℕ) (at i : ℕ) (bs : List ℕ) → i < length bs → stored (set bytes ((at + i) % 256) (getD bs i 0)) (at + (i + 1)) (drop (i + 1) bs) ≡ stored bytes (at + i) (drop i bs)
 stored-next bytes at i bs h = let next : at + (i + 1) ≡ suc (at + i) = omega arith in rw (next, add-one i, drop-cons bs i 0 h)
 

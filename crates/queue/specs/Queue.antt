@@ -1,4 +1,4 @@
--- Document 01, "The serial peripheral" (000, 5.4): input and output queues hold 256 bytes each; freed room is used again.
+-- Document 01, "The serial peripheral": input and output queues hold 256 bytes each; freed room is used again.
 -- The bytes of a queue stand in a ring of 256 lent bytes, from its head on.
 use Prim.Native.Nat.{ℕ, zero, suc, _+_, _-_, _%_, min}
 use mathlib.Core.Bool.{Bool, cond}

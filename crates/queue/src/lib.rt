@@ -10,7 +10,7 @@ pub struct Queue {
     pub count: u16,
 }
 
-// What is taken from a queue: its oldest byte and the queue without it.
+// What is taken from a queue: its oldest byte, and the queue without it.
 pub enum Popped {
     Byte(u8, Queue),
     Nothing,
@@ -29,7 +29,7 @@ impl Queue {
         ensures { λ r. ⌜ r ≡ held self ⌝ }
     {
         let count = self.count;
-        if count < 256 { count as usize } else { 256 }
+        if 256 < count { 256 } else { count as usize }
     }
 
     // How many more bytes it can hold.
@@ -83,7 +83,7 @@ impl Queue {
         self
     }
 
-    // Without its n oldest bytes, or without any where it holds no more than n.
+    // Without its n oldest bytes; empty where it holds no more than n.
     pub fn drop(self, n: usize) -> Queue
         ensures { λ r. ⌜ r ≡ queueWithout n self ⌝ }
     {
@@ -98,7 +98,7 @@ impl Queue {
         Queue { head, count: 0 }
     }
 
-    // The oldest byte and the queue without it.
+    // The oldest byte and the queue without it; nothing where it is empty.
     pub fn pop(self, bytes: &[u8; 256]) -> Popped
         ensures { λ r. ⌜ r ≡ popped (now (bytes .entry)) self ⌝ }
     {

@@ -3,6 +3,7 @@ use Prim.Native.Nat.{ℕ, zero, suc, _<_, _≤_, min}
 use native.Mathlib.Omega.{arith}
 use mathlib.Core.Path.{_≡_, refl, sym, _∙_, ap}
 use mathlib.Core.List.{List, [], _∷_, _++_}
+use lib.Dec.{lit≤}
 use lib.ListN.{length, getD, take, length-take, List·getD-eq-default}
 use lib.Seq.{getD-take}
 use Rattle.field.specs.Field.{field}
@@ -11,7 +12,7 @@ use Rattle.queue.specs.declared.Queue.{Queue}
 use Rattle.queue.proofs.Laws.{length-contents, byte-of-contents}
 use Rattle.serial.specs.declared.Reply.{Reply}
 use Rattle.serial.specs.declared.Reply.the-variants.{Silent, Status, Opened, Bytes, Polled}
-use Rattle.reply.specs.Reply.{replyData, replyLength}
+use Rattle.reply.specs.Reply.{replyData, replyLength, lastNibble}
 
 pub opened-first : (accepted : ℕ) → accepted < 256 → accepted ≡ getD (field 2 accepted ++ field 2 0) 0 255
 opened-first accepted h = omega arith
@@ -41,3 +42,11 @@ length-data bytes q (Status number) = refl
 length-data bytes q (Opened accepted) = refl
 length-data bytes q (Bytes n) = length-take n (contents bytes q) ∙ ap (min n) (length-contents bytes q)
 length-data bytes q Polled = refl
+
+-- No response is longer than a read of a full queue.
+pub last-below : (q : Queue) (r : Reply) → lastNibble q r ≤ 517
+last-below q Silent = lit≤ tt
+last-below q (Status number) = lit≤ tt
+last-below q (Opened accepted) = lit≤ tt
+last-below q (Bytes n) = omega arith
+last-below q Polled = lit≤ tt

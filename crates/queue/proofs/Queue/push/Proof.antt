@@ -3,7 +3,7 @@ use Prim.Native.Nat.{_-_, _≤_, _<_}
 use native.Mathlib.Nat.{min-eq-left}
 use native.Mathlib.Omega.{arith}
 use Rattle.queue.specs.Queue.{room}
-use Rattle.queue.proofs.Rules.{tests}
+use Rattle.queue.proofs.Laws.{tests}
 use borrow.Author.Needs.{needs}
 use Rattle.queue.proofs.Queue.push.Statement.{statement}
 use Rattle.queue.proofs.Queue.push.Tie as tie

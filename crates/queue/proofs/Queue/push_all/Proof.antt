@@ -6,8 +6,7 @@ use native.Mathlib.Omega.{arith}
 use mathlib.Core.Path.{_≡_, _∙_}
 use lib.ListN.{length, drop, drop-of-length-le}
 use Rattle.queue.specs.Queue.{room, stored}
-use Rattle.queue.proofs.Laws.{stored-next}
-use Rattle.queue.proofs.Rules.{tests}
+use Rattle.queue.proofs.Laws.{tests, stored-next}
 use borrow.Author.Needs.{needs}
 use Rattle.queue.proofs.Queue.push_all.Statement.{statement}
 use Rattle.queue.proofs.Queue.push_all.Tie as tie
@@ -59,11 +58,12 @@ add-t19 c = search needs
 
 returns : tie.Need-returns Inv-loop μ-loop
 returns c =
-    let a = c .before .before .before .before .before .before .before .before .args in
+    let at-loop = c .before .before in
+    let a = at-loop .before .before .before .before .before .before .args in
     let some : length (a .«data» .now) ≤ room (a .self) = omega arith in
     let all = drop-of-length-le (a .«data» .now) (c .before .loop-test .left) in
-    let end = simp all at (c .before .before .loop .inv) in
-    (simp (tests, some), simp (tests, some, ← (c .before .before .before .len .ensures)) end)
+    let end = simp all at (at-loop .loop .inv) in
+    (simp (tests, some), simp (tests, some, ← (at-loop .before .len .ensures)) end)
 
 returns-2 : tie.Need-returns-2 Inv-loop μ-loop
 returns-2 c =

@@ -1,0 +1,114 @@
+use Prim.Native.Nat.{ℕ}
+use mathlib.Core.Path.{_≡_, _∙_, ap}
+use Rattle.header.specs.declared.Header.{Header}
+use Rattle.line.specs.declared.Listener.the-variants.{Holding}
+use Rattle.phase.specs.Phase.{moves, withByte, bufferWith, byteBuffer}
+use Rattle.phase.specs.declared.Partial.{Partial}
+use Rattle.phase.specs.declared.Progress.the-variants.{Taking}
+use Rattle.phase.specs.declared.Phase.the-variants.{Receiving}
+use Rattle.phase.proofs.Laws.{last-byte, last-output, more-bytes, more-output}
+use borrow.Author.Needs.{needs}
+use Rattle.phase.proofs.take_byte.Statement.{statement}
+use Rattle.phase.proofs.take_byte.Tie as tie
+use Rattle.phase.proofs.take_byte.Reads as reads
+use Rattle.phase.proofs.take_byte.Lts as lts
+use Rattle.header.proofs.Header.with.Reads as with-reads
+use Rattle.phase.proofs.answer.Reads as answer-reads
+use Rattle.phase.proofs.moves.Reads as moves-reads
+use Rattle.phase.proofs.put.Reads as put-reads
+use Rattle.phase.proofs.whole_bytes.Reads as whole-bytes-reads
+use Rattle.phase.proofs.wide.Reads as wide-reads
+
+-- src/lib.rt:188:27
+wide-requires : tie.Need-wide-requires
+wide-requires c κs = search needs
+
+-- src/lib.rt:188:9
+with-requires : tie.Need-with-requires
+with-requires c κs = search needs
+
+-- src/lib.rt:190:5
+put-requires : tie.Need-put-requires
+put-requires c κs = search needs
+
+-- src/lib.rt:191:12
+cast-if1 : tie.Need-cast-if1
+cast-if1 c = search needs
+
+-- src/lib.rt:191:8
+add-if1 : tie.Need-add-if1
+add-if1 c = search needs
+
+-- src/lib.rt:192:9
+answer-requires : tie.Need-answer-requires
+answer-requires c κs = search needs
+
+-- src/lib.rt:192:9
+same-length : tie.Need-same-length
+same-length c = search needs
+
+-- src/lib.rt:192:9
+returns : tie.Need-returns
+returns c =
+    let at-test = c .before .before .before in
+    let at-put = at-test .before .before .before in
+    let at-with = at-put .before .before in
+    let a = at-with .before .before .before .before .args in
+    let h = at-with .with .result in
+    let e : h ≡ withByte (a .p .header) (a .p .place) (a .b) = at-with .with .ensures ∙ ap (λ (k : ℕ). withByte (a .p .header) k (a .b)) (at-with .before .wide .ensures) in
+    let buffer = a .buffer .now in
+    let l = at-put .put .last .1 .1 .1 .0 in
+    let f : l ≡ byteBuffer (a .p) (a .b) buffer = at-put .put .ensures ∙ ap (λ (x : Header). bufferWith (x .«data_length») (a .p .place) (a .b) buffer) e in (
+      c .answer .ensures .0 ∙ last-byte (a .s) (a .p) (a .b) buffer (a .output .now) h e l f (at-test .if1 .taken),
+      (f, c .answer .ensures .1 ∙ last-output (a .s) (a .p) (a .b) buffer (a .output .now) h e l f (at-test .if1 .taken)),
+    )
+
+-- src/lib.rt:197:50
+add-whole-bytes : tie.Need-add-whole-bytes
+add-whole-bytes c = search needs
+
+-- src/lib.rt:197:30
+whole-bytes-requires : tie.Need-whole-bytes-requires
+whole-bytes-requires c κs = search needs
+
+-- src/lib.rt:194:5
+moves-requires : tie.Need-moves-requires
+moves-requires c κs = search needs
+
+-- src/lib.rt:183:1
+same-length-2 : tie.Need-same-length-2
+same-length-2 c = search needs
+
+-- src/lib.rt:183:1
+returns-2 : tie.Need-returns-2
+returns-2 c =
+    let at-test = c .before .before in
+    let at-put = at-test .before .before .before in
+    let at-with = at-put .before .before in
+    let a = at-with .before .before .before .before .args in
+    let h = at-with .with .result in
+    let e : h ≡ withByte (a .p .header) (a .p .place) (a .b) = at-with .with .ensures ∙ ap (λ (k : ℕ). withByte (a .p .header) k (a .b)) (at-with .before .wide .ensures) in
+    let buffer = a .buffer .now in
+    let l = at-put .put .last .1 .1 .1 .0 in
+    let f : l ≡ byteBuffer (a .p) (a .b) buffer = at-put .put .ensures ∙ ap (λ (x : Header). bufferWith (x .«data_length») (a .p .place) (a .b) buffer) e in (
+      c .moves .ensures ∙ ap (λ (x : Partial). moves (Receiving Holding (Taking x)) (a .s)) (c .before .whole-bytes .ensures) ∙ more-bytes (a .s) (a .p) (a .b) buffer (a .output .now) h e (at-test .if1 .left),
+      (f, more-output (a .s) (a .p) (a .b) buffer (a .output .now) h e (at-test .if1 .left)),
+    )
+
+pub take-byte-spec : {M : Type 1} → statement M
+take-byte-spec =
+    tie.close
+    (tie.spec
+    wide-requires
+    with-requires
+    put-requires
+    cast-if1
+    add-if1
+    answer-requires
+    same-length
+    returns
+    add-whole-bytes
+    whole-bytes-requires
+    moves-requires
+    same-length-2
+    returns-2)
