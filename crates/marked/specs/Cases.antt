@@ -1,6 +1,7 @@
 -- Document 01, "Marked cases": what the definitions give beside what the paper says, in one list.
 use Prim.Native.Nat.{ℕ}
 use mathlib.Core.Path.{_≡_}
+use mathlib.Core.Bool.{false}
 use mathlib.Core.List.{List, [], _∷_, map}
 use lib.ListN.{length, replicate, take}
 use Rattle.field.specs.Field.{nibbles}

@@ -8,25 +8,16 @@ use Rattle.phase.specs.declared.Phase.the-variants.{Receiving}
 use borrow.Author.Needs.{needs}
 use Rattle.phase.proofs.addressed.Statement.{statement}
 use Rattle.phase.proofs.addressed.Tie as tie
-use Rattle.phase.proofs.addressed.Reads as reads
-use Rattle.phase.proofs.addressed.Lts as lts
-use Rattle.header.proofs.Header.new.Reads as new-reads
-use Rattle.header.proofs.Header.with.Reads as with-reads
-use Rattle.phase.proofs.whole_bytes.Reads as whole-bytes-reads
 
--- src/lib.rt:121:18
 new-requires : tie.Need-new-requires
 new-requires c κs = search needs
 
--- src/lib.rt:121:9
 with-requires : tie.Need-with-requires
 with-requires c κs = search needs
 
--- src/lib.rt:122:58
 whole-bytes-requires : tie.Need-whole-bytes-requires
 whole-bytes-requires c κs = search needs
 
--- src/lib.rt:118:1
 returns : tie.Need-returns
 returns c =
     let code = c .before .before .before .args .code in

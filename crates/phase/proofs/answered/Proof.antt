@@ -1,33 +1,22 @@
 use borrow.Author.Needs.{needs}
 use Rattle.phase.proofs.answered.Statement.{statement}
 use Rattle.phase.proofs.answered.Tie as tie
-use Rattle.phase.proofs.answered.Reads as reads
-use Rattle.phase.proofs.answered.Lts as lts
-use Rattle.line.proofs.Listener.step.Reads as step-reads
-use Rattle.phase.proofs.is_ready.Reads as is-ready-reads
-use Rattle.reply.proofs.is_silent.Reads as is-silent-reads
 
--- src/lib.rt:257:9
 step-requires : tie.Need-step-requires
 step-requires c κs = search needs
 
--- src/lib.rt:258:8
 is-ready-requires : tie.Need-is-ready-requires
 is-ready-requires c κs = search needs
 
--- src/lib.rt:259:12
 is-silent-requires : tie.Need-is-silent-requires
 is-silent-requires c κs = search needs
 
--- src/lib.rt:260:13
 returns : tie.Need-returns
 returns c = simp (← (c .before .before .before .before .step .ensures), ← (c .before .before .before .is-ready .ensures)) (simp (c .before .before .if1 .taken) (simp (← (c .before .is-silent .ensures)) (simp (c .if2 .taken))))
 
--- src/lib.rt:262:9
 returns-2 : tie.Need-returns-2
 returns-2 c = simp (← (c .before .before .before .before .step .ensures), ← (c .before .before .before .is-ready .ensures)) (simp (c .before .before .if1 .taken) (simp (← (c .before .is-silent .ensures)) (simp (c .if2 .left))))
 
--- src/lib.rt:254:1
 returns-3 : tie.Need-returns-3
 returns-3 c = simp (← (c .before .before .step .ensures), ← (c .before .is-ready .ensures)) (simp (c .if1 .left))
 

@@ -8,46 +8,34 @@ use Rattle.phase.proofs.Rules.{tests}
 use borrow.Author.Needs.{needs}
 use Rattle.phase.proofs.data_in.Statement.{statement}
 use Rattle.phase.proofs.data_in.Tie as tie
-use Rattle.phase.proofs.data_in.Reads as reads
-use Rattle.phase.proofs.data_in.Lts as lts
 
--- src/lib.rt:246:9
 slice-aggregate-result : tie.Need-slice-aggregate-result
 slice-aggregate-result c = search needs
 
--- src/lib.rt:246:9
 returns : tie.Need-returns
 returns c = simp (tests, c .before .if1 .taken)
 
--- src/lib.rt:249:16
 sub-result : tie.Need-sub-result
 sub-result c = search needs
 
--- src/lib.rt:249:16
 part-result-start : tie.Need-part-result-start
 part-result-start c = search needs
 
--- src/lib.rt:249:16
 part-result-end : tie.Need-part-result-end
 part-result-end c = search needs
 
--- src/lib.rt:249:9
 returns-2 : tie.Need-returns-2
 returns-2 c = simp (tests, sub-zero, c .before .before .if1 .left)
 
--- src/lib.rt:251:5
 sub-result-2 : tie.Need-sub-result-2
 sub-result-2 c = search needs
 
--- src/lib.rt:251:5
 part-result-start-2 : tie.Need-part-result-start-2
 part-result-start-2 c = search needs
 
--- src/lib.rt:251:5
 part-result-end-2 : tie.Need-part-result-end-2
 part-result-end-2 c = search needs
 
--- src/lib.rt:242:1
 returns-3 : tie.Need-returns-3
 returns-3 c =
     let a = c .before .before .before .args in

@@ -7,27 +7,19 @@ use Rattle.phase.proofs.Rules.{tests}
 use borrow.Author.Needs.{needs}
 use Rattle.phase.proofs.put.Statement.{statement}
 use Rattle.phase.proofs.put.Tie as tie
-use Rattle.phase.proofs.put.Reads as reads
-use Rattle.phase.proofs.put.Lts as lts
-use Rattle.phase.proofs.wide.Reads as wide-reads
 
--- src/lib.rt:209:17
 wide-requires : tie.Need-wide-requires
 wide-requires c κs = search needs
 
--- src/lib.rt:212:21
 slice-write-buffer : tie.Need-slice-write-buffer
 slice-write-buffer c = search needs
 
--- src/lib.rt:204:1
 same-length : tie.Need-same-length
 same-length c = search needs
 
--- src/lib.rt:204:1
 returns : tie.Need-returns
 returns c = simp (tests, c .before .before .before .before .if1 .taken, c .before .before .before .if2 .taken) (simp (← (c .before .before .wide .ensures)) (simp (tests, c .before .if3 .taken, c .if4 .taken)))
 
--- src/lib.rt:204:1
 returns-2 : tie.Need-returns-2
 returns-2 c =
     let a = c .before .before .before .before .before .before .args in
@@ -36,15 +28,12 @@ returns-2 c =
     let out : length (a .buffer .now) ≤ a .place - 9 = omega (arith, c .if4 .left, e) in
     simp (tests, c .before .before .before .before .if1 .taken, c .before .before .before .if2 .taken, low) (sym (set-out (a .buffer .now) (a .place - 9) (a .b) out))
 
--- src/lib.rt:204:1
 returns-3 : tie.Need-returns-3
 returns-3 c = simp (tests, c .before .before .before .if1 .taken, c .before .before .if2 .taken) (simp (← (c .before .wide .ensures)) (simp (tests, c .if3 .left)))
 
--- src/lib.rt:204:1
 returns-4 : tie.Need-returns-4
 returns-4 c = simp (tests, c .before .if1 .taken, c .if2 .left)
 
--- src/lib.rt:204:1
 returns-5 : tie.Need-returns-5
 returns-5 c = simp (tests, c .if1 .left)
 

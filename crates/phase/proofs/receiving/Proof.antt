@@ -1,44 +1,31 @@
 use borrow.Author.Needs.{needs}
 use Rattle.phase.proofs.receiving.Statement.{statement}
 use Rattle.phase.proofs.receiving.Tie as tie
-use Rattle.phase.proofs.receiving.Reads as reads
-use Rattle.phase.proofs.receiving.Lts as lts
-use Rattle.phase.proofs.answered.Reads as answered-reads
-use Rattle.phase.proofs.moves.Reads as moves-reads
-use Rattle.phase.proofs.taking.Reads as taking-reads
 
--- src/lib.rt:149:26
 enum-known-progress : tie.Need-enum-known-progress
 enum-known-progress c = search needs
 
--- src/lib.rt:149:32
 taking-requires : tie.Need-taking-requires
 taking-requires c κs = search needs
 
--- src/lib.rt:150:28
 enum-known-progress-2 : tie.Need-enum-known-progress-2
 enum-known-progress-2 c = search needs
 
--- src/lib.rt:150:44
 answered-requires : tie.Need-answered-requires
 answered-requires c κs = search needs
 
--- src/lib.rt:150:38
 moves-requires : tie.Need-moves-requires
 moves-requires c κs = search needs
 
--- src/lib.rt:137:1
 same-length : tie.Need-same-length
 same-length c = search needs
 
--- src/lib.rt:137:1
 returns : tie.Need-returns
 returns c = (
   simp (c .before .before .before .before .before .before .progress .given .1) (c .before .before .taking .ensures .0),
   simp (c .before .before .before .before .before .before .progress .given .1) (c .before .before .taking .ensures .1),
 )
 
--- src/lib.rt:137:1
 returns-2 : tie.Need-returns-2
 returns-2 c = (
   simp (c .before .before .before .progress2 .given .1) (simp (← (c .before .answered .ensures)) (c .moves .ensures)),

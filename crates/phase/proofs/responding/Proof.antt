@@ -4,79 +4,54 @@ use Rattle.phase.proofs.Rules.{tests}
 use borrow.Author.Needs.{needs}
 use Rattle.phase.proofs.responding.Statement.{statement}
 use Rattle.phase.proofs.responding.Tie as tie
-use Rattle.phase.proofs.responding.Reads as reads
-use Rattle.phase.proofs.responding.Lts as lts
-use Rattle.line.proofs.Sender.sent.Reads as sent-reads
-use Rattle.line.proofs.Sender.step.Reads as step-reads
-use Rattle.phase.proofs.moves.Reads as moves-reads
-use Rattle.phase.proofs.wide.Reads as wide-reads
-use Rattle.reply.proofs.last.Reads as last-reads
-use Rattle.reply.proofs.nibble.Reads as nibble-reads
-use Rattle.serial.proofs.Serial.finish.Reads as finish-reads
 
--- src/lib.rt:289:9
 moves-requires : tie.Need-moves-requires
 moves-requires c κs = search needs
 
--- src/lib.rt:289:9
 returns : tie.Need-returns
 returns c = simp (c .before .if1 .taken) (c .moves .ensures)
 
--- src/lib.rt:292:8
 sent-requires : tie.Need-sent-requires
 sent-requires c κs = search needs
 
--- src/lib.rt:293:12
 wide-requires : tie.Need-wide-requires
 wide-requires c κs = search needs
 
--- src/lib.rt:293:22
 last-requires : tie.Need-last-requires
 last-requires c κs = search needs
 
--- src/lib.rt:294:51
 add-t16 : tie.Need-add-t16
 add-t16 c =
     let a = c .before .before .before .before .before .before .before .args in
     omega (arith, c .if3 .taken, c .before .last .ensures, c .before .before .wide .ensures, last-below (a .s .input) (a .reply))
 
--- src/lib.rt:294:13
 moves-requires-2 : tie.Need-moves-requires-2
 moves-requires-2 c κs = search needs
 
--- src/lib.rt:294:13
 returns-2 : tie.Need-returns-2
 returns-2 c = simp (tests, c .moves2 .ensures, c .before .if3 .taken, ← (c .before .before .last .ensures), ← (c .before .before .before .wide .ensures), c .before .before .before .before .if2 .taken, ← (c .before .before .before .before .before .sent .ensures), c .before .before .before .before .before .before .before .if1 .left)
 
--- src/lib.rt:296:48
 finish-requires : tie.Need-finish-requires
 finish-requires c κs = search needs
 
--- src/lib.rt:296:9
 moves-requires-3 : tie.Need-moves-requires-3
 moves-requires-3 c κs = search needs
 
--- src/lib.rt:296:9
 returns-3 : tie.Need-returns-3
 returns-3 c = simp (tests, c .before .before .before .before .before .before .before .before .if1 .left) (simp (← (c .before .before .before .before .before .before .sent .ensures)) (simp (tests, c .before .before .before .before .before .if2 .taken) (simp (← (c .before .before .before .before .wide .ensures), ← (c .before .before .before .last .ensures)) (simp (tests, c .before .before .if3 .left) (simp (← (c .before .finish .ensures)) (c .moves3 .ensures))))))
 
--- src/lib.rt:298:44
 wide-requires-2 : tie.Need-wide-requires-2
 wide-requires-2 c κs = search needs
 
--- src/lib.rt:298:9
 nibble-requires : tie.Need-nibble-requires
 nibble-requires c κs = search needs
 
--- src/lib.rt:299:39
 step-requires : tie.Need-step-requires
 step-requires c κs = search needs
 
--- src/lib.rt:299:5
 moves-requires-4 : tie.Need-moves-requires-4
 moves-requires-4 c κs = search needs
 
--- src/lib.rt:277:1
 returns-4 : tie.Need-returns-4
 returns-4 c = simp (c .moves4 .ensures, ← (c .before .step .ensures), ← (c .before .before .nibble .ensures), ← (c .before .before .before .wide2 .ensures), c .before .before .before .before .if2 .left, ← (c .before .before .before .before .before .sent .ensures), c .before .before .before .before .before .before .before .if1 .left)
 

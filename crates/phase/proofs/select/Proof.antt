@@ -1,27 +1,19 @@
 use borrow.Author.Needs.{needs}
 use Rattle.phase.proofs.select.Statement.{statement}
 use Rattle.phase.proofs.select.Tie as tie
-use Rattle.phase.proofs.select.Reads as reads
-use Rattle.phase.proofs.select.Lts as lts
-use Rattle.phase.proofs.addressed.Reads as addressed-reads
 
--- src/lib.rt:109:9
 addressed-requires : tie.Need-addressed-requires
 addressed-requires c κs = search needs
 
--- src/lib.rt:109:9
 returns : tie.Need-returns
 returns c = simp (c .before .if1 .taken) (c .addressed .ensures)
 
--- src/lib.rt:113:9
 addressed-requires-2 : tie.Need-addressed-requires-2
 addressed-requires-2 c κs = search needs
 
--- src/lib.rt:113:9
 returns-2 : tie.Need-returns-2
 returns-2 c = simp (c .before .before .if1 .left, c .before .if2 .taken) (c .addressed2 .ensures)
 
--- src/lib.rt:104:1
 returns-3 : tie.Need-returns-3
 returns-3 c = simp (c .before .if1 .left, c .if2 .left)
 

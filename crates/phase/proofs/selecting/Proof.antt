@@ -1,38 +1,25 @@
 use borrow.Author.Needs.{needs}
 use Rattle.phase.proofs.selecting.Statement.{statement}
 use Rattle.phase.proofs.selecting.Tie as tie
-use Rattle.phase.proofs.selecting.Reads as reads
-use Rattle.phase.proofs.selecting.Lts as lts
-use Rattle.field.proofs.byte_of.Reads as byte-of-reads
-use Rattle.line.proofs.Listener.step.Reads as step-reads
-use Rattle.line.proofs.Listener.taken.Reads as taken-reads
-use Rattle.phase.proofs.select.Reads as select-reads
 
--- src/lib.rt:95:8
 taken-requires : tie.Need-taken-requires
 taken-requires c κs = search needs
 
--- src/lib.rt:97:32
 byte-of-requires : tie.Need-byte-of-requires
 byte-of-requires c κs = search needs
 
--- src/lib.rt:97:13
 select-requires : tie.Need-select-requires
 select-requires c κs = search needs
 
--- src/lib.rt:97:13
 returns : tie.Need-returns
 returns c = simp (← (c .before .before .before .before .taken .ensures)) (simp (c .before .before .before .if1 .taken, c .before .before .if2 .taken) (simp (← (c .before .byte-of .ensures)) (c .select .ensures)))
 
--- src/lib.rt:99:9
 returns-2 : tie.Need-returns-2
 returns-2 c = simp (← (c .before .before .taken .ensures)) (simp (c .before .if1 .taken, c .if2 .left))
 
--- src/lib.rt:101:22
 step-requires : tie.Need-step-requires
 step-requires c κs = search needs
 
--- src/lib.rt:92:1
 returns-3 : tie.Need-returns-3
 returns-3 c = simp (← (c .before .before .taken .ensures)) (simp (c .before .if1 .left, c .step .ensures))
 

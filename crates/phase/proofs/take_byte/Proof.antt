@@ -10,44 +10,28 @@ use Rattle.phase.proofs.Laws.{last-byte, last-output, more-bytes, more-
 use borrow.Author.Needs.{needs}
 use Rattle.phase.proofs.take_byte.Statement.{statement}
 use Rattle.phase.proofs.take_byte.Tie as tie
-use Rattle.phase.proofs.take_byte.Reads as reads
-use Rattle.phase.proofs.take_byte.Lts as lts
-use Rattle.header.proofs.Header.with.Reads as with-reads
-use Rattle.phase.proofs.answer.Reads as answer-reads
-use Rattle.phase.proofs.moves.Reads as moves-reads
-use Rattle.phase.proofs.put.Reads as put-reads
-use Rattle.phase.proofs.whole_bytes.Reads as whole-bytes-reads
-use Rattle.phase.proofs.wide.Reads as wide-reads
 
--- src/lib.rt:188:27
 wide-requires : tie.Need-wide-requires
 wide-requires c κs = search needs
 
--- src/lib.rt:188:9
 with-requires : tie.Need-with-requires
 with-requires c κs = search needs
 
--- src/lib.rt:190:5
 put-requires : tie.Need-put-requires
 put-requires c κs = search needs
 
--- src/lib.rt:191:12
 cast-if1 : tie.Need-cast-if1
 cast-if1 c = search needs
 
--- src/lib.rt:191:8
 add-if1 : tie.Need-add-if1
 add-if1 c = search needs
 
--- src/lib.rt:192:9
 answer-requires : tie.Need-answer-requires
 answer-requires c κs = search needs
 
--- src/lib.rt:192:9
 same-length : tie.Need-same-length
 same-length c = search needs
 
--- src/lib.rt:192:9
 returns : tie.Need-returns
 returns c =
     let at-test = c .before .before .before in
@@ -63,23 +47,18 @@ returns c =
       (f, c .answer .ensures .1 ∙ last-output (a .s) (a .p) (a .b) buffer (a .output .now) h e l f (at-test .if1 .taken)),
     )
 
--- src/lib.rt:197:50
 add-whole-bytes : tie.Need-add-whole-bytes
 add-whole-bytes c = search needs
 
--- src/lib.rt:197:30
 whole-bytes-requires : tie.Need-whole-bytes-requires
 whole-bytes-requires c κs = search needs
 
--- src/lib.rt:194:5
 moves-requires : tie.Need-moves-requires
 moves-requires c κs = search needs
 
--- src/lib.rt:183:1
 same-length-2 : tie.Need-same-length-2
 same-length-2 c = search needs
 
--- src/lib.rt:183:1
 returns-2 : tie.Need-returns-2
 returns-2 c =
     let at-test = c .before .before in

@@ -1,35 +1,25 @@
 use borrow.Author.Needs.{needs}
 use Rattle.reply.proofs.byte_of.Statement.{statement}
 use Rattle.reply.proofs.byte_of.Tie as tie
-use Rattle.reply.proofs.byte_of.Reads as reads
-use Rattle.reply.proofs.byte_of.Lts as lts
-use Rattle.reply.proofs.item.Reads as item-reads
 
--- src/lib.rt:78:22
 enum-known-p : tie.Need-enum-known-p
 enum-known-p c = search needs
 
--- src/lib.rt:79:21
 enum-known-p-2 : tie.Need-enum-known-p-2
 enum-known-p-2 c = search needs
 
--- src/lib.rt:79:27
 item-requires : tie.Need-item-requires
 item-requires c κs = search needs
 
--- src/lib.rt:80:24
 enum-told : tie.Need-enum-told
 enum-told c = search needs
 
--- src/lib.rt:74:1
 returns : tie.Need-returns
 returns c = search needs
 
--- src/lib.rt:74:1
 returns-2 : tie.Need-returns-2
 returns-2 c = simp (c .before .before .p2 .given .1) (c .item .ensures)
 
--- src/lib.rt:74:1
 returns-3 : tie.Need-returns-3
 returns-3 c = search needs
 

@@ -2,56 +2,40 @@ use native.Mathlib.Omega.{arith}
 use borrow.Author.Needs.{needs}
 use Rattle.reply.proofs.length_of.Statement.{statement}
 use Rattle.reply.proofs.length_of.Tie as tie
-use Rattle.reply.proofs.length_of.Reads as reads
-use Rattle.reply.proofs.length_of.Lts as lts
-use Rattle.queue.proofs.Queue.len.Reads as len-reads
-use Rattle.reply.proofs.least.Reads as least-reads
 
--- src/lib.rt:47:26
 enum-told : tie.Need-enum-told
 enum-told c = search needs
 
--- src/lib.rt:48:29
 enum-told-2 : tie.Need-enum-told-2
 enum-told-2 c = search needs
 
--- src/lib.rt:49:29
 enum-told-3 : tie.Need-enum-told-3
 enum-told-3 c = search needs
 
--- src/lib.rt:50:22
 enum-known-r : tie.Need-enum-known-r
 enum-known-r c = search needs
 
--- src/lib.rt:50:34
 cast-least : tie.Need-cast-least
 cast-least c = search needs
 
--- src/lib.rt:50:46
 len-requires : tie.Need-len-requires
 len-requires c κs = search needs
 
--- src/lib.rt:50:28
 least-requires : tie.Need-least-requires
 least-requires c κs = search needs
 
--- src/lib.rt:51:26
 enum-told-4 : tie.Need-enum-told-4
 enum-told-4 c = search needs
 
--- src/lib.rt:43:1
 returns : tie.Need-returns
 returns c = search needs
 
--- src/lib.rt:43:1
 returns-2 : tie.Need-returns-2
 returns-2 c = search needs
 
--- src/lib.rt:43:1
 returns-3 : tie.Need-returns-3
 returns-3 c = search needs
 
--- src/lib.rt:43:1
 -- refused, part 1: simp (c .before .before .before .r .given .1)
 returns-4 : tie.Need-returns-4
 returns-4 c = (
@@ -59,7 +43,6 @@ returns-4 c = (
   omega (arith, c .least .ensures, c .before .len .ensures),
 )
 
--- src/lib.rt:43:1
 returns-5 : tie.Need-returns-5
 returns-5 c = search needs
 

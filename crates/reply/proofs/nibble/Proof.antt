@@ -12,35 +12,22 @@ use Rattle.reply.proofs.Laws.{length-data}
 use borrow.Author.Needs.{needs}
 use Rattle.reply.proofs.nibble.Statement.{statement}
 use Rattle.reply.proofs.nibble.Tie as tie
-use Rattle.reply.proofs.nibble.Reads as reads
-use Rattle.reply.proofs.nibble.Lts as lts
-use Rattle.field.proofs.nibble.Reads as nibble-reads
-use Rattle.reply.proofs.byte_of.Reads as byte-of-reads
-use Rattle.reply.proofs.length_of.Reads as length-of-reads
-use Rattle.reply.proofs.status_of.Reads as status-of-reads
-use Rattle.response.proofs.place.Reads as place-reads
 
--- src/lib.rt:32:29
 length-of-requires : tie.Need-length-of-requires
 length-of-requires c κs = search needs
 
--- src/lib.rt:32:46
 status-of-requires : tie.Need-status-of-requires
 status-of-requires c κs = search needs
 
--- src/lib.rt:32:9
 place-requires : tie.Need-place-requires
 place-requires c κs = search needs
 
--- src/lib.rt:33:19
 byte-of-requires : tie.Need-byte-of-requires
 byte-of-requires c κs = search needs
 
--- src/lib.rt:33:5
 nibble-requires : tie.Need-nibble-requires
 nibble-requires c κs = search needs
 
--- src/lib.rt:29:1
 returns : tie.Need-returns
 returns c =
     let at-place = c .before .before in

@@ -1,18 +1,13 @@
 use Rattle.reply.proofs.Laws.{opened-first, opened-rest, opened-past}
 use Rattle.reply.proofs.opened_item.Statement.{statement}
 use Rattle.reply.proofs.opened_item.Tie as tie
-use Rattle.reply.proofs.opened_item.Reads as reads
-use Rattle.reply.proofs.opened_item.Lts as lts
 
--- src/lib.rt:101:9
 returns : tie.Need-returns
 returns c = rw (c .if1 .taken) (opened-first (c .before .args .accepted) (c .before .fits .accepted .fits))
 
--- src/lib.rt:104:9
 returns-2 : tie.Need-returns-2
 returns-2 c = opened-rest (c .before .before .args .accepted) (c .before .before .args .j) (c .before .before .fits .accepted .fits) (c .before .if1 .left) (c .if2 .taken)
 
--- src/lib.rt:97:1
 returns-3 : tie.Need-returns-3
 returns-3 c = opened-past (c .before .before .args .accepted) (c .before .before .args .j) (c .if2 .left)
 

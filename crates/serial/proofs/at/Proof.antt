@@ -2,18 +2,13 @@ use lib.ListN.{List·getD-eq-default}
 use borrow.Author.Needs.{needs}
 use Rattle.serial.proofs.at.Statement.{statement}
 use Rattle.serial.proofs.at.Tie as tie
-use Rattle.serial.proofs.at.Reads as reads
-use Rattle.serial.proofs.at.Lts as lts
 
--- src/lib.rt:339:25
 shared-slice-read-result : tie.Need-shared-slice-read-result
 shared-slice-read-result c = search needs
 
--- src/lib.rt:336:1
 returns : tie.Need-returns
 returns c = search needs
 
--- src/lib.rt:336:1
 returns-2 : tie.Need-returns-2
 returns-2 c = simp (List·getD-eq-default, c .if1 .left)
 

@@ -1,77 +1,52 @@
 use borrow.Author.Needs.{needs}
 use Rattle.serial.proofs.by_open.Statement.{statement}
 use Rattle.serial.proofs.by_open.Tie as tie
-use Rattle.serial.proofs.by_open.Reads as reads
-use Rattle.serial.proofs.by_open.Lts as lts
-use Rattle.queue.proofs.Queue.len.Reads as len-reads
-use Rattle.queue.proofs.Queue.room.Reads as room-reads
-use Rattle.serial.proofs.poll.Reads as poll-reads
-use Rattle.serial.proofs.read.Reads as read-reads
-use Rattle.serial.proofs.says.Reads as says-reads
-use Rattle.serial.proofs.status.Reads as status-reads
-use Rattle.serial.proofs.write.Reads as write-reads
 
--- src/lib.rt:191:9
 status-requires : tie.Need-status-requires
 status-requires c κs = search needs
 
--- src/lib.rt:191:9
 returns : tie.Need-returns
 returns c = simp (c .before .if1 .taken) (c .status .ensures)
 
--- src/lib.rt:195:9
 poll-requires : tie.Need-poll-requires
 poll-requires c κs = search needs
 
--- src/lib.rt:195:9
 returns-2 : tie.Need-returns-2
 returns-2 c = simp (c .before .before .before .if1 .left, c .before .if2 .taken) (c .poll .ensures)
 
--- src/lib.rt:199:9
 says-requires : tie.Need-says-requires
 says-requires c κs = search needs
 
--- src/lib.rt:199:9
 returns-3 : tie.Need-returns-3
 returns-3 c = simp (c .before .before .before .before .before .if1 .left, c .before .before .before .if2 .left, c .before .if3 .taken) (c .says .ensures)
 
--- src/lib.rt:204:51
 len-requires : tie.Need-len-requires
 len-requires c κs = search needs
 
--- src/lib.rt:204:9
 read-requires : tie.Need-read-requires
 read-requires c κs = search needs
 
--- src/lib.rt:204:9
 returns-4 : tie.Need-returns-4
 returns-4 c = simp (c .before .before .before .before .before .before .before .before .before .if1 .left, c .before .before .before .before .before .before .before .if2 .left, c .before .before .before .before .before .if3 .left, c .before .before .before .if4 .taken) (simp (← (c .before .len .ensures)) (c .read .ensures))
 
--- src/lib.rt:209:28
 room-requires : tie.Need-room-requires
 room-requires c κs = search needs
 
--- src/lib.rt:209:9
 write-requires : tie.Need-write-requires
 write-requires c κs = search needs
 
--- src/lib.rt:209:9
 returns-5 : tie.Need-returns-5
 returns-5 c = simp (c .before .before .before .before .before .before .before .before .before .before .before .if1 .left, c .before .before .before .before .before .before .before .before .before .if2 .left, c .before .before .before .before .before .before .before .if3 .left, c .before .before .before .before .before .if4 .left, c .before .before .before .if5 .taken) (simp (← (c .before .room .ensures)) (c .write .ensures))
 
--- src/lib.rt:213:9
 says-requires-2 : tie.Need-says-requires-2
 says-requires-2 c κs = search needs
 
--- src/lib.rt:213:9
 returns-6 : tie.Need-returns-6
 returns-6 c = simp (c .before .before .before .before .before .before .before .before .before .before .before .if1 .left, c .before .before .before .before .before .before .before .before .before .if2 .left, c .before .before .before .before .before .before .before .if3 .left, c .before .before .before .before .before .if4 .left, c .before .before .before .if5 .left, c .before .if6 .taken) (c .says2 .ensures)
 
--- src/lib.rt:215:5
 says-requires-3 : tie.Need-says-requires-3
 says-requires-3 c κs = search needs
 
--- src/lib.rt:186:1
 returns-7 : tie.Need-returns-7
 returns-7 c = simp (c .before .before .before .before .before .before .before .before .before .before .before .if1 .left, c .before .before .before .before .before .before .before .before .before .if2 .left, c .before .before .before .before .before .before .before .if3 .left, c .before .before .before .before .before .if4 .left, c .before .before .before .if5 .left, c .before .if6 .left) (c .says3 .ensures)
 

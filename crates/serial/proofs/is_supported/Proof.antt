@@ -1,33 +1,24 @@
 use Rattle.serial.proofs.is_supported.Statement.{statement}
 use Rattle.serial.proofs.is_supported.Tie as tie
-use Rattle.serial.proofs.is_supported.Reads as reads
-use Rattle.serial.proofs.is_supported.Lts as lts
 
--- src/lib.rt:154:9
 returns : tie.Need-returns
 returns c = simp (c .if1 .taken)
 
--- src/lib.rt:158:9
 returns-2 : tie.Need-returns-2
 returns-2 c = simp (c .before .if1 .left, c .if2 .taken)
 
--- src/lib.rt:162:9
 returns-3 : tie.Need-returns-3
 returns-3 c = simp (c .before .before .if1 .left, c .before .if2 .left, c .if3 .taken)
 
--- src/lib.rt:166:9
 returns-4 : tie.Need-returns-4
 returns-4 c = simp (c .before .before .before .if1 .left, c .before .before .if2 .left, c .before .if3 .left, c .if4 .taken)
 
--- src/lib.rt:170:9
 returns-5 : tie.Need-returns-5
 returns-5 c = simp (c .before .before .before .before .if1 .left, c .before .before .before .if2 .left, c .before .before .if3 .left, c .before .if4 .left, c .if5 .taken)
 
--- src/lib.rt:174:9
 returns-6 : tie.Need-returns-6
 returns-6 c = simp (c .before .before .before .before .before .if1 .left, c .before .before .before .before .if2 .left, c .before .before .before .if3 .left, c .before .before .if4 .left, c .before .if5 .left, c .if6 .taken)
 
--- src/lib.rt:149:1
 returns-7 : tie.Need-returns-7
 returns-7 c = simp (c .before .before .before .before .before .if1 .left, c .before .before .before .before .if2 .left, c .before .before .before .if3 .left, c .before .before .if4 .left, c .before .if5 .left, c .if6 .left)
 

@@ -1,17 +1,12 @@
 use Rattle.serial.proofs.mode_of.Statement.{statement}
 use Rattle.serial.proofs.mode_of.Tie as tie
-use Rattle.serial.proofs.mode_of.Reads as reads
-use Rattle.serial.proofs.mode_of.Lts as lts
 
--- src/lib.rt:256:9
 returns : tie.Need-returns
 returns c = simp (c .if1 .taken)
 
--- src/lib.rt:260:9
 returns-2 : tie.Need-returns-2
 returns-2 c = simp (c .before .if1 .left, c .if2 .taken)
 
--- src/lib.rt:251:1
 returns-3 : tie.Need-returns-3
 returns-3 c = simp (c .before .if1 .left, c .if2 .left)
 

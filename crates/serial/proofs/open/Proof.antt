@@ -2,78 +2,55 @@ use Rattle.serial.proofs.Rules.{tests}
 use borrow.Author.Needs.{needs}
 use Rattle.serial.proofs.open.Statement.{statement}
 use Rattle.serial.proofs.open.Tie as tie
-use Rattle.serial.proofs.open.Reads as reads
-use Rattle.serial.proofs.open.Lts as lts
-use Rattle.serial.proofs.accepted_of.Reads as accepted-of-reads
-use Rattle.serial.proofs.mode_of.Reads as mode-of-reads
-use Rattle.serial.proofs.says.Reads as says-reads
-use Rattle.serial.proofs.status.Reads as status-reads
 
--- src/lib.rt:223:9
 status-requires : tie.Need-status-requires
 status-requires c κs = search needs
 
--- src/lib.rt:223:9
 returns : tie.Need-returns
 returns c = simp (c .before .if1 .taken) (c .status .ensures)
 
--- src/lib.rt:227:9
 status-requires-2 : tie.Need-status-requires-2
 status-requires-2 c κs = search needs
 
--- src/lib.rt:227:9
 returns-2 : tie.Need-returns-2
 returns-2 c = simp (c .before .before .if1 .left, c .before .if2 .taken) (c .status2 .ensures)
 
--- src/lib.rt:231:9
 status-requires-3 : tie.Need-status-requires-3
 status-requires-3 c κs = search needs
 
--- src/lib.rt:231:9
 returns-3 : tie.Need-returns-3
 returns-3 c = simp (c .before .before .before .if1 .left, c .before .before .if2 .left, c .before .if3 .taken) (c .status3 .ensures)
 
--- src/lib.rt:234:9
 status-requires-4 : tie.Need-status-requires-4
 status-requires-4 c κs = search needs
 
--- src/lib.rt:234:9
 returns-4 : tie.Need-returns-4
 returns-4 c = simp (tests, c .before .before .before .before .if1 .left, c .before .before .before .if2 .left, c .before .before .if3 .left, c .before .if4 .taken) (c .status4 .ensures)
 
--- src/lib.rt:238:9
 status-requires-5 : tie.Need-status-requires-5
 status-requires-5 c κs = search needs
 
--- src/lib.rt:238:9
 returns-5 : tie.Need-returns-5
 returns-5 c = simp (tests, c .before .before .before .before .before .if1 .left, c .before .before .before .before .if2 .left, c .before .before .before .if3 .left, c .before .before .if4 .left, c .before .if5 .taken) (c .status5 .ensures)
 
--- src/lib.rt:242:9
 status-requires-6 : tie.Need-status-requires-6
 status-requires-6 c κs = search needs
 
--- src/lib.rt:242:9
 returns-6 : tie.Need-returns-6
 returns-6 c = simp (tests, c .before .before .before .before .before .before .if1 .left, c .before .before .before .before .before .if2 .left, c .before .before .before .before .if3 .left, c .before .before .before .if4 .left, c .before .before .if5 .left, c .before .if6 .taken) (c .status6 .ensures)
 
--- src/lib.rt:244:32
 cast-accepted-of : tie.Need-cast-accepted-of
 cast-accepted-of c = search needs
 
--- src/lib.rt:244:9
 accepted-of-requires : tie.Need-accepted-of-requires
 accepted-of-requires c κs = search needs
 
--- src/lib.rt:247:23
 mode-of-requires : tie.Need-mode-of-requires
 mode-of-requires c κs = search needs
 
--- src/lib.rt:245:5
 says-requires : tie.Need-says-requires
 says-requires c κs = search needs
 
--- src/lib.rt:218:1
 returns-7 : tie.Need-returns-7
 returns-7 c = simp (tests, c .before .before .before .before .before .before .before .before .if1 .left, c .before .before .before .before .before .before .before .if2 .left, c .before .before .before .before .before .before .if3 .left, c .before .before .before .before .before .if4 .left, c .before .before .before .before .if5 .left, c .before .before .before .if6 .left) (simp (← (c .before .before .accepted-of .ensures), ← (c .before .mode-of .ensures)) (c .says .ensures))
 

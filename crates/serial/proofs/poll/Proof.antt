@@ -1,32 +1,22 @@
 use borrow.Author.Needs.{needs}
 use Rattle.serial.proofs.poll.Statement.{statement}
 use Rattle.serial.proofs.poll.Tie as tie
-use Rattle.serial.proofs.poll.Reads as reads
-use Rattle.serial.proofs.poll.Lts as lts
-use Rattle.serial.proofs.says.Reads as says-reads
-use Rattle.serial.proofs.status.Reads as status-reads
 
--- src/lib.rt:329:13
 says-requires : tie.Need-says-requires
 says-requires c κs = search needs
 
--- src/lib.rt:329:13
 returns : tie.Need-returns
 returns c = simp (c .before .before .if1 .taken, c .before .if2 .taken) (c .says .ensures)
 
--- src/lib.rt:331:9
 status-requires : tie.Need-status-requires
 status-requires c κs = search needs
 
--- src/lib.rt:331:9
 returns-2 : tie.Need-returns-2
 returns-2 c = simp (c .before .before .if1 .taken, c .before .if2 .left) (c .status .ensures)
 
--- src/lib.rt:333:5
 status-requires-2 : tie.Need-status-requires-2
 status-requires-2 c κs = search needs
 
--- src/lib.rt:324:1
 returns-3 : tie.Need-returns-3
 returns-3 c = simp (c .before .if1 .left) (c .status2 .ensures)
 

@@ -1,53 +1,37 @@
 use borrow.Author.Needs.{needs}
 use Rattle.serial.proofs.read.Statement.{statement}
 use Rattle.serial.proofs.read.Tie as tie
-use Rattle.serial.proofs.read.Reads as reads
-use Rattle.serial.proofs.read.Lts as lts
-use Rattle.serial.proofs.oldest.Reads as oldest-reads
-use Rattle.serial.proofs.says.Reads as says-reads
-use Rattle.serial.proofs.status.Reads as status-reads
 
--- src/lib.rt:277:26
 enum-told : tie.Need-enum-told
 enum-told c = search needs
 
--- src/lib.rt:277:26
 oldest-requires : tie.Need-oldest-requires
 oldest-requires c κs = search needs
 
--- src/lib.rt:276:24
 says-requires : tie.Need-says-requires
 says-requires c κs = search needs
 
--- src/lib.rt:280:25
 enum-told-2 : tie.Need-enum-told-2
 enum-told-2 c = search needs
 
--- src/lib.rt:280:25
 status-requires : tie.Need-status-requires
 status-requires c κs = search needs
 
--- src/lib.rt:282:26
 enum-told-3 : tie.Need-enum-told-3
 enum-told-3 c = search needs
 
--- src/lib.rt:282:26
 oldest-requires-2 : tie.Need-oldest-requires-2
 oldest-requires-2 c κs = search needs
 
--- src/lib.rt:281:25
 says-requires-2 : tie.Need-says-requires-2
 says-requires-2 c κs = search needs
 
--- src/lib.rt:272:1
 returns : tie.Need-returns
 returns c = simp (c .before .before .enum-told .given .1) (simp (← (c .before .oldest .ensures)) (c .says .ensures))
 
--- src/lib.rt:272:1
 returns-2 : tie.Need-returns-2
 returns-2 c = simp (c .before .enum-told2 .given .1) (c .status .ensures)
 
--- src/lib.rt:272:1
 returns-3 : tie.Need-returns-3
 returns-3 c = simp (c .before .before .enum-told3 .given .1) (simp (← (c .before .oldest2 .ensures)) (c .says2 .ensures))
 

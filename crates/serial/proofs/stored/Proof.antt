@@ -1,15 +1,10 @@
 use borrow.Author.Needs.{needs}
 use Rattle.serial.proofs.stored.Statement.{statement}
 use Rattle.serial.proofs.stored.Tie as tie
-use Rattle.serial.proofs.stored.Reads as reads
-use Rattle.serial.proofs.stored.Lts as lts
-use Rattle.queue.proofs.Queue.push_all.Reads as push-all-reads
 
--- src/lib.rt:391:9
 push-all-requires : tie.Need-push-all-requires
 push-all-requires c κs = search needs
 
--- src/lib.rt:387:1
 returns : tie.Need-returns
 returns c = (
   simp (c .push-all .ensures .0),

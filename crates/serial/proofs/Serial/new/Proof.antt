@@ -1,19 +1,13 @@
 use borrow.Author.Needs.{needs}
 use Rattle.serial.proofs.Serial.new.Statement.{statement}
 use Rattle.serial.proofs.Serial.new.Tie as tie
-use Rattle.serial.proofs.Serial.new.Reads as reads
-use Rattle.serial.proofs.Serial.new.Lts as lts
-use Rattle.queue.proofs.Queue.new.Reads as new-reads
 
--- src/lib.rt:70:13
 new-requires : tie.Need-new-requires
 new-requires c κs = search needs
 
--- src/lib.rt:71:13
 new-requires-2 : tie.Need-new-requires-2
 new-requires-2 c κs = search needs
 
--- src/lib.rt:67:5
 returns : tie.Need-returns
 returns c = simp (c .new2 .ensures, ← (c .before .new .ensures))
 

@@ -1,0 +1,31 @@
+use Rattle.unit.proofs.Rules.{tests}
+use borrow.Author.Needs.{needs}
+use Rattle.unit.proofs.step.Statement.{statement}
+use Rattle.unit.proofs.step.Tie as tie
+
+returns : tie.Need-returns
+returns c = (
+  simp (tests, c .if1 .taken),
+  (simp (tests, c .if1 .taken), simp (tests, c .if1 .taken)),
+)
+
+returns-2 : tie.Need-returns-2
+returns-2 c = (
+  simp (tests, c .before .if1 .left, c .if2 .taken),
+  (simp (tests, c .before .if1 .left, c .if2 .taken), simp (tests, c .before .if1 .left, c .if2 .taken)),
+)
+
+round-requires : tie.Need-round-requires
+round-requires c κs = search needs
+
+same-length : tie.Need-same-length
+same-length c = search needs
+
+returns-3 : tie.Need-returns-3
+returns-3 c = (
+  simp (tests, c .before .before .before .before .before .before .if1 .left, c .before .before .before .before .before .if2 .left, c .before .before .round .ensures .0),
+  simp (tests, c .before .before .before .before .before .before .if1 .left, c .before .before .before .before .before .if2 .left) (c .before .before .round .ensures .1),
+)
+
+pub step-spec : {M : Type 1} → statement M
+step-spec = tie.close (tie.spec returns returns-2 round-requires same-length returns-3)
