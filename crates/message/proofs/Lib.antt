@@ -1,4 +1,3 @@
-pub mod Rules
 pub mod Lists
 pub mod Fields
 pub mod Readings

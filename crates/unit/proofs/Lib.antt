@@ -1,3 +1,2 @@
-pub mod Rules
 pub mod Laws
 pub mod Answers

@@ -1,3 +1,4 @@
+-- `phase::addressed` meets its contract: a new header with the device code as its first byte.
 use mathlib.Core.Path.{_∙_, ap}
 use Rattle.header.specs.declared.Header.{Header}
 use Rattle.line.specs.declared.Listener.the-variants.{Holding}

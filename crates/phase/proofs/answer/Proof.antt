@@ -1,3 +1,4 @@
+-- `phase::answer` meets its contract: the verdict's reply and effect, on the data that is stored.
 use borrow.Author.Needs.{needs}
 use Rattle.phase.proofs.answer.Statement.{statement}
 use Rattle.phase.proofs.answer.Tie as tie

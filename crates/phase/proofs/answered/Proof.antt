@@ -1,3 +1,4 @@
+-- `phase::answered` meets its contract: the listener's next state and the reply decide.
 use borrow.Author.Needs.{needs}
 use Rattle.phase.proofs.answered.Statement.{statement}
 use Rattle.phase.proofs.answered.Tie as tie

@@ -1,10 +1,11 @@
+-- `phase::data_in` meets its contract: a part of the buffer, or none of more than 256 bytes.
 use Prim.Native.Nat.{_≤_}
 use native.Mathlib.Nat.{sub-zero}
 use native.Mathlib.Omega.{arith}
 use mathlib.Core.Path.{_∙_, sym}
 use lib.ListN.{length}
 use lib.Seq.{take-all, take-length}
-use Rattle.phase.proofs.Rules.{tests}
+use Rattle.field.proofs.Rules.{tests}
 use borrow.Author.Needs.{needs}
 use Rattle.phase.proofs.data_in.Statement.{statement}
 use Rattle.phase.proofs.data_in.Tie as tie

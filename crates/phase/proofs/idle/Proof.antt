@@ -1,3 +1,4 @@
+-- `phase::idle` meets its contract: HSK decides.
 use borrow.Author.Needs.{needs}
 use Rattle.phase.proofs.idle.Statement.{statement}
 use Rattle.phase.proofs.idle.Tie as tie

@@ -1,9 +1,10 @@
+-- `phase::put` meets its contract: the nested tests are those of `isStored`; past the buffer nothing is set.
 use Prim.Native.Nat.{_-_, _<_, _≤_}
 use native.Mathlib.Omega.{arith}
 use mathlib.Core.Path.{sym}
 use lib.ListN.{length}
 use lib.Seq.{set-out}
-use Rattle.phase.proofs.Rules.{tests}
+use Rattle.field.proofs.Rules.{tests}
 use borrow.Author.Needs.{needs}
 use Rattle.phase.proofs.put.Statement.{statement}
 use Rattle.phase.proofs.put.Tie as tie

@@ -1,3 +1,4 @@
+-- `phase::receiving` meets its contract: a message on its way, or one that is whole.
 use borrow.Author.Needs.{needs}
 use Rattle.phase.proofs.receiving.Statement.{statement}
 use Rattle.phase.proofs.receiving.Tie as tie

@@ -1,6 +1,7 @@
+-- `phase::responding` meets its contract: the tests are those of `respondingStep`; no response has more than 518 nibbles.
 use native.Mathlib.Omega.{arith}
 use Rattle.reply.proofs.Laws.{last-below}
-use Rattle.phase.proofs.Rules.{tests}
+use Rattle.field.proofs.Rules.{tests}
 use borrow.Author.Needs.{needs}
 use Rattle.phase.proofs.responding.Statement.{statement}
 use Rattle.phase.proofs.responding.Tie as tie

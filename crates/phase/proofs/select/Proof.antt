@@ -1,3 +1,4 @@
+-- `phase::select` meets its contract: its own code or code 0.
 use borrow.Author.Needs.{needs}
 use Rattle.phase.proofs.select.Statement.{statement}
 use Rattle.phase.proofs.select.Tie as tie

@@ -1,3 +1,4 @@
+-- `phase::selecting` meets its contract: whether a nibble is taken, and which of the two.
 use borrow.Author.Needs.{needs}
 use Rattle.phase.proofs.selecting.Statement.{statement}
 use Rattle.phase.proofs.selecting.Tie as tie

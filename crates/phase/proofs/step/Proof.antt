@@ -1,3 +1,4 @@
+-- `phase::step` meets its contract: each phase by its own function; only receiving has lent bytes that change.
 use borrow.Author.Needs.{needs}
 use Rattle.phase.proofs.step.Statement.{statement}
 use Rattle.phase.proofs.step.Tie as tie

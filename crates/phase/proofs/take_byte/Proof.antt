@@ -1,3 +1,4 @@
+-- `phase::take_byte` meets its contract: the byte is stored first; then it is the last of its message, or more follow.
 use Prim.Native.Nat.{ℕ}
 use mathlib.Core.Path.{_≡_, _∙_, ap}
 use Rattle.header.specs.declared.Header.{Header}

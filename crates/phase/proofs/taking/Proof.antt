@@ -1,3 +1,4 @@
+-- `phase::taking` meets its contract: whether a nibble is taken, and which half of a byte it is.
 use borrow.Author.Needs.{needs}
 use Rattle.phase.proofs.taking.Statement.{statement}
 use Rattle.phase.proofs.taking.Tie as tie

@@ -1,5 +1,5 @@
 -- `place::find` meets its contract: the tests are those of `placeIn`, in its order.
-use Rattle.message.proofs.Rules.{tests}
+use Rattle.field.proofs.Rules.{tests}
 use borrow.Author.Needs.{needs}
 use Rattle.place.proofs.find.Statement.{statement}
 use Rattle.place.proofs.find.Tie as tie

@@ -9,7 +9,7 @@ use Rattle.field.specs.Field.{valueOf}
 use Rattle.message.specs.Answer.{gives}
 use Rattle.message.specs.Reading.{announced}
 use Rattle.message.proofs.Readings.{check-whole, check-disagrees, announced-at}
-use Rattle.message.proofs.Rules.{tests}
+use Rattle.field.proofs.Rules.{tests}
 use borrow.Author.Needs.{needs}
 use Rattle.reader.proofs.check.Statement.{statement}
 use Rattle.reader.proofs.check.Tie as tie

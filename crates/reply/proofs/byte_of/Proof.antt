@@ -1,3 +1,4 @@
+-- `reply::byte_of` meets its contract: each place is a case of `byteAt`.
 use borrow.Author.Needs.{needs}
 use Rattle.reply.proofs.byte_of.Statement.{statement}
 use Rattle.reply.proofs.byte_of.Tie as tie

@@ -1,3 +1,4 @@
+-- `reply::item` meets its contract: each reply is a case of `replyData`.
 use borrow.Author.Needs.{needs}
 use Rattle.reply.proofs.item.Statement.{statement}
 use Rattle.reply.proofs.item.Tie as tie

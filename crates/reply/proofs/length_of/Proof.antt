@@ -1,3 +1,4 @@
+-- `reply::length_of` meets its contract: a read gives no more than the queue holds, so 256 at most.
 use native.Mathlib.Omega.{arith}
 use borrow.Author.Needs.{needs}
 use Rattle.reply.proofs.length_of.Statement.{statement}

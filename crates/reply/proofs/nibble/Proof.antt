@@ -1,3 +1,4 @@
+-- `reply::nibble` meets its contract: the reply's data is as long as the length field says, so a place in the response is found.
 use Prim.Native.Nat.{ℕ, _/_}
 use mathlib.Core.Path.{_∙_, ap, ap₂, sym}
 use mathlib.Core.List.{[], _∷_}

@@ -1,3 +1,4 @@
+-- `reply::opened_item` meets its contract: an accepted length is one byte, and the other three are 0.
 use Rattle.reply.proofs.Laws.{opened-first, opened-rest, opened-past}
 use Rattle.reply.proofs.opened_item.Statement.{statement}
 use Rattle.reply.proofs.opened_item.Tie as tie

@@ -1,3 +1,4 @@
+-- `reply::queued_item` meets its contract: a byte of the queue by its place, or none past what is given.
 use native.Mathlib.Omega.{arith}
 use mathlib.Core.Path.{_∙_}
 use Rattle.reply.proofs.Laws.{queued-at, queued-past}

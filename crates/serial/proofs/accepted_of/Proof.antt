@@ -1,3 +1,4 @@
+-- `serial::accepted_of` meets its contract: 0 means 80.
 use Rattle.serial.proofs.accepted_of.Statement.{statement}
 use Rattle.serial.proofs.accepted_of.Tie as tie
 

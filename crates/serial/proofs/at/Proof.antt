@@ -1,3 +1,4 @@
+-- `serial::at` meets its contract: past the data there is 0.
 use lib.ListN.{List·getD-eq-default}
 use borrow.Author.Needs.{needs}
 use Rattle.serial.proofs.at.Statement.{statement}

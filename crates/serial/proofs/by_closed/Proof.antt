@@ -1,3 +1,4 @@
+-- `serial::by_closed` meets its contract: the tests are those of `closedBy`.
 use borrow.Author.Needs.{needs}
 use Rattle.serial.proofs.by_closed.Statement.{statement}
 use Rattle.serial.proofs.by_closed.Tie as tie

@@ -1,3 +1,4 @@
+-- `serial::by_command` meets its contract: closed or open decides which checks come.
 use borrow.Author.Needs.{needs}
 use Rattle.serial.proofs.by_command.Statement.{statement}
 use Rattle.serial.proofs.by_command.Tie as tie

@@ -1,3 +1,4 @@
+-- `serial::by_open` meets its contract: the tests are those of `commandBy` and `openedBy`.
 use borrow.Author.Needs.{needs}
 use Rattle.serial.proofs.by_open.Statement.{statement}
 use Rattle.serial.proofs.by_open.Tie as tie

@@ -1,3 +1,4 @@
+-- `serial::closed` meets its contract: the input queue is new.
 use borrow.Author.Needs.{needs}
 use Rattle.serial.proofs.closed.Statement.{statement}
 use Rattle.serial.proofs.closed.Tie as tie

@@ -1,3 +1,4 @@
+-- `serial::is_supported` meets its contract: the first test that holds decides.
 use Rattle.serial.proofs.is_supported.Statement.{statement}
 use Rattle.serial.proofs.is_supported.Tie as tie
 

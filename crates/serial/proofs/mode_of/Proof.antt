@@ -1,3 +1,4 @@
+-- `serial::mode_of` meets its contract: bits 7-6 as a number from 0 to 3.
 use Rattle.serial.proofs.mode_of.Statement.{statement}
 use Rattle.serial.proofs.mode_of.Tie as tie
 

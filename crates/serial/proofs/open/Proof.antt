@@ -1,4 +1,5 @@
-use Rattle.serial.proofs.Rules.{tests}
+-- `serial::open` meets its contract: the tests are those of `openBy`, in the paper's order.
+use Rattle.field.proofs.Rules.{tests}
 use borrow.Author.Needs.{needs}
 use Rattle.serial.proofs.open.Statement.{statement}
 use Rattle.serial.proofs.open.Tie as tie

@@ -1,3 +1,4 @@
+-- `serial::poll` meets its contract: both flags decide.
 use borrow.Author.Needs.{needs}
 use Rattle.serial.proofs.poll.Statement.{statement}
 use Rattle.serial.proofs.poll.Tie as tie

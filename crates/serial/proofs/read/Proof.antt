@@ -1,3 +1,4 @@
+-- `serial::read` meets its contract: each mode is a case of `readBy`.
 use borrow.Author.Needs.{needs}
 use Rattle.serial.proofs.read.Statement.{statement}
 use Rattle.serial.proofs.read.Tie as tie

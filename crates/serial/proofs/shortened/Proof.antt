@@ -1,3 +1,4 @@
+-- `serial::shortened` meets its contract: the queue without its oldest bytes.
 use borrow.Author.Needs.{needs}
 use Rattle.serial.proofs.shortened.Statement.{statement}
 use Rattle.serial.proofs.shortened.Tie as tie

@@ -1,3 +1,4 @@
+-- `serial::store` meets its contract: the flag decides.
 use borrow.Author.Needs.{needs}
 use Rattle.serial.proofs.store.Statement.{statement}
 use Rattle.serial.proofs.store.Tie as tie

@@ -1,3 +1,4 @@
+-- `serial::stored` meets its contract: the queue with all the data, or as it was.
 use borrow.Author.Needs.{needs}
 use Rattle.serial.proofs.stored.Statement.{statement}
 use Rattle.serial.proofs.stored.Tie as tie

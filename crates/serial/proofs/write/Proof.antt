@@ -1,3 +1,4 @@
+-- `serial::write` meets its contract: each mode is a case of `writeBy`.
 use borrow.Author.Needs.{needs}
 use Rattle.serial.proofs.write.Statement.{statement}
 use Rattle.serial.proofs.write.Tie as tie

@@ -1,3 +1,4 @@
+-- `unit::asks` meets its contract: a pull that stands is released at HSK low; one that does not needs service, a request and the row.
 use borrow.Author.Needs.{needs}
 use Rattle.unit.proofs.asks.Statement.{statement}
 use Rattle.unit.proofs.asks.Tie as tie

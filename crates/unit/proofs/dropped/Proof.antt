@@ -1,3 +1,4 @@
+-- `unit::dropped` meets its contract: the row counted on, the phase idle.
 use borrow.Author.Needs.{needs}
 use Rattle.unit.proofs.dropped.Statement.{statement}
 use Rattle.unit.proofs.dropped.Tie as tie

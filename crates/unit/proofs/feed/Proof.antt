@@ -1,3 +1,4 @@
+-- `unit::feed` meets its contract: 7 before 6, and the bytes change only where neither comes.
 use Prim.Native.Nat.{ℕ}
 use mathlib.Core.Path.{_∙_, ap, sym}
 use lib.Dec.{eqb}

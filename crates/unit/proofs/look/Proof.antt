@@ -1,3 +1,4 @@
+-- `unit::look` meets its contract: the counts are what the queues hold.
 use borrow.Author.Needs.{needs}
 use Rattle.unit.proofs.look.Statement.{statement}
 use Rattle.unit.proofs.look.Tie as tie

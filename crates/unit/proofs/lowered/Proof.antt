@@ -1,3 +1,4 @@
+-- `unit::lowered` meets its contract: the row ends, and a request's pull goes at HSK low.
 use borrow.Author.Needs.{needs}
 use Rattle.unit.proofs.lowered.Statement.{statement}
 use Rattle.unit.proofs.lowered.Tie as tie

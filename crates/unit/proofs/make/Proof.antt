@@ -1,4 +1,5 @@
-use Rattle.unit.proofs.Rules.{tests}
+-- `unit::make` meets its contract: the tests are those of `making`.
+use Rattle.field.proofs.Rules.{tests}
 use borrow.Author.Needs.{needs}
 use Rattle.unit.proofs.make.Statement.{statement}
 use Rattle.unit.proofs.make.Tie as tie

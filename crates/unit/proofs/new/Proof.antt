@@ -1,3 +1,4 @@
+-- `unit::new` meets its contract: idle, and new beside its lines.
 use borrow.Author.Needs.{needs}
 use Rattle.unit.proofs.new.Statement.{statement}
 use Rattle.unit.proofs.new.Tie as tie

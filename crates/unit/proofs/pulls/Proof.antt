@@ -1,3 +1,4 @@
+-- `unit::pulls` meets its contract: line by line.
 use borrow.Author.Needs.{needs}
 use Rattle.unit.proofs.pulls.Statement.{statement}
 use Rattle.unit.proofs.pulls.Tie as tie

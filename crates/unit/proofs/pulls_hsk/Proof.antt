@@ -1,3 +1,4 @@
+-- `unit::pulls_hsk` meets its contract: each phase is a case of `pullsHsk`.
 use borrow.Author.Needs.{needs}
 use Rattle.unit.proofs.pulls_hsk.Statement.{statement}
 use Rattle.unit.proofs.pulls_hsk.Tie as tie

@@ -1,3 +1,4 @@
+-- `unit::pulls_nibble` meets its contract: each phase is a case of `pullsNibble`.
 use borrow.Author.Needs.{needs}
 use Rattle.unit.proofs.pulls_nibble.Statement.{statement}
 use Rattle.unit.proofs.pulls_nibble.Tie as tie

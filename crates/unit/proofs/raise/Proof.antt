@@ -1,3 +1,4 @@
+-- `unit::raise` meets its contract: enabled decides.
 use borrow.Author.Needs.{needs}
 use Rattle.unit.proofs.raise.Statement.{statement}
 use Rattle.unit.proofs.raise.Tie as tie

@@ -1,3 +1,4 @@
+-- `unit::round` meets its contract: BAV seen high is looked at before everything else.
 use borrow.Author.Needs.{needs}
 use Rattle.unit.proofs.round.Statement.{statement}
 use Rattle.unit.proofs.round.Tie as tie

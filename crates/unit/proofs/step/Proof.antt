@@ -1,4 +1,5 @@
-use Rattle.unit.proofs.Rules.{tests}
+-- `unit::step` meets its contract: 5 before 11, and lent bytes change only where neither comes.
+use Rattle.field.proofs.Rules.{tests}
 use borrow.Author.Needs.{needs}
 use Rattle.unit.proofs.step.Statement.{statement}
 use Rattle.unit.proofs.step.Tie as tie

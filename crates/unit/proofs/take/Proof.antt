@@ -1,3 +1,4 @@
+-- `unit::take` meets its contract: the oldest byte and the rest, or nothing.
 use borrow.Author.Needs.{needs}
 use Rattle.unit.proofs.take.Statement.{statement}
 use Rattle.unit.proofs.take.Tie as tie

@@ -1,3 +1,4 @@
+-- `line::Sender::step` meets its contract: each arm is a case of `sendOf`.
 use borrow.Author.Needs.{needs}
 use Rattle.line.proofs.Sender.step.Statement.{statement}
 use Rattle.line.proofs.Sender.step.Tie as tie

@@ -1,3 +1,4 @@
+-- `serial::Serial::after` meets its contract: each arm is a case of `applied` and of `outputAfter`.
 use borrow.Author.Needs.{needs}
 use Rattle.serial.proofs.Serial.after.Statement.{statement}
 use Rattle.serial.proofs.Serial.after.Tie as tie

@@ -1,3 +1,4 @@
+-- `serial::Serial::finish` meets its contract: each arm is a case of `finished`.
 use borrow.Author.Needs.{needs}
 use Rattle.serial.proofs.Serial.finish.Statement.{statement}
 use Rattle.serial.proofs.Serial.finish.Tie as tie

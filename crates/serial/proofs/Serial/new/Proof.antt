@@ -1,3 +1,4 @@
+-- `serial::Serial::new` meets its contract: both queues are new.
 use borrow.Author.Needs.{needs}
 use Rattle.serial.proofs.Serial.new.Statement.{statement}
 use Rattle.serial.proofs.Serial.new.Tie as tie

@@ -1,3 +1,4 @@
+-- `serial::Serial::verdict` meets its contract: the tests are those of `verdictOf`, in the paper's order.
 use borrow.Author.Needs.{needs}
 use Rattle.serial.proofs.Serial.verdict.Statement.{statement}
 use Rattle.serial.proofs.Serial.verdict.Tie as tie
