@@ -1,6 +1,5 @@
 // The class of each device code.
-use crate::text;
-use crate::text::Text;
+use text::Text;
 
 pub fn run() {
     Text::of(b"Classes of the device codes").end();

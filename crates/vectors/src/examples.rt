@@ -3,8 +3,8 @@ use crate::messages;
 use crate::messages::Message;
 use crate::nibbles;
 use crate::papers;
-use crate::slices;
-use crate::text::Text;
+use text::Text;
+use text::slices;
 
 pub fn run() {
     Text::of(b"Worked examples (source document 000, 7.1 and 7.2)").end();

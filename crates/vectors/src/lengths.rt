@@ -2,9 +2,9 @@
 use crate::messages;
 use crate::messages::Message;
 use crate::papers;
-use crate::slices;
-use crate::text::Text;
 use header::Command;
+use text::Text;
+use text::slices;
 use writer::Written;
 
 // What a buffer is filled with before a message is written into it.

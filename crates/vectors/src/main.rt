@@ -7,8 +7,6 @@ mod messages;
 mod nibbles;
 mod papers;
 mod readings;
-mod slices;
-mod text;
 
 fn main() {
     examples::run();

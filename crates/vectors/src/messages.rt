@@ -1,7 +1,7 @@
 // Commands and responses under one name, so that each case is run on both.
 ghost use Prim.Native.Nat.{_≤_};
-use crate::text::Text;
 use header::Command;
+use text::Text;
 use writer::Written;
 
 // The fields of a message. Its data stands beside it.

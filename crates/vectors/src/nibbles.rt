@@ -1,9 +1,8 @@
 // Messages as nibbles.
 use crate::messages::Message;
 use crate::papers;
-use crate::slices;
-use crate::text;
-use crate::text::Text;
+use text::Text;
+use text::slices;
 
 pub fn run() {
     Text::of(b"Nibbles, and two past the end").end();

@@ -2,9 +2,8 @@
 use crate::messages;
 use crate::messages::Message;
 use crate::papers;
-use crate::slices;
-use crate::text;
-use crate::text::Text;
+use text::Text;
+use text::slices;
 
 pub fn run() {
     Text::of(b"Reading the first bytes of M1 and a second command behind it").end();

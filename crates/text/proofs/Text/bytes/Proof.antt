@@ -2,8 +2,8 @@
 use borrow.Author.Needs.{needs}
 use lib.ListN.{length}
 use Prim.Native.Nat.{_-_}
-use Rattle.vectors.proofs.text.Text.bytes.Statement.{statement}
-use Rattle.vectors.proofs.text.Text.bytes.Tie as tie
+use Rattle.text.proofs.Text.bytes.Statement.{statement}
+use Rattle.text.proofs.Text.bytes.Tie as tie
 
 abbrev Inv-loop : tie.InvT-loop
 Inv-loop s text₀ i₀ text i = Unit {0}

@@ -2,8 +2,8 @@
 use borrow.Author.Needs.{needs}
 use lib.ListN.{length}
 use Prim.Native.Nat.{_-_}
-use Rattle.vectors.proofs.text.rows.Statement.{statement}
-use Rattle.vectors.proofs.text.rows.Tie as tie
+use Rattle.text.proofs.rows.Statement.{statement}
+use Rattle.text.proofs.rows.Tie as tie
 
 abbrev Inv-loop : tie.InvT-loop
 Inv-loop s at₀ at = Unit {0}

@@ -4,8 +4,8 @@ use native.Mathlib.Omega.{arith}
 use mathlib.Core.Logic.{⊎-elim}
 use lib.ListN.{length}
 use Prim.Native.Nat.{_≤_, _-_}
-use Rattle.vectors.proofs.slices.same.Statement.{statement}
-use Rattle.vectors.proofs.slices.same.Tie as tie
+use Rattle.text.proofs.slices.same.Statement.{statement}
+use Rattle.text.proofs.slices.same.Tie as tie
 
 abbrev Inv-loop : tie.InvT-loop
 Inv-loop s t n₀ i₀ n i = (n ≤ i) × (i ≤ length t)

@@ -1,4 +1,7 @@
-// A line of text, put together piece by piece and then written.
+// A line of text, put together piece by piece and then written; beside it small helpers on slices. What the programs here print
+// goes through this.
+pub mod slices;
+
 use libc::STDOUT_FILENO;
 
 // How many bytes fit on a line, with its end. What would go past them is left out.
@@ -74,6 +77,12 @@ impl Text {
         }
         self
     }
+}
+
+// Writes one letter at once.
+pub fn letter(b: u8) {
+    let letters = [b];
+    io::write_all(STDOUT_FILENO, &letters);
 }
 
 pub fn blank() {

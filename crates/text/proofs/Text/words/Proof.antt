@@ -1,30 +1,24 @@
--- Nothing has to hold from turn to turn; the bytes that are left grow fewer.
+-- Nothing has to hold from turn to turn; the words that are left grow fewer.
 use borrow.Author.Needs.{needs}
 use lib.ListN.{length}
 use Prim.Native.Nat.{_-_}
-use Rattle.vectors.proofs.text.Text.numbers.Statement.{statement}
-use Rattle.vectors.proofs.text.Text.numbers.Tie as tie
+use Rattle.text.proofs.Text.words.Statement.{statement}
+use Rattle.text.proofs.Text.words.Tie as tie
 
 abbrev Inv-loop : tie.InvT-loop
-Inv-loop s text₀ i₀ text i = Unit {0}
+Inv-loop words text₀ i₀ text i = Unit {0}
 
 abbrev μ-loop : tie.MeasureT-loop
-μ-loop s text₀ i₀ text i = length s - i
+μ-loop words text₀ i₀ text i = length words - i
 
 loop-holds : tie.Need-loop-holds Inv-loop μ-loop
 loop-holds c = search needs
 
+shared-slice-read-letter : tie.Need-shared-slice-read-letter Inv-loop μ-loop
+shared-slice-read-letter c = search needs
+
 letter-requires : tie.Need-letter-requires Inv-loop μ-loop
 letter-requires c κs = search needs
-
-shared-slice-read-wide : tie.Need-shared-slice-read-wide Inv-loop μ-loop
-shared-slice-read-wide c = search needs
-
-wide-requires : tie.Need-wide-requires Inv-loop μ-loop
-wide-requires c κs = search needs
-
-decimal-requires : tie.Need-decimal-requires Inv-loop μ-loop
-decimal-requires c κs = search needs
 
 add-i : tie.Need-add-i Inv-loop μ-loop
 add-i c = search needs
@@ -38,17 +32,15 @@ loop-again c = search needs
 returns : tie.Need-returns Inv-loop μ-loop
 returns c = search needs
 
-pub numbers-spec : {M : Type 1} → statement M
-numbers-spec =
+pub words-spec : {M : Type 1} → statement M
+words-spec =
     tie.close
     (tie.spec
     Inv-loop
     μ-loop
     loop-holds
+    shared-slice-read-letter
     letter-requires
-    shared-slice-read-wide
-    wide-requires
-    decimal-requires
     add-i
     loop-less
     loop-again

@@ -4,8 +4,8 @@ use native.Mathlib.Omega.{arith}
 use mathlib.Core.Logic.{⊎-elim}
 use lib.ListN.{length}
 use Prim.Native.Nat.{_≤_, _-_}
-use Rattle.vectors.proofs.slices.count.Statement.{statement}
-use Rattle.vectors.proofs.slices.count.Tie as tie
+use Rattle.text.proofs.slices.count.Statement.{statement}
+use Rattle.text.proofs.slices.count.Tie as tie
 
 abbrev Inv-loop : tie.InvT-loop
 Inv-loop s b n₀ i₀ n i = n ≤ i

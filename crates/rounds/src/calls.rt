@@ -1,0 +1,134 @@
+// The calls of a unit's host, and what each comes to in words.
+use crate::bench::Bench;
+use serial::Mode;
+use serial::Opening;
+use text::Text;
+use unit::Fed;
+use unit::Made;
+use unit::Raised;
+use unit::Taken;
+
+pub fn make(b: Bench) -> Bench {
+    let command = b.command;
+    let own = command.device;
+    let text = Text::of(b"  own code ")
+        .decimal(own as usize)
+        .words(b", retry ")
+        .decimal(b.decimal as usize);
+    match unit::make(own, b.decimal) {
+        Made::New(u) => {
+            text.words(b": made").end();
+            let mut next = b.with_unit(u);
+            next.round = 0;
+            next
+        }
+        Made::Setting => {
+            text.words(b": refusal 5").end();
+            b
+        }
+    }
+}
+
+pub fn feed(b: Bench, byte: u8, input: &mut [u8; 256]) -> Bench {
+    let text = Text::of(b"  fed ").hex(byte);
+    match unit::feed(b.unit, input, byte) {
+        Fed::Queued(u) => {
+            text.end();
+            b.with_unit(u)
+        }
+        Fed::Full => {
+            text.words(b": refusal 6").end();
+            b
+        }
+        Fed::NotOpen => {
+            text.words(b": refusal 7").end();
+            b
+        }
+    }
+}
+
+// Feeds so many bytes, each one more than the last. Only refusals are told.
+pub fn feed_many(bench: Bench, input: &mut [u8; 256]) -> Bench {
+    let mut b = bench;
+    let mut i = 0;
+    while i < bench.decimal {
+        b = feed_next(b, input);
+        i += 1;
+    }
+    b
+}
+
+fn feed_next(b: Bench, input: &mut [u8; 256]) -> Bench {
+    let byte = b.next;
+    match unit::feed(b.unit, input, byte) {
+        Fed::Queued(u) => {
+            let mut next = b.with_unit(u);
+            next.next = byte % 255 + 1;
+            next
+        }
+        Fed::Full => feed(b, byte, input),
+        Fed::NotOpen => feed(b, byte, input),
+    }
+}
+
+pub fn take(b: Bench, output: &[u8; 256]) -> Bench {
+    match unit::take(b.unit, output) {
+        Taken::Byte(byte, u) => {
+            Text::of(b"  taken ").hex(byte).end();
+            b.with_unit(u)
+        }
+        Taken::Nothing => {
+            Text::of(b"  taken nothing").end();
+            b
+        }
+    }
+}
+
+pub fn raise(b: Bench) -> Bench {
+    match unit::raise(b.unit) {
+        Raised::Held(u) => {
+            Text::of(b"  raised").end();
+            b.with_unit(u)
+        }
+        Raised::NotEnabled => {
+            Text::of(b"  raised: refusal 7").end();
+            b
+        }
+    }
+}
+
+pub fn look(b: Bench) {
+    let looks = unit::look(b.unit);
+    let how = looks.opening;
+    let text = opening(Text::of(b"  unit "), how)
+        .words(b", input ")
+        .decimal(looks.input)
+        .words(b", output ")
+        .decimal(looks.output);
+    let enabled = if_so(text, looks.enabled, b", enabled");
+    if_so(enabled, looks.requesting, b", requesting").end();
+}
+
+fn opening(text: Text, opening: Opening) -> Text {
+    match opening {
+        Opening::Closed => text.words(b"closed"),
+        Opening::OpenFor(mode, accepted) => mode_of(text.words(b"open for "), mode)
+            .words(b", length ")
+            .decimal(accepted as usize),
+    }
+}
+
+fn mode_of(text: Text, mode: Mode) -> Text {
+    match mode {
+        Mode::Input => text.words(b"input"),
+        Mode::Output => text.words(b"output"),
+        Mode::Update => text.words(b"update"),
+    }
+}
+
+fn if_so(text: Text, so: bool, words: &[u8]) -> Text {
+    if so {
+        return text.words(words);
+    }
+    text
+}
