@@ -33,19 +33,31 @@ answer-requires c κs = search needs
 same-length : tie.Need-same-length
 same-length c = search needs
 
+-- The header with its new byte, and the lent buffer with it.
+header-is : (c : tie.After-put) → let a = c .before .before .before .before .before .before .args in
+    c .before .before .with .result ≡ withByte (a .p .header) (a .p .place) (a .b)
+header-is c =
+    let a = c .before .before .before .before .before .before .args in
+    c .before .before .with .ensures ∙ ap (λ (k : ℕ). withByte (a .p .header) k (a .b)) (c .before .before .before .wide .ensures)
+
+buffer-is : (c : tie.After-put) → let a = c .before .before .before .before .before .before .args in
+    c .put .last .1 .1 .1 .0 ≡ byteBuffer (a .p) (a .b) (a .buffer .now)
+buffer-is c =
+    let a = c .before .before .before .before .before .before .args in
+    c .put .ensures ∙ ap (λ (x : Header). bufferWith (x .«data_length») (a .p .place) (a .b) (a .buffer .now)) (header-is c)
+
 returns : tie.Need-returns
 returns c =
     let at-test = c .before .before .before in
     let at-put = at-test .before .before .before in
-    let at-with = at-put .before .before in
-    let a = at-with .before .before .before .before .args in
-    let h = at-with .with .result in
-    let e : h ≡ withByte (a .p .header) (a .p .place) (a .b) = at-with .with .ensures ∙ ap (λ (k : ℕ). withByte (a .p .header) k (a .b)) (at-with .before .wide .ensures) in
-    let buffer = a .buffer .now in
-    let l = at-put .put .last .1 .1 .1 .0 in
-    let f : l ≡ byteBuffer (a .p) (a .b) buffer = at-put .put .ensures ∙ ap (λ (x : Header). bufferWith (x .«data_length») (a .p .place) (a .b) buffer) e in (
-      c .answer .ensures .0 ∙ last-byte (a .s) (a .p) (a .b) buffer (a .output .now) h e l f (at-test .if1 .taken),
-      (f, c .answer .ensures .1 ∙ last-output (a .s) (a .p) (a .b) buffer (a .output .now) h e l f (at-test .if1 .taken)),
+    let a = at-put .before .before .before .before .before .before .args in
+    let h = at-put .before .before .with .result in
+    let l = at-put .put .last .1 .1 .1 .0 in (
+      c .answer .ensures .0 ∙ last-byte (a .s) (a .p) (a .b) (a .buffer .now) (a .output .now) h (header-is at-put) l (buffer-is at-put) (at-test .if1 .taken),
+      (
+        buffer-is at-put,
+        c .answer .ensures .1 ∙ last-output (a .s) (a .p) (a .b) (a .buffer .now) (a .output .now) h (header-is at-put) l (buffer-is at-put) (at-test .if1 .taken),
+      ),
     )
 
 add-whole-bytes : tie.Need-add-whole-bytes
@@ -64,15 +76,10 @@ returns-2 : tie.Need-returns-2
 returns-2 c =
     let at-test = c .before .before in
     let at-put = at-test .before .before .before in
-    let at-with = at-put .before .before in
-    let a = at-with .before .before .before .before .args in
-    let h = at-with .with .result in
-    let e : h ≡ withByte (a .p .header) (a .p .place) (a .b) = at-with .with .ensures ∙ ap (λ (k : ℕ). withByte (a .p .header) k (a .b)) (at-with .before .wide .ensures) in
-    let buffer = a .buffer .now in
-    let l = at-put .put .last .1 .1 .1 .0 in
-    let f : l ≡ byteBuffer (a .p) (a .b) buffer = at-put .put .ensures ∙ ap (λ (x : Header). bufferWith (x .«data_length») (a .p .place) (a .b) buffer) e in (
-      c .moves .ensures ∙ ap (λ (x : Partial). moves (Receiving Holding (Taking x)) (a .s)) (c .before .whole-bytes .ensures) ∙ more-bytes (a .s) (a .p) (a .b) buffer (a .output .now) h e (at-test .if1 .left),
-      (f, more-output (a .s) (a .p) (a .b) buffer (a .output .now) h e (at-test .if1 .left)),
+    let a = at-put .before .before .before .before .before .before .args in
+    let h = at-put .before .before .with .result in (
+      c .moves .ensures ∙ ap (λ (x : Partial). moves (Receiving Holding (Taking x)) (a .s)) (c .before .whole-bytes .ensures) ∙ more-bytes (a .s) (a .p) (a .b) (a .buffer .now) (a .output .now) h (header-is at-put) (at-test .if1 .left),
+      (buffer-is at-put, more-output (a .s) (a .p) (a .b) (a .buffer .now) (a .output .now) h (header-is at-put) (at-test .if1 .left)),
     )
 
 pub take-byte-spec : {M : Type 1} → statement M
