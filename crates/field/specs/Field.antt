@@ -28,6 +28,10 @@ abbrev pub nibbles : List ℕ → List ℕ
 nibbles [] = []
 nibbles (b ∷ bytes) = digits 16 2 b ++ nibbles bytes
 
+-- A byte from its two nibbles, low first. Of a number over 15 the lowest four bits count.
+abbrev pub byteFrom : ℕ → ℕ → ℕ
+byteFrom low high = number 16 (low % 16 ∷ high % 16 ∷ [])
+
 -- Every element is a digit of base b; past the end `getD` gives 0.
 abbrev pub Below : ℕ → List ℕ → Type 0
 Below b ds = (i : ℕ) → getD ds i 0 < b

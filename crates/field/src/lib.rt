@@ -3,7 +3,7 @@ ghost use mathlib.Core.Path.{_≡_};
 ghost use mathlib.Core.List.{[], _∷_};
 ghost use Prim.Native.Nat.{_%_};
 ghost use lib.ListN.{getD, set};
-ghost use Rattle.field.specs.Field.{number, field, valueOf, nibbleOf};
+ghost use Rattle.field.specs.Field.{field, valueOf, nibbleOf, byteFrom};
 
 // Byte i of a two-byte field: 0 is the low one, 1 the high one, and so on in turn.
 pub fn byte(n: u16, i: usize) -> u8
@@ -43,7 +43,7 @@ pub fn nibble(b: u8, i: usize) -> u8
 
 // The byte of two nibbles. Of a number over 15 the lowest four bits count.
 pub fn byte_of(low: u8, high: u8) -> u8
-    ensures { λ r. ⌜ r ≡ number 16 (low % 16 ∷ high % 16 ∷ []) ⌝ }
+    ensures { λ r. ⌜ r ≡ byteFrom low high ⌝ }
 {
     low % 16 + 16 * (high % 16)
 }

@@ -42,6 +42,11 @@ takenOf Ready low = low
 takenOf Holding low = false
 takenOf Waiting low = false
 
+abbrev pub isReady : Listener → Bool
+isReady Ready = true
+isReady Holding = false
+isReady Waiting = false
+
 -- What a listener pulls.
 abbrev pub listenerHsk : Listener → Bool
 listenerHsk Ready = false

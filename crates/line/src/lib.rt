@@ -1,7 +1,7 @@
 // The lines, and the two machines that move one nibble after another over them: the sender and the listener. Both ends of the
 // bus use these as they are.
 ghost use mathlib.Core.Path.{_≡_};
-ghost use Rattle.line.specs.Line.{sendOf, sentOf, senderHsk, senderNibble, hearOf, takenOf, listenerHsk};
+ghost use Rattle.line.specs.Line.{sendOf, sentOf, senderHsk, senderNibble, hearOf, takenOf, isReady, listenerHsk};
 
 // What a party sees on the lines, or does to them. A line is low if any party pulls it: true is low, or pulled. A released
 // nibble reads 15.
@@ -100,6 +100,17 @@ impl Listener {
     {
         match self {
             Listener::Ready => low,
+            Listener::Holding => false,
+            Listener::Waiting => false,
+        }
+    }
+
+    // Whether it is ready for the next nibble.
+    pub fn is_ready(self) -> bool
+        ensures { λ r. ⌜ r ≡ isReady self ⌝ }
+    {
+        match self {
+            Listener::Ready => true,
             Listener::Holding => false,
             Listener::Waiting => false,
         }

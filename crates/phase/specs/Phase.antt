@@ -1,17 +1,17 @@
 -- Document 01, "Lines and rounds" and "The serial peripheral": a unit's round while BAV is seen low, phase by phase, in the order of
 -- the paper's table.
-use Prim.Native.Nat.{ℕ, _+_, _-_, _%_}
+use Prim.Native.Nat.{ℕ, _+_, _-_}
 use mathlib.Core.Bool.{Bool, true, false, cond, _&&_, _||_}
 use mathlib.Core.List.{List, [], _∷_}
 use lib.Dec.{ltb, leb, eqb}
 use lib.ListN.{set, take}
-use Rattle.field.specs.Field.{number}
+use Rattle.field.specs.Field.{byteFrom}
 use Rattle.header.specs.Header.{headerBytes, headerIn}
 use Rattle.header.specs.declared.Header.{Header}
-use Rattle.line.specs.Line.{sendOf, sentOf, hearOf, takenOf}
+use Rattle.line.specs.Line.{sendOf, sentOf, hearOf, takenOf, isReady}
 use Rattle.line.specs.declared.Lines.{Lines}
 use Rattle.line.specs.declared.Listener.{Listener}
-use Rattle.line.specs.declared.Listener.the-variants.{Ready, Holding, Waiting}
+use Rattle.line.specs.declared.Listener.the-variants.{Ready, Holding}
 use Rattle.line.specs.declared.Sender.{Sender}
 use Rattle.line.specs.declared.Sender.the-variants.{Next}
 use Rattle.message.specs.Nibbles.{nibbleIn}
@@ -34,10 +34,6 @@ moves phase serial = record { phase = phase; serial = serial }
 -- Idle leaves when BAV is seen low: to selecting, or to sitting out if HSK is seen low in that same round.
 abbrev pub idleStep : Bool → Phase
 idleStep hsk = cond hsk (SittingOut false) (Selecting Ready false 0)
-
--- A byte from its two nibbles.
-abbrev pub byteFrom : ℕ → ℕ → ℕ
-byteFrom low high = number 16 (low % 16 ∷ high % 16 ∷ [])
 
 -- A command of which so much is there: its header, and the byte that is next.
 abbrev pub partial : Header → ℕ → Partial
@@ -119,11 +115,6 @@ takingOutput s ear p seen buffer output =
 
 -- Receiving leaves when the last nibble of the announced length is taken and HSK seen high. A response begins exactly two rounds
 -- after; a command that draws none leads to sitting out.
-abbrev pub isReady : Listener → Bool
-isReady Ready = true
-isReady Holding = false
-isReady Waiting = false
-
 abbrev pub answeredStep : Listener → Reply → Bool → Bool → Phase
 answeredStep ear reply hsk busy =
     cond (isReady (hearOf ear hsk busy))

@@ -2,7 +2,7 @@
 ghost use mathlib.Core.Path.{_≡_};
 ghost use Prim.Native.Nat.{_≤_};
 ghost use lib.ListN.{length};
-ghost use Rattle.phase.specs.Phase.{idleStep, selected, selectingStep, bufferWith, answered, stored, byteStep, byteBuffer, byteOutput, takingStep, takingBuffer, takingOutput, answeredStep, respondingStep, receivingStep, receivingBuffer, receivingOutput, phaseStep, phaseBuffer, phaseOutput, isReady, storedData, moves, partial, withByte};
+ghost use Rattle.phase.specs.Phase.{idleStep, selected, selectingStep, bufferWith, answered, stored, byteStep, byteBuffer, byteOutput, takingStep, takingBuffer, takingOutput, answeredStep, respondingStep, receivingStep, receivingBuffer, receivingOutput, phaseStep, phaseBuffer, phaseOutput, storedData, moves, partial, withByte};
 ghost use Rattle.header.specs.Header.{headerIn};
 ghost use mathlib.Core.List.{[]};
 use header::Header;
@@ -255,23 +255,13 @@ fn answered(ear: Listener, reply: Reply, hsk: bool, busy: bool) -> Phase
     ensures { λ r. ⌜ r ≡ answeredStep ear reply hsk busy ⌝ }
 {
     let next = ear.step(hsk, busy);
-    if is_ready(next) {
+    if next.is_ready() {
         if reply::is_silent(reply) {
             return Phase::SittingOut(false);
         }
         return Phase::Responding(reply, 0, Sender::Next, true);
     }
     Phase::Receiving(next, Progress::Answered(reply))
-}
-
-fn is_ready(ear: Listener) -> bool
-    ensures { λ r. ⌜ r ≡ isReady ear ⌝ }
-{
-    match ear {
-        Listener::Ready => true,
-        Listener::Holding => false,
-        Listener::Waiting => false,
-    }
 }
 
 fn responding(

@@ -5,7 +5,7 @@ use mathlib.Core.List.{List, [], _∷_}
 use lib.Dec.{ltb, eqb}
 use lib.ListN.{length}
 use Rattle.line.specs.declared.Lines.{Lines}
-use Rattle.message.specs.Answer.{Answer, gives, refused}
+use Rattle.message.specs.Answer.{Answer, gives, refused, kept}
 use Rattle.queue.specs.Queue.{room, queueWith, bytesWith, popped}
 use Rattle.queue.specs.declared.Popped.{Popped}
 use Rattle.queue.specs.declared.Popped.the-variants.{Byte as Front, Nothing as None}
@@ -43,10 +43,6 @@ stepping u seen busy buffer input =
     cond (ltb 15 (seen .nibble)) (refused 5) (cond (ltb (length buffer) 256) (refused 11) (gives (unitStep u seen busy buffer input)))
 
 -- A refusal changes no lent memory.
-abbrev pub kept : {A : Type 0} → Answer A → List ℕ → List ℕ → List ℕ
-kept (gives a) after before = after
-kept (refused k) after before = before
-
 abbrev pub bufferAfter : Unit → Lines → Bool → List ℕ → List ℕ → List ℕ
 bufferAfter u seen busy buffer input = kept (stepping u seen busy buffer input) (unitBuffer u seen buffer) buffer
 
