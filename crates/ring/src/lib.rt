@@ -79,9 +79,8 @@ impl Ring {
     pub fn is_marked(self, code: u8) -> bool
         ensures { λ r. ⌜ r ≡ isMarked code (live self) ⌝ }
     {
-        let at = self.find(code);
-        if at < self.len() {
-            let e = self.entry(at);
+        if self.has(code) {
+            let e = self.entry(self.find(code));
             return e.marked;
         }
         false

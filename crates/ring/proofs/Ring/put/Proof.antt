@@ -1,34 +1,41 @@
+-- `Ring::put` meets its contract: a slot that is set is an entry that is set.
+use Prim.Native.Nat.{_≤_, _<_}
+use native.Mathlib.Omega.{arith}
+use mathlib.Core.Path.{_≡_, sym, _∙_, ap}
 use borrow.Author.Needs.{needs}
+use lib.ListN.{length}
+use lib.Seq.{set-out}
+use Rattle.ring.specs.Ring.{ringOf, live, counted}
+use Rattle.ring.proofs.Laws.{mapped-length, length-live, live-within, put-in}
 use Rattle.ring.proofs.Ring.put.Statement.{statement}
 use Rattle.ring.proofs.Ring.put.Tie as tie
-use Rattle.ring.proofs.Ring.put.Reads as reads
-use Rattle.ring.proofs.Ring.put.Lts as lts
-use Rattle.ring.proofs.Ring.len.Reads as len-reads
-use Rattle.ring.proofs.Ring.normal.Reads as normal-reads
 
--- src/lib.rt:133:21
 normal-requires : tie.Need-normal-requires
 normal-requires c κs = search needs
 
--- src/lib.rt:134:17
 len-requires : tie.Need-len-requires
 len-requires c κs = search needs
 
--- src/lib.rt:135:13
 mul-e : tie.Need-mul-e
 mul-e c = search needs
 
--- src/lib.rt:135:13
 element-set-from-e : tie.Need-element-set-from-e
 element-set-from-e c = search needs
 
--- src/lib.rt:130:5
 returns : tie.Need-returns
-returns c = ?
+returns c =
+    let a = c .before .before .before .args in
+    let full : length (a .self .entries) ≡ 16 = search (needs, mapped-length) in
+    let long : length (live (a .self)) ≡ counted (a .self) = length-live (a .self) full in
+    let within : a .at < length (live (a .self)) = omega (arith, long, c .if1 .taken, c .before .len .ensures) in
+    put-in (live (a .self)) (c .before .before .normal .result) (a .at) (a .e) (c .before .before .normal .ensures) within
 
--- src/lib.rt:130:5
 returns-2 : tie.Need-returns-2
-returns-2 c = ?
+returns-2 c =
+    let a = c .before .before .before .args in
+    let within : length (live (a .self)) ≤ counted (a .self) = live-within (a .self) in
+    let past : length (live (a .self)) ≤ a .at = omega (arith, within, c .if1 .left, c .before .len .ensures) in
+    c .before .before .normal .ensures ∙ ap ringOf (sym (set-out (live (a .self)) (a .at) (a .e) past))
 
 pub put-spec : {M : Type 1} → statement M
 put-spec =

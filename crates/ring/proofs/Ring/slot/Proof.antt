@@ -1,30 +1,39 @@
+-- `Ring::slot` meets its contract: before the back, at the back, behind it.
+use Prim.Native.Nat.{_<_}
+use native.Mathlib.Omega.{arith}
+use mathlib.Core.Path.{_∙_}
 use borrow.Author.Needs.{needs}
+use lib.ListN.{length}
+use Rattle.ring.specs.Ring.{live, cutAt}
+use Rattle.ring.proofs.Laws.{back-before, back-at, back-past}
 use Rattle.ring.proofs.Ring.slot.Statement.{statement}
 use Rattle.ring.proofs.Ring.slot.Tie as tie
-use Rattle.ring.proofs.Ring.slot.Reads as reads
-use Rattle.ring.proofs.Ring.slot.Lts as lts
-use Rattle.ring.proofs.Ring.count_without.Reads as count-without-reads
-use Rattle.ring.proofs.Ring.slot_without.Reads as slot-without-reads
 
--- src/lib.rt:189:13
 count-without-requires : tie.Need-count-without-requires
 count-without-requires c κs = search needs
 
--- src/lib.rt:191:13
 slot-without-requires : tie.Need-slot-without-requires
 slot-without-requires c κs = search needs
 
--- src/lib.rt:191:13
 returns : tie.Need-returns
-returns c = ?
+returns c =
+    let a = c .before .before .before .args in
+    let l = cutAt (a .at) (live (a .self)) in
+    let within : a .i < length l = omega (arith, c .before .if1 .taken, c .before .before .count-without .ensures .0) in
+    c .slot-without .ensures ∙ back-before l (a .e) (a .i) within
 
--- src/lib.rt:194:13
 returns-2 : tie.Need-returns-2
-returns-2 c = ?
+returns-2 c =
+    let a = c .before .before .before .args in
+    let l = cutAt (a .at) (live (a .self)) in
+    back-at l (a .e) (a .i) (c .if2 .taken ∙ c .before .before .count-without .ensures .0)
 
--- src/lib.rt:186:5
 returns-3 : tie.Need-returns-3
-returns-3 c = ?
+returns-3 c =
+    let a = c .before .before .before .args in
+    let l = cutAt (a .at) (live (a .self)) in
+    let past : length l < a .i = omega (arith, c .if2 .left, c .before .if1 .left, c .before .before .count-without .ensures .0) in
+    back-past l (a .e) (a .i) past
 
 pub slot-spec : {M : Type 1} → statement M
 slot-spec =

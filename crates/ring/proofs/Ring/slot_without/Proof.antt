@@ -1,33 +1,35 @@
+-- `Ring::slot_without` meets its contract: before the gap nothing moves, behind it each entry moves up.
+use native.Mathlib.Numerals.{add-one}
+use mathlib.Core.Path.{sym, _∙_}
 use borrow.Author.Needs.{needs}
+use Rattle.ring.specs.Ring.{live}
+use Rattle.ring.proofs.Laws.{getD-cut-before, getD-cut-after, none-after-cut}
 use Rattle.ring.proofs.Ring.slot_without.Statement.{statement}
 use Rattle.ring.proofs.Ring.slot_without.Tie as tie
-use Rattle.ring.proofs.Ring.slot_without.Reads as reads
-use Rattle.ring.proofs.Ring.slot_without.Lts as lts
-use Rattle.ring.proofs.Ring.entry.Reads as entry-reads
 
--- src/lib.rt:203:13
 entry-requires : tie.Need-entry-requires
 entry-requires c κs = search needs
 
--- src/lib.rt:203:13
 returns : tie.Need-returns
-returns c = ?
+returns c =
+    let a = c .before .before .args in
+    c .entry .ensures ∙ sym (getD-cut-before (a .at) (a .i) (live (a .self)) (c .before .if1 .taken))
 
--- src/lib.rt:206:31
 add-entry : tie.Need-add-entry
 add-entry c = search needs
 
--- src/lib.rt:206:13
 entry-requires-2 : tie.Need-entry-requires-2
 entry-requires-2 c κs = search needs
 
--- src/lib.rt:206:13
 returns-2 : tie.Need-returns-2
-returns-2 c = ?
+returns-2 c =
+    let a = c .before .before .before .args in
+    c .entry2 .ensures ∙ rw add-one (sym (getD-cut-after (a .at) (a .i) (live (a .self)) (c .before .before .if1 .left)))
 
--- src/lib.rt:199:5
 returns-3 : tie.Need-returns-3
-returns-3 c = ?
+returns-3 c =
+    let a = c .before .before .args in
+    none-after-cut (a .self) (a .at) (a .i) (c .before .if1 .left) (c .if2 .left)
 
 pub slot-without-spec : {M : Type 1} → statement M
 slot-without-spec =

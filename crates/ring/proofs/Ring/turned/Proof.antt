@@ -1,36 +1,44 @@
+-- `Ring::turned` meets its contract: the front is cut and put at the back.
+use Prim.Native.Nat.{_≤_, _<_}
+use native.Mathlib.Omega.{arith}
+use mathlib.Core.Path.{_≡_, _∙_, ap}
+use mathlib.Core.List.{[], _∷_, _++_}
 use borrow.Author.Needs.{needs}
+use lib.ListN.{length}
+use Rattle.ring.specs.Ring.{ringOf, live, counted, cutAt}
+use Rattle.ring.specs.declared.Entry.{Entry}
+use Rattle.ring.proofs.Laws.{mapped-length, length-live, live-within, turned-empty, turned-some}
 use Rattle.ring.proofs.Ring.turned.Statement.{statement}
 use Rattle.ring.proofs.Ring.turned.Tie as tie
-use Rattle.ring.proofs.Ring.turned.Reads as reads
-use Rattle.ring.proofs.Ring.turned.Lts as lts
-use Rattle.ring.proofs.Ring.cut.Reads as cut-reads
-use Rattle.ring.proofs.Ring.entry.Reads as entry-reads
-use Rattle.ring.proofs.Ring.len.Reads as len-reads
-use Rattle.ring.proofs.Ring.moved.Reads as moved-reads
 
--- src/lib.rt:109:12
 len-requires : tie.Need-len-requires
 len-requires c κs = search needs
 
--- src/lib.rt:110:13
 cut-requires : tie.Need-cut-requires
 cut-requires c κs = search needs
 
--- src/lib.rt:110:13
 returns : tie.Need-returns
-returns c = ?
+returns c =
+    let r = c .before .before .before .args .self in
+    let within : length (live r) ≤ counted r = live-within r in
+    let empty : length (live r) ≤ 0 = omega (arith, within, c .before .if1 .taken, c .before .before .len .ensures) in
+    c .cut .ensures ∙ ap ringOf (turned-empty (live r) empty)
 
--- src/lib.rt:112:23
 entry-requires : tie.Need-entry-requires
 entry-requires c κs = search needs
 
--- src/lib.rt:112:9
 moved-requires : tie.Need-moved-requires
 moved-requires c κs = search needs
 
--- src/lib.rt:106:5
 returns-2 : tie.Need-returns-2
-returns-2 c = ?
+returns-2 c =
+    let r = c .before .before .before .before .args .self in
+    let full : length (r .entries) ≡ 16 = search (needs, mapped-length) in
+    let long : length (live r) ≡ counted r = length-live r full in
+    let some : 0 < length (live r) = omega (arith, long, c .before .before .if1 .left, c .before .before .before .len .ensures) in
+    c .moved .ensures
+    ∙ ap (λ (e : Entry). ringOf (cutAt 0 (live r) ++ (e ∷ []))) (c .before .entry .ensures)
+    ∙ ap ringOf (turned-some (live r) some)
 
 pub turned-spec : {M : Type 1} → statement M
 turned-spec =
