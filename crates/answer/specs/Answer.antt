@@ -38,11 +38,11 @@ byteTaken p b limit = cond (ltb (p .place) (start responseFormat)) (lengthTaken 
 
 -- The whole data bytes received for a submitted command stand at the front of the response buffer, each from the round its second
 -- nibble is taken; the rest is unchanged.
-abbrev pub bodyBuffer : Partial → ℕ → List ℕ → List ℕ
-bodyBuffer p b buffer = cond (isData p) (set buffer (p .place - start responseFormat) b) buffer
+abbrev pub bodyBuffer : Partial → ℕ → Bool → List ℕ → List ℕ
+bodyBuffer p b stores buffer = cond stores (cond (isData p) (set buffer (p .place - start responseFormat) b) buffer) buffer
 
 abbrev pub byteBuffer : Partial → ℕ → Bool → List ℕ → List ℕ
-byteBuffer p b stores buffer = cond (ltb (p .place) (start responseFormat)) buffer (cond stores (bodyBuffer p b buffer) buffer)
+byteBuffer p b stores buffer = cond (ltb (p .place) (start responseFormat)) buffer (bodyBuffer p b stores buffer)
 
 -- A response with one nibble more, while the buffer length field is `limit`. Past its end nothing is taken.
 abbrev pub halfTaken : Partial → ℕ → Partial

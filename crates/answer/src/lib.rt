@@ -103,9 +103,7 @@ fn take_byte(p: Partial, b: u8, limit: u16, stores: bool, buffer: &mut [u8]) -> 
     if in_length {
         return take_length(p, b, limit);
     }
-    if stores {
-        put(p, b, buffer);
-    }
+    put(p, b, stores, buffer);
     take_body(p, b)
 }
 
@@ -137,13 +135,15 @@ fn take_body(p: Partial, b: u8) -> Response
 }
 
 // Stores a byte of the data at its place of the lent buffer.
-fn put(p: Partial, b: u8, buffer: &mut [u8])
-    ensures { λ _. ⌜ now (buffer .exit) ≡ bodyBuffer p b (now (buffer .entry)) ⌝ }
+fn put(p: Partial, b: u8, stores: bool, buffer: &mut [u8])
+    ensures { λ _. ⌜ now (buffer .exit) ≡ bodyBuffer p b stores (now (buffer .entry)) ⌝ }
 {
-    let i = data_place(p.place) as usize;
-    if i < p.length as usize {
-        if i < buffer.len() {
-            buffer[i] = b;
+    if stores {
+        let i = data_place(p.place) as usize;
+        if i < p.length as usize {
+            if i < buffer.len() {
+                buffer[i] = b;
+            }
         }
     }
 }

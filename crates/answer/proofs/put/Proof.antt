@@ -1,41 +1,48 @@
+-- `answer::put` meets its contract: the nested tests are those of `bodyBuffer`; past the buffer nothing is set.
+use Prim.Native.Nat.{_-_, _<_, _≤_}
+use native.Mathlib.Omega.{arith}
+use mathlib.Core.Path.{sym}
+use borrow.Author.Tests.{lt-ltb, le-ltb, le-leb, lt-leb, eq-eqb, ne-eqb}
 use borrow.Author.Needs.{needs}
+use lib.ListN.{length}
+use lib.Seq.{set-out}
+use Rattle.message.specs.Format.{responseFormat, start}
 use Rattle.answer.proofs.put.Statement.{statement}
 use Rattle.answer.proofs.put.Tie as tie
-use Rattle.answer.proofs.put.Reads as reads
-use Rattle.answer.proofs.put.Lts as lts
-use Rattle.answer.proofs.data_place.Reads as data-place-reads
 
--- src/lib.rt:143:13
+ruleset tests = (lt-ltb, le-ltb, le-leb, lt-leb, eq-eqb, ne-eqb)
+
 data-place-requires : tie.Need-data-place-requires
 data-place-requires c κs = search needs
 
--- src/lib.rt:143:13
 cast-i : tie.Need-cast-i
 cast-i c = search needs
 
--- src/lib.rt:144:12
-cast-if1 : tie.Need-cast-if1
-cast-if1 c = search needs
+cast-if2 : tie.Need-cast-if2
+cast-if2 c = search needs
 
--- src/lib.rt:146:13
 slice-write-buffer : tie.Need-slice-write-buffer
 slice-write-buffer c = search needs
 
--- src/lib.rt:140:1
 same-length : tie.Need-same-length
 same-length c = search needs
 
--- src/lib.rt:140:1
 returns : tie.Need-returns
-returns c = ?
+returns c = simp (tests, c .before .before .before .before .if1 .taken) (simp (← (c .before .before .before .data-place .ensures)) (simp (tests, c .before .if2 .taken, c .if3 .taken)))
 
--- src/lib.rt:140:1
 returns-2 : tie.Need-returns-2
-returns-2 c = ?
+returns-2 c =
+    let a = c .before .before .before .before .before .before .args in
+    let e = c .before .before .before .data-place .ensures in
+    let low : a .p .place - start responseFormat < a .p .length = omega (arith, c .before .if2 .taken, e) in
+    let out : length (a .buffer .now) ≤ a .p .place - start responseFormat = omega (arith, c .if3 .left, e) in
+    simp (tests, c .before .before .before .before .if1 .taken, low) (sym (set-out (a .buffer .now) (a .p .place - start responseFormat) (a .b) out))
 
--- src/lib.rt:140:1
 returns-3 : tie.Need-returns-3
-returns-3 c = ?
+returns-3 c = simp (tests, c .before .before .before .if1 .taken) (simp (← (c .before .before .data-place .ensures)) (simp (tests, c .if2 .left)))
+
+returns-4 : tie.Need-returns-4
+returns-4 c = search needs
 
 pub put-spec : {M : Type 1} → statement M
 put-spec =
@@ -43,9 +50,10 @@ put-spec =
     (tie.spec
     data-place-requires
     cast-i
-    cast-if1
+    cast-if2
     slice-write-buffer
     same-length
     returns
     returns-2
-    returns-3)
+    returns-3
+    returns-4)

@@ -1,34 +1,28 @@
+-- `answer::take_body` meets its contract: data, then the status.
+use borrow.Author.Tests.{lt-ltb, le-ltb, le-leb, lt-leb, eq-eqb, ne-eqb}
 use borrow.Author.Needs.{needs}
 use Rattle.answer.proofs.take_body.Statement.{statement}
 use Rattle.answer.proofs.take_body.Tie as tie
-use Rattle.answer.proofs.take_body.Reads as reads
-use Rattle.answer.proofs.take_body.Lts as lts
-use Rattle.answer.proofs.data_place.Reads as data-place-reads
-use Rattle.answer.proofs.whole_bytes.Reads as whole-bytes-reads
 
--- src/lib.rt:133:8
+ruleset tests = (lt-ltb, le-ltb, le-leb, lt-leb, eq-eqb, ne-eqb)
+
 data-place-requires : tie.Need-data-place-requires
 data-place-requires c κs = search needs
 
--- src/lib.rt:133:28
 cast-if1 : tie.Need-cast-if1
 cast-if1 c = search needs
 
--- src/lib.rt:134:55
 add-whole-bytes : tie.Need-add-whole-bytes
 add-whole-bytes c = search needs
 
--- src/lib.rt:134:33
 whole-bytes-requires : tie.Need-whole-bytes-requires
 whole-bytes-requires c κs = search needs
 
--- src/lib.rt:134:9
 returns : tie.Need-returns
-returns c = ?
+returns c = simp (← (c .before .before .before .data-place .ensures)) (simp (tests, c .before .if1 .taken, c .whole-bytes .ensures))
 
--- src/lib.rt:129:1
 returns-2 : tie.Need-returns-2
-returns-2 c = ?
+returns-2 c = simp (← (c .before .before .data-place .ensures)) (simp (tests, c .if1 .left))
 
 pub take-body-spec : {M : Type 1} → statement M
 take-body-spec =

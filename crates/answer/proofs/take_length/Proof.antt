@@ -1,38 +1,28 @@
+-- `answer::take_length` meets its contract: the low byte, then the high one, which may make it too large.
 use borrow.Author.Needs.{needs}
 use Rattle.answer.proofs.take_length.Statement.{statement}
 use Rattle.answer.proofs.take_length.Tie as tie
-use Rattle.answer.proofs.take_length.Reads as reads
-use Rattle.answer.proofs.take_length.Lts as lts
-use Rattle.answer.proofs.whole_bytes.Reads as whole-bytes-reads
-use Rattle.field.proofs.with_byte.Reads as with-byte-reads
 
--- src/lib.rt:116:45
 cast-with-byte : tie.Need-cast-with-byte
 cast-with-byte c = search needs
 
--- src/lib.rt:116:9
 with-byte-requires : tie.Need-with-byte-requires
 with-byte-requires c κs = search needs
 
--- src/lib.rt:119:33
 whole-bytes-requires : tie.Need-whole-bytes-requires
 whole-bytes-requires c κs = search needs
 
--- src/lib.rt:119:9
 returns : tie.Need-returns
-returns c = ?
+returns c = simp (← (c .before .before .before .with-byte .ensures)) (simp (c .before .if1 .taken, c .whole-bytes .ensures))
 
--- src/lib.rt:123:9
 returns-2 : tie.Need-returns-2
-returns-2 c = ?
+returns-2 c = simp (← (c .before .before .before .with-byte .ensures)) (simp (c .before .if1 .left, c .if2 .taken))
 
--- src/lib.rt:125:22
 whole-bytes-requires-2 : tie.Need-whole-bytes-requires-2
 whole-bytes-requires-2 c κs = search needs
 
--- src/lib.rt:113:1
 returns-3 : tie.Need-returns-3
-returns-3 c = ?
+returns-3 c = simp (← (c .before .before .before .before .with-byte .ensures)) (simp (c .before .before .if1 .left, c .before .if2 .left, c .whole-bytes2 .ensures))
 
 pub take-length-spec : {M : Type 1} → statement M
 take-length-spec =

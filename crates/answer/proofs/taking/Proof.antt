@@ -1,30 +1,28 @@
+-- `answer::taking` meets its contract: the second nibble makes a byte.
 use borrow.Author.Needs.{needs}
 use Rattle.answer.proofs.taking.Statement.{statement}
 use Rattle.answer.proofs.taking.Tie as tie
-use Rattle.answer.proofs.taking.Reads as reads
-use Rattle.answer.proofs.taking.Lts as lts
-use Rattle.answer.proofs.take_byte.Reads as take-byte-reads
-use Rattle.field.proofs.byte_of.Reads as byte-of-reads
 
--- src/lib.rt:91:29
 byte-of-requires : tie.Need-byte-of-requires
 byte-of-requires c κs = search needs
 
--- src/lib.rt:91:9
 take-byte-requires : tie.Need-take-byte-requires
 take-byte-requires c κs = search needs
 
--- src/lib.rt:91:9
 same-length : tie.Need-same-length
 same-length c = search needs
 
--- src/lib.rt:91:9
 returns : tie.Need-returns
-returns c = ?
+returns c = (
+  simp (c .before .before .before .before .before .if1 .taken) (simp (← (c .before .before .before .before .byte-of .ensures)) (c .before .before .take-byte .ensures .0)),
+  simp (c .before .before .before .before .before .if1 .taken) (simp (← (c .before .before .before .before .byte-of .ensures)) (c .before .before .take-byte .ensures .1)),
+)
 
--- src/lib.rt:87:1
 returns-2 : tie.Need-returns-2
-returns-2 c = ?
+returns-2 c = (
+  simp (c .if1 .left),
+  simp (c .if1 .left),
+)
 
 pub taking-spec : {M : Type 1} → statement M
 taking-spec =
