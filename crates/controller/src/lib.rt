@@ -183,7 +183,7 @@ pub fn step(c: Controller, seen: Lines, busy: bool, data: &[u8], response: &mut 
         };
     }
     let stage = c.stage;
-    match frame::lent(stage, data.len(), response.len()) {
+    match frame::check(stage, data.len(), response.len()) {
         Lent::Fits => round(c, seen, busy, data, response),
         Lent::Data => Stepped {
             controller: c,

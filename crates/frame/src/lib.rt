@@ -1,8 +1,9 @@
 // A frame of the controller, round by round on the lines; the ring is not seen here.
 ghost use mathlib.Core.Path.{_≡_};
-ghost use mathlib.Core.Bool.{cond};
+ghost use mathlib.Core.Bool.{_&&_};
 ghost use Rattle.frame.specs.Frame.{bare, submittedFrame, pollOf, nullFrame, isSubmitted, begun, dataOf, nibbleOf, lastNibble, nextNibble, sendingStep, stays, over, waited, listeningStep, listeningBuffer, restStep, frameStep, frameBuffer, lentTo, lentAt, pullsOf};
-ghost use Rattle.line.specs.Line.{sendOf};
+ghost use Rattle.answer.specs.Answer.{isOver};
+ghost use Rattle.line.specs.Line.{sendOf, isReady};
 use answer::Response;
 use header::Command;
 use line::Lines;
@@ -139,15 +140,15 @@ pub fn pulls(stage: Stage) -> Lines
 }
 
 // Whether n bytes of data and a response buffer of so many bytes are what a step is to be lent. Only a submitted frame looks at them.
-pub fn lent(stage: Stage, n: usize, room: usize) -> Lent
+pub fn check(stage: Stage, n: usize, room: usize) -> Lent
     ensures { λ r. ⌜ r ≡ lentAt stage n room ⌝ }
 {
     match stage {
         Stage::Free => Lent::Fits,
         Stage::Resting(_) => Lent::Fits,
-        Stage::Waiting(f) => lent_to(f, n, room),
-        Stage::Sending(f, _, _, _) => lent_to(f, n, room),
-        Stage::Listening(f, _, _, _) => lent_to(f, n, room),
+        Stage::Waiting(f) => check_frame(f, n, room),
+        Stage::Sending(f, _, _, _) => check_frame(f, n, room),
+        Stage::Listening(f, _, _, _) => check_frame(f, n, room),
     }
 }
 
@@ -267,12 +268,20 @@ fn waits(f: Frame, ear: Listener, response: Response, timeout: u16, quiet: u32) 
     if timeout as u32 <= quiet {
         return over(f, response);
     }
-    if response.is_over() {
-        if ear.is_ready() {
-            return over(f, response);
-        }
+    if has_ended(response, ear) {
+        return over(f, response);
     }
     stays(Stage::Listening(f, ear, response, quiet as u16))
+}
+
+// Whether HSK was seen high after the response's last nibble, or after a length that is too large.
+fn has_ended(response: Response, ear: Listener) -> bool
+    ensures { λ r. ⌜ r ≡ isOver response && isReady ear ⌝ }
+{
+    if response.is_over() {
+        return ear.is_ready();
+    }
+    false
 }
 
 fn over(f: Frame, response: Response) -> Moved
@@ -284,7 +293,7 @@ fn over(f: Frame, response: Response) -> Moved
     }
 }
 
-fn lent_to(f: Frame, n: usize, room: usize) -> Lent
+fn check_frame(f: Frame, n: usize, room: usize) -> Lent
     ensures { λ r. ⌜ r ≡ lentTo f n room ⌝ }
 {
     let kind = f.kind;
