@@ -7,13 +7,14 @@ use lib.ListN.{length}
 use Rattle.frame.specs.Frame.{submittedFrame, frameBuffer, lentAt}
 use Rattle.frame.specs.declared.Lent.{Lent}
 use Rattle.frame.specs.declared.Lent.the-variants.{Fits, Data as OtherData, Buffer as ShortBuffer}
+use Rattle.frame.specs.declared.Moved.{Moved}
 use Rattle.frame.specs.declared.Stage.the-variants.{Waiting}
 use Rattle.header.specs.declared.Command.{Command}
 use Rattle.line.specs.declared.Lines.{Lines}
 use Rattle.message.specs.Answer.{Answer, gives, refused, kept}
 use Rattle.ring.specs.Ring.{counted, live, ringOf, isIn, isMarked, withMark}
 use Rattle.ring.specs.declared.Ring.{Ring}
-use Rattle.controller.specs.Controller.{controllerOf, newController, isIdle, controllerStep, eventOf}
+use Rattle.controller.specs.Controller.{controllerOf, newController, isIdle, ringAfter, eventAfter, controllerStep, eventOf}
 use Rattle.controller.specs.declared.Controller.{Controller}
 use Rattle.controller.specs.declared.Event.{Event}
 use Rattle.controller.specs.declared.Making.{Making}
@@ -89,6 +90,9 @@ stepped Buffer = refused 11
 
 abbrev pub wentOn : Controller → Event → Stepped
 wentOn c event = record { controller = c; outcome = On event }
+
+abbrev pub going : Controller → Moved → Stepped
+going c m = wentOn (controllerOf (c .timeout) (m .stage) (ringAfter (c .ring) (m .end))) (eventAfter (m .end))
 
 -- A refused step sees nothing: it changes neither state nor lent memory.
 abbrev pub controllerStepped : Controller → Lines → Bool → List ℕ → List ℕ → Controller

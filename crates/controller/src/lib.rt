@@ -2,7 +2,7 @@
 ghost use mathlib.Core.Path.{_≡_};
 ghost use lib.ListN.{length};
 ghost use Rattle.controller.specs.Controller.{controllerOf, newController, isIdle, turnOf, service, idleStep, ringWith, ringEnded, handed, eventBy, ringAfter, eventAfter, controllerStep, eventOf, isSubmitted, mayStart, looksOf};
-ghost use Rattle.controller.specs.Calls.{making, made, controllerMade, submitting, submitted, controllerSubmitted, stepping, stepped, controllerStepped, bufferAfter, acknowledging, acknowledged, controllerAcknowledged, wentOn};
+ghost use Rattle.controller.specs.Calls.{making, made, controllerMade, submitting, submitted, controllerSubmitted, stepping, stepped, controllerStepped, bufferAfter, acknowledging, acknowledged, controllerAcknowledged, isShutOut, wentOn, going};
 ghost use Rattle.frame.specs.Frame.{pullsOf, frameBuffer};
 use frame::End;
 use frame::Frame;
@@ -321,12 +321,18 @@ fn round(c: Controller, seen: Lines, busy: bool, data: &[u8], buffer: &mut [u8])
     if is_idle(stage) {
         return went_on(idle(c, seen.bav), Event::Nothing);
     }
-    let m = frame::step(stage, c.timeout, seen, busy, data, buffer);
-    let next = m.stage;
+    going(c, frame::step(stage, c.timeout, seen, busy, data, buffer))
+}
+
+// A round of a frame or of its rest.
+fn going(c: Controller, m: Moved) -> Stepped
+    ensures { λ r. ⌜ r ≡ going c m ⌝ }
+{
+    let stage = m.stage;
     let end = m.end;
     match end {
-        End::NotYet => went_on(with_stage(c, next), Event::Nothing),
-        End::Over(f, status, count) => concluded(with_stage(c, next), f, status, count),
+        End::NotYet => went_on(with_stage(c, stage), Event::Nothing),
+        End::Over(f, status, count) => concluded(with_stage(c, stage), f, status, count),
     }
 }
 

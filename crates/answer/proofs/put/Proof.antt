@@ -2,15 +2,13 @@
 use Prim.Native.Nat.{_-_, _<_, _≤_}
 use native.Mathlib.Omega.{arith}
 use mathlib.Core.Path.{sym}
-use borrow.Author.Tests.{lt-ltb, le-ltb, le-leb, lt-leb, eq-eqb, ne-eqb}
 use borrow.Author.Needs.{needs}
 use lib.ListN.{length}
 use lib.Seq.{set-out}
+use Rattle.field.proofs.Rules.{tests}
 use Rattle.message.specs.Format.{responseFormat, start}
 use Rattle.answer.proofs.put.Statement.{statement}
 use Rattle.answer.proofs.put.Tie as tie
-
-ruleset tests = (lt-ltb, le-ltb, le-leb, lt-leb, eq-eqb, ne-eqb)
 
 data-place-requires : tie.Need-data-place-requires
 data-place-requires c κs = search needs

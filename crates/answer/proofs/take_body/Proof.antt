@@ -1,10 +1,8 @@
 -- `answer::take_body` meets its contract: data, then the status.
-use borrow.Author.Tests.{lt-ltb, le-ltb, le-leb, lt-leb, eq-eqb, ne-eqb}
 use borrow.Author.Needs.{needs}
+use Rattle.field.proofs.Rules.{tests}
 use Rattle.answer.proofs.take_body.Statement.{statement}
 use Rattle.answer.proofs.take_body.Tie as tie
-
-ruleset tests = (lt-ltb, le-ltb, le-leb, lt-leb, eq-eqb, ne-eqb)
 
 data-place-requires : tie.Need-data-place-requires
 data-place-requires c κs = search needs

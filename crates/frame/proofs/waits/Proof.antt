@@ -1,10 +1,8 @@
 -- `frame::waits` meets its contract: the time-out, then the end of the response.
-use borrow.Author.Tests.{lt-ltb, le-ltb, le-leb, lt-leb, eq-eqb, ne-eqb}
 use borrow.Author.Needs.{needs}
+use Rattle.field.proofs.Rules.{tests}
 use Rattle.frame.proofs.waits.Statement.{statement}
 use Rattle.frame.proofs.waits.Tie as tie
-
-ruleset tests = (lt-ltb, le-ltb, le-leb, lt-leb, eq-eqb, ne-eqb)
 
 over-requires : tie.Need-over-requires
 over-requires c κs = search needs
