@@ -304,8 +304,8 @@ fn may_start(stage: Stage) -> bool
 fn is_shut_out(k: Command, ring: Ring) -> bool
     ensures { λ r. ⌜ r ≡ isShutOut k ring ⌝ }
 {
-    let enables = k.command == 0x08;
-    if enables {
+    let would_join = k.command == 0x08;
+    if would_join {
         if ring.has(k.device) {
             return false;
         }
@@ -442,8 +442,8 @@ fn event_of(f: Frame, status: u8, count: u16) -> Event
 fn handed(code: u8, status: u8) -> Event
     ensures { λ r. ⌜ r ≡ handed code status ⌝ }
 {
-    let is_good = status == 0x00;
-    if is_good {
+    let is_held = status == 0x00;
+    if is_held {
         return Event::Handed(code);
     }
     Event::Nothing

@@ -1,8 +1,8 @@
 -- Document 01, "Marked cases": what the definitions give beside what the paper says, in one list.
 use Prim.Native.Nat.{ℕ}
 use mathlib.Core.Path.{_≡_}
-use mathlib.Core.Bool.{false}
-use mathlib.Core.List.{List, [], _∷_, map}
+use mathlib.Core.Bool.{true, false}
+use mathlib.Core.List.{List, [], _∷_, _++_, map}
 use lib.ListN.{length, replicate, take}
 use Rattle.field.specs.Field.{nibbles}
 use Rattle.message.specs.Answer.{Answer, gives, refused}
@@ -10,16 +10,24 @@ use Rattle.message.specs.Format.{commandFormat, bytesOf, least}
 use Rattle.message.specs.Reading.{reading}
 use Rattle.message.specs.Writing.{writing, writtenAs}
 use Rattle.command.specs.Command.{messageOf}
+use Rattle.controller.specs.Calls.{controllerSubmitted}
+use Rattle.controller.specs.Controller.{controllerOf, controllerStep}
+use Rattle.controller.specs.declared.Controller.{Controller}
+use Rattle.frame.specs.declared.Stage.the-variants.{Free}
 use Rattle.header.specs.declared.Command.{Command}
+use Rattle.line.specs.declared.Lines.{Lines}
 use Rattle.queue.specs.Queue.{contents, emptyQueue}
 use Rattle.reply.specs.Reply.{responseBytes}
+use Rattle.ring.specs.Ring.{entryOf, live, ringOf}
+use Rattle.ring.specs.declared.Entry.{Entry}
 use Rattle.serial.specs.Serial.{newSerial, verdictOf, applied}
 use Rattle.serial.specs.declared.Serial.{Serial}
 
--- What a case is about: bytes, nibbles, the number of a refusal, or that none came.
+-- What a case is about: bytes, nibbles, a ring's codes in order, the number of a refusal, or that none came.
 pub data Outcome : Type 0 where
   bytes : List ℕ → Outcome
   inNibbles : List ℕ → Outcome
+  inRing : List ℕ → Outcome
   refusal : ℕ → Outcome
   done : Outcome
 
@@ -65,6 +73,41 @@ withThree = record {
 abbrev pub three : List ℕ
 three = 0x41 ∷ 0x42 ∷ 0x43 ∷ []
 
+-- A controller after rounds with these levels, its host not busy.
+abbrev pub after : Controller → List Lines → Controller
+after c [] = c
+after c (seen ∷ rest) = after (controllerStep c seen false []) rest
+
+-- Levels: HSK high while BAV is low; an answer 00 00 00, each of its six nibbles with HSK low, then high.
+abbrev pub hskHigh : Lines
+hskHigh = record { bav = true; hsk = false; nibble = 15 }
+
+abbrev pub hskLow : ℕ → Lines
+hskLow nibble = record { bav = true; hsk = true; nibble = nibble }
+
+abbrev pub nibbleSent : ℕ → List Lines
+nibbleSent nibble = hskLow nibble ∷ hskHigh ∷ hskHigh ∷ []
+
+abbrev pub goodAnswer : List Lines
+goodAnswer = nibbleSent 0 ++ (nibbleSent 0 ++ (nibbleSent 0 ++ (nibbleSent 0 ++ (nibbleSent 0 ++ nibbleSent 0))))
+
+-- Ring 20, 21, 22 with time-out 8. A frame of 18 nibbles takes 56 rounds until it listens, then 8 to the time-out; 2 of rest follow.
+abbrev pub threeUnits : Controller
+threeUnits = controllerOf 8 Free (ringOf (entryOf 20 false ∷ entryOf 21 false ∷ entryOf 22 false ∷ []))
+
+abbrev pub enable23 : Command
+enable23 = record { device = 23; command = 0x08; «logical_unit» = 0; «record_number» = 0; «buffer_length» = 0 }
+
+-- One service frame from idle; then 08 to 23 is submitted, its frame begins, and its answer is 00.
+abbrev pub afterService : Controller
+afterService = after threeUnits (replicate 66 hskHigh)
+
+abbrev pub afterJoin : Controller
+afterJoin = after (controllerSubmitted afterService enable23 0 0) (replicate 56 hskHigh ++ goodAnswer)
+
+abbrev pub codesIn : Controller → List ℕ
+codesIn c = map (λ (e : Entry). e .code) (live (c .ring))
+
 abbrev pub cases : List Case
 cases =
     -- M1: the bytes; first nibbles 4, 1
@@ -88,6 +131,9 @@ cases =
     record { given = bytes (answerOf withThree three (readDevice20 2) []); paper = bytes (0x02 ∷ 0x00 ∷ 0x41 ∷ 0x42 ∷ 0x00 ∷ []) } ∷
     -- M8: read when opened with attributes 80 (output)
     record { given = bytes (answerOf (unitAfter newSerial openDevice20 (0x50 ∷ 0x00 ∷ 0x80 ∷ [])) [] (readDevice20 5) []); paper = bytes (0x00 ∷ 0x00 ∷ 0x0F ∷ []) } ∷
+    -- M9: ring 20, 21, 22; after one service frame, 23 joins
+    record { given = inRing (codesIn threeUnits); paper = inRing (20 ∷ 21 ∷ 22 ∷ []) } ∷
+    record { given = inRing (codesIn afterJoin); paper = inRing (21 ∷ 22 ∷ 20 ∷ 23 ∷ []) } ∷
     -- M10: command slices of 8 bytes, and of 9 bytes announcing 1
     record { given = outcome (reading commandFormat (replicate 8 0)); paper = refusal 9 } ∷
     record { given = outcome (reading commandFormat (0 ∷ 0 ∷ 0 ∷ 0 ∷ 0 ∷ 0 ∷ 0 ∷ 1 ∷ 0 ∷ [])); paper = refusal 10 } ∷
