@@ -9,7 +9,7 @@ use Rattle.frame.specs.declared.Moved.{Moved}
 use Rattle.frame.specs.declared.Stage.{Stage}
 use Rattle.frame.specs.declared.Stage.the-variants.{Free, Resting, Waiting, Sending, Listening}
 use Rattle.line.specs.declared.Lines.{Lines}
-use Rattle.controller.specs.Controller.{controllerOf, isIdle, ringAfter, eventAfter, frameOf, controllerStep, eventOf}
+use Rattle.controller.specs.Controller.{controllerOf, isIdle, ringAfter, eventAfter, frameOf, controllerStep, eventIn}
 use Rattle.controller.specs.Calls.{wentOn, going}
 use Rattle.controller.specs.declared.Controller.{Controller}
 
@@ -21,7 +21,7 @@ idle-buffer (Sending f i sender wait) seen buffer p = refl
 idle-buffer (Listening f ear response quiet) seen buffer p = cc
 
 pub goes-on : (c : Controller) (seen : Lines) (busy : Bool) (d : List ℕ) → isIdle (c .stage) ≡ false
-    → going c (frameOf c seen busy d) ≡ wentOn (controllerStep c seen busy d) (eventOf c seen busy d)
+    → going c (frameOf c seen busy d) ≡ wentOn (controllerStep c seen busy d) (eventIn c seen busy d)
 goes-on c seen busy d p = rw p
 
 pub ends-so : (c d : Controller) (m : Moved) (e : End) → d ≡ controllerOf (c .timeout) (m .stage) (c .ring) → m .end ≡ e

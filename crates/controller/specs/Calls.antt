@@ -14,9 +14,9 @@ use Rattle.line.specs.declared.Lines.{Lines}
 use Rattle.message.specs.Answer.{Answer, gives, refused, kept}
 use Rattle.ring.specs.Ring.{counted, live, ringOf, isIn, isMarked, withMark}
 use Rattle.ring.specs.declared.Ring.{Ring}
-use Rattle.controller.specs.Controller.{controllerOf, newController, isIdle, ringAfter, eventAfter, controllerStep, eventOf}
+use Rattle.controller.specs.Controller.{controllerOf, newController, isIdle, ringAfter, eventAfter, controllerStep, eventIn}
 use Rattle.controller.specs.declared.Controller.{Controller}
-use Rattle.controller.specs.declared.Event.{Event}
+use Rattle.turn.specs.declared.Event.{Event}
 use Rattle.controller.specs.declared.Making.{Making}
 use Rattle.controller.specs.declared.Making.the-variants.{New, Setting}
 use Rattle.controller.specs.declared.Submitting.{Submitting}
@@ -80,7 +80,7 @@ ifLent ShortBuffer event = refused 11
 
 abbrev pub stepping : Controller → Lines → Bool → List ℕ → List ℕ → Answer Event
 stepping c seen busy d buffer =
-    cond (ltb 15 (seen .nibble)) (refused 5) (ifLent (lentAt (c .stage) (length d) (length buffer)) (eventOf c seen busy d))
+    cond (ltb 15 (seen .nibble)) (refused 5) (ifLent (lentAt (c .stage) (length d) (length buffer)) (eventIn c seen busy d))
 
 abbrev pub stepped : Stepping → Answer Event
 stepped (On event) = gives event

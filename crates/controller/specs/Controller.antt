@@ -1,26 +1,22 @@
 -- Document 01, "The controller and its ring": the controller's round.
 use Prim.Native.Nat.{ℕ}
-use mathlib.Core.Bool.{Bool, true, false, cond, _||_, _&&_}
+use mathlib.Core.Bool.{Bool, true, false, cond, _||_}
 use mathlib.Core.List.{List, []}
-use lib.Dec.{ltb, eqb}
+use lib.Dec.{eqb}
 use lib.ListN.{getD}
-use Rattle.frame.specs.Frame.{pollOf, nullFrame, begun, frameStep}
+use Rattle.frame.specs.Frame.{begun, frameStep}
 use Rattle.frame.specs.declared.End.{End}
 use Rattle.frame.specs.declared.End.the-variants.{NotYet, Over}
-use Rattle.frame.specs.declared.Frame.{Frame}
-use Rattle.frame.specs.declared.Kind.{Kind}
-use Rattle.frame.specs.declared.Kind.the-variants.{Submitted, Poll, Null}
 use Rattle.frame.specs.declared.Moved.{Moved}
 use Rattle.frame.specs.declared.Stage.{Stage}
 use Rattle.frame.specs.declared.Stage.the-variants.{Free, Resting, Waiting, Sending, Listening}
-use Rattle.header.specs.declared.Command.{Command}
 use Rattle.line.specs.declared.Lines.{Lines}
-use Rattle.ring.specs.Ring.{none, counted, live, ringOf, joined, removed, turned, withMark}
-use Rattle.ring.specs.declared.Entry.{Entry}
+use Rattle.ring.specs.Ring.{none, counted, live, ringOf, turned}
 use Rattle.ring.specs.declared.Ring.{Ring}
+use Rattle.turn.specs.Turn.{turnOf, ringEnded, eventOf}
+use Rattle.turn.specs.declared.Event.{Event}
+use Rattle.turn.specs.declared.Event.the-variants.{Nothing}
 use Rattle.controller.specs.declared.Controller.{Controller}
-use Rattle.controller.specs.declared.Event.{Event}
-use Rattle.controller.specs.declared.Event.the-variants.{Nothing, Ended, Handed}
 use Rattle.controller.specs.declared.Looks.{Looks}
 
 abbrev pub controllerOf : ℕ → Stage → Ring → Controller
@@ -38,41 +34,12 @@ isIdle (Waiting f) = false
 isIdle (Sending f i sender wait) = false
 isIdle (Listening f ear response quiet) = false
 
--- The frame of an entry's turn. Unmarked: it is polled. Marked: a null message is sent.
-abbrev pub turnOf : Entry → Frame
-turnOf e = cond (e .marked) nullFrame (pollOf (e .code))
-
 -- Idle and seeing BAV low with the ring not empty, it begins a service frame. The front entry moves to the back as the frame begins.
 abbrev pub service : Controller → Controller
 service c = controllerOf (c .timeout) (begun (turnOf (getD (live (c .ring)) 0 none))) (ringOf (turned (live (c .ring))))
 
 abbrev pub idleStep : Controller → Bool → Controller
 idleStep c bav = cond bav (cond (eqb (counted (c .ring)) 0) c (service c)) c
-
--- The ring after a submitted command that ended with a status: 08 ending with 00 joins, 09 or 01 ending with 00 removes. A bus
--- reset leaves the ring as it is.
-abbrev pub ringWith : Ring → Command → Ring
-ringWith ring c =
-    cond (eqb (c .command) 0x08) (ringOf (joined (c .device) (live ring)))
-    (cond (eqb (c .command) 0x09 || eqb (c .command) 0x01) (ringOf (removed (c .device) (live ring))) ring)
-
--- The ring after a frame of a kind whose operation ended with 00. A poll marks its entry; an answer to a null message is dropped.
-abbrev pub ringBy : Kind → Ring → Command → Ring
-ringBy Submitted ring c = ringWith ring c
-ringBy Poll ring c = ringOf (withMark true (c .device) (live ring))
-ringBy Null ring c = ring
-
-abbrev pub ringEnded : Ring → Frame → ℕ → Ring
-ringEnded ring f status = cond (eqb status 0x00) (ringBy (f .kind) ring (f .command)) ring
-
--- What the application is told: how its command ended, or that a request of this code is handed to it.
-abbrev pub handed : ℕ → ℕ → Event
-handed code status = cond (eqb status 0x00) (Handed code) Nothing
-
-abbrev pub eventBy : Kind → Command → ℕ → ℕ → Event
-eventBy Submitted c status count = Ended status count
-eventBy Poll c status count = handed (c .device) status
-eventBy Null c status count = Nothing
 
 -- The ring after a round, and what the application is told of it.
 abbrev pub ringAfter : Ring → End → Ring
@@ -81,7 +48,7 @@ ringAfter ring (Over f status count) = ringEnded ring f status
 
 abbrev pub eventAfter : End → Event
 eventAfter NotYet = Nothing
-eventAfter (Over f status count) = eventBy (f .kind) (f .command) status count
+eventAfter (Over f status count) = eventOf f status count
 
 -- The round.
 abbrev pub frameOf : Controller → Lines → Bool → List ℕ → Moved
@@ -92,8 +59,8 @@ controllerStep c seen busy d =
     cond (isIdle (c .stage)) (idleStep c (seen .bav))
     (controllerOf (c .timeout) (frameOf c seen busy d .stage) (ringAfter (c .ring) (frameOf c seen busy d .end)))
 
-abbrev pub eventOf : Controller → Lines → Bool → List ℕ → Event
-eventOf c seen busy d = cond (isIdle (c .stage)) Nothing (eventAfter (frameOf c seen busy d .end))
+abbrev pub eventIn : Controller → Lines → Bool → List ℕ → Event
+eventIn c seen busy d = cond (isIdle (c .stage)) Nothing (eventAfter (frameOf c seen busy d .end))
 
 -- What an application may look at: the ring in order with its marks, whether no frame or rest runs, whether a command is submitted.
 abbrev pub isSubmitted : Stage → Bool

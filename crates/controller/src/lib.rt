@@ -1,19 +1,18 @@
 // The controller: its settings and state, its round, and the calls of its application.
 ghost use mathlib.Core.Path.{_≡_};
 ghost use lib.ListN.{length};
-ghost use Rattle.controller.specs.Controller.{controllerOf, newController, isIdle, turnOf, service, idleStep, ringWith, ringEnded, handed, eventBy, ringAfter, eventAfter, controllerStep, eventOf, isSubmitted, mayStart, looksOf};
+ghost use Rattle.controller.specs.Controller.{controllerOf, newController, isIdle, service, idleStep, ringAfter, eventAfter, controllerStep, eventIn, isSubmitted, mayStart, looksOf};
 ghost use Rattle.controller.specs.Calls.{making, made, controllerMade, submitting, submitted, controllerSubmitted, stepping, stepped, controllerStepped, bufferAfter, acknowledging, acknowledged, controllerAcknowledged, isShutOut, wentOn, going};
 ghost use Rattle.frame.specs.Frame.{pullsOf, frameBuffer};
 use frame::End;
 use frame::Frame;
-use frame::Kind;
 use frame::Lent;
 use frame::Moved;
 use frame::Stage;
 use header::Command;
 use line::Lines;
-use ring::Entry;
 use ring::Ring;
+use turn::Event;
 
 // The time-out count of a controller where nobody asks for another.
 pub const TIMEOUT: u32 = 200;
@@ -25,15 +24,6 @@ pub struct Controller {
     pub stage: Stage,
     // What only service frames, joins, removals and acknowledgements touch.
     pub ring: Ring,
-}
-
-// What the application is told of a round.
-pub enum Event {
-    Nothing,
-    // Its command ended with a status; so many data bytes stand at the front of the response buffer.
-    Ended(u8, u16),
-    // A request of this code is handed to it.
-    Handed(u8),
 }
 
 // What making a controller comes to. Beside a refusal stands one with the default time-out.
@@ -315,7 +305,7 @@ fn is_shut_out(k: Command, ring: Ring) -> bool
 }
 
 fn round(c: Controller, seen: Lines, busy: bool, data: &[u8], buffer: &mut [u8]) -> Stepped
-    ensures { λ r. ⌜ (r ≡ wentOn (controllerStep c seen busy (now («data» .entry))) (eventOf c seen busy (now («data» .entry)))) × (now (buffer .exit) ≡ frameBuffer (c .stage) seen (now (buffer .entry))) ⌝ }
+    ensures { λ r. ⌜ (r ≡ wentOn (controllerStep c seen busy (now («data» .entry))) (eventIn c seen busy (now («data» .entry)))) × (now (buffer .exit) ≡ frameBuffer (c .stage) seen (now (buffer .entry))) ⌝ }
 {
     let stage = c.stage;
     if is_idle(stage) {
@@ -364,21 +354,12 @@ fn service(c: Controller) -> Controller
     ensures { λ r. ⌜ r ≡ service c ⌝ }
 {
     let ring = c.ring;
-    let stage = frame::begin(turn_of(ring.entry(0)));
+    let stage = frame::begin(turn::frame_of(ring.entry(0)));
     Controller {
         timeout: c.timeout,
         stage,
         ring: ring.turned(),
     }
-}
-
-fn turn_of(e: Entry) -> Frame
-    ensures { λ r. ⌜ r ≡ turnOf e ⌝ }
-{
-    if e.marked {
-        return frame::null();
-    }
-    frame::poll(e.code)
 }
 
 // A frame has ended.
@@ -387,64 +368,7 @@ fn concluded(c: Controller, f: Frame, status: u8, count: u16) -> Stepped
 {
     let ring = c.ring;
     went_on(
-        with_ring(c, ring_after(ring, f, status)),
-        event_of(f, status, count),
+        with_ring(c, turn::ring_after(ring, f, status)),
+        turn::event_of(f, status, count),
     )
-}
-
-fn ring_after(ring: Ring, f: Frame, status: u8) -> Ring
-    ensures { λ r. ⌜ r ≡ ringEnded ring f status ⌝ }
-{
-    let kind = f.kind;
-    let k = f.command;
-    let is_good = status == 0x00;
-    if is_good {
-        return match kind {
-            Kind::Submitted => ring_with(ring, k),
-            Kind::Poll => ring.with_mark(k.device, true),
-            Kind::Null => ring,
-        };
-    }
-    ring
-}
-
-fn ring_with(ring: Ring, k: Command) -> Ring
-    ensures { λ r. ⌜ r ≡ ringWith ring k ⌝ }
-{
-    let enables = k.command == 0x08;
-    if enables {
-        return ring.joined(k.device);
-    }
-    let disables = k.command == 0x09;
-    if disables {
-        return ring.removed(k.device);
-    }
-    let closes = k.command == 0x01;
-    if closes {
-        return ring.removed(k.device);
-    }
-    ring
-}
-
-fn event_of(f: Frame, status: u8, count: u16) -> Event
-    ensures { λ r. ⌜ r ≡ eventBy (f .kind) (f .command) status count ⌝ }
-{
-    let kind = f.kind;
-    let k = f.command;
-    match kind {
-        Kind::Submitted => Event::Ended(status, count),
-        Kind::Poll => handed(k.device, status),
-        Kind::Null => Event::Nothing,
-    }
-}
-
-// A poll that ends with 00 hands its code to the application.
-fn handed(code: u8, status: u8) -> Event
-    ensures { λ r. ⌜ r ≡ handed code status ⌝ }
-{
-    let is_held = status == 0x00;
-    if is_held {
-        return Event::Handed(code);
-    }
-    Event::Nothing
 }

@@ -6,8 +6,8 @@ use Rattle.controller.proofs.service.Tie as tie
 entry-requires : tie.Need-entry-requires
 entry-requires c κs = search needs
 
-turn-of-requires : tie.Need-turn-of-requires
-turn-of-requires c κs = search needs
+frame-of-requires : tie.Need-frame-of-requires
+frame-of-requires c κs = search needs
 
 begin-requires : tie.Need-begin-requires
 begin-requires c κs = search needs
@@ -16,8 +16,8 @@ turned-requires : tie.Need-turned-requires
 turned-requires c κs = search needs
 
 returns : tie.Need-returns
-returns c = simp (← (c .before .before .before .entry .ensures), ← (c .before .before .turn-of .ensures), ← (c .before .begin .ensures)) (simp (c .turned .ensures))
+returns c = simp (← (c .before .before .before .entry .ensures), ← (c .before .before .frame-of .ensures), ← (c .before .begin .ensures)) (simp (c .turned .ensures))
 
 pub service-spec : {M : Type 1} → statement M
 service-spec =
-    tie.close (tie.spec entry-requires turn-of-requires begin-requires turned-requires returns)
+    tie.close (tie.spec entry-requires frame-of-requires begin-requires turned-requires returns)

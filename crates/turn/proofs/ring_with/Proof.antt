@@ -1,7 +1,7 @@
--- `controller::ring_with` meets its contract: 08 joins, 09 and 01 remove.
+-- `turn::ring_with` meets its contract: 08 joins, 09 and 01 remove.
 use borrow.Author.Needs.{needs}
-use Rattle.controller.proofs.ring_with.Statement.{statement}
-use Rattle.controller.proofs.ring_with.Tie as tie
+use Rattle.turn.proofs.ring_with.Statement.{statement}
+use Rattle.turn.proofs.ring_with.Tie as tie
 
 joined-requires : tie.Need-joined-requires
 joined-requires c κs = search needs

@@ -1,7 +1,7 @@
--- `controller::event_of` meets its contract, kind by kind.
+-- `turn::event_of` meets its contract, kind by kind.
 use borrow.Author.Needs.{needs}
-use Rattle.controller.proofs.event_of.Statement.{statement}
-use Rattle.controller.proofs.event_of.Tie as tie
+use Rattle.turn.proofs.event_of.Statement.{statement}
+use Rattle.turn.proofs.event_of.Tie as tie
 
 enum-told : tie.Need-enum-told
 enum-told c = search needs

@@ -1,6 +1,6 @@
--- `controller::handed` meets its contract: status 00 alone hands the code over.
-use Rattle.controller.proofs.handed.Statement.{statement}
-use Rattle.controller.proofs.handed.Tie as tie
+-- `turn::handed` meets its contract: status 00 alone hands the code over.
+use Rattle.turn.proofs.handed.Statement.{statement}
+use Rattle.turn.proofs.handed.Tie as tie
 
 returns : tie.Need-returns
 returns c = simp (c .if1 .taken)

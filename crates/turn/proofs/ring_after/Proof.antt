@@ -1,7 +1,7 @@
--- `controller::ring_after` meets its contract: 00 alone changes the ring, kind by kind.
+-- `turn::ring_after` meets its contract: 00 alone changes the ring, kind by kind.
 use borrow.Author.Needs.{needs}
-use Rattle.controller.proofs.ring_after.Statement.{statement}
-use Rattle.controller.proofs.ring_after.Tie as tie
+use Rattle.turn.proofs.ring_after.Statement.{statement}
+use Rattle.turn.proofs.ring_after.Tie as tie
 
 enum-told : tie.Need-enum-told
 enum-told c = search needs

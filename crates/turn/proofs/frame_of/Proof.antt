@@ -1,7 +1,7 @@
--- `controller::turn_of` meets its contract: the mark decides.
+-- `turn::frame_of` meets its contract: the mark decides.
 use borrow.Author.Needs.{needs}
-use Rattle.controller.proofs.turn_of.Statement.{statement}
-use Rattle.controller.proofs.turn_of.Tie as tie
+use Rattle.turn.proofs.frame_of.Statement.{statement}
+use Rattle.turn.proofs.frame_of.Tie as tie
 
 null-requires : tie.Need-null-requires
 null-requires c κs = search needs
@@ -15,5 +15,5 @@ poll-requires c κs = search needs
 returns-2 : tie.Need-returns-2
 returns-2 c = simp (c .before .if1 .left) (c .poll .ensures)
 
-pub turn-of-spec : {M : Type 1} → statement M
-turn-of-spec = tie.close (tie.spec null-requires returns poll-requires returns-2)
+pub frame-of-spec : {M : Type 1} → statement M
+frame-of-spec = tie.close (tie.spec null-requires returns poll-requires returns-2)
