@@ -53,7 +53,7 @@ impl Ring {
     }
 
     // Where the first entry with a code stands; the number of entries where none has it.
-    pub fn find(self, code: u8) -> usize
+    fn find(self, code: u8) -> usize
         ensures { λ r. ⌜ r ≡ placeOf code (live self) ⌝ }
     {
         let n = self.len();
