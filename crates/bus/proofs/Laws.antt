@@ -1,25 +1,20 @@
 -- The units of a bus, one after the other: what their pulls leave, and their round.
-use Prim.Native.Nat.{ℕ, suc, _-_, _/_, _≤_, _<_, min}
+use Prim.Native.Nat.{ℕ, suc, _-_, _/_, _≤_, _<_}
 use native.Mathlib.Nat.{sub-zero}
 use native.Mathlib.Omega.{arith}
 use mathlib.Core.Path.{_≡_, sym, _∙_, ap}
-use mathlib.Core.List.{List, [], _∷_, _++_, map}
-use lib.ListN.{length, take, drop, getD, set, length-take, length-map, take-append-drop}
+use mathlib.Core.List.{List, [], _∷_, _++_}
+use lib.ListN.{length, take, drop, getD, set, take-append-drop}
 use lib.Seq.{drop-cons, drop-set-lt, take-suc-set, append-snoc}
 use Rattle.line.specs.declared.Lines.{Lines}
+use Rattle.ring.proofs.Laws.{front-length}
 use Rattle.unit.specs.Unit.{pullsOf}
 use Rattle.bus.specs.Bus.{wired, stationStep, isOdd, counted, unitsOf, levelsWith, unitsAfter}
 use Rattle.bus.specs.declared.Bus.{Bus}
 use Rattle.bus.specs.declared.Station.{Station}
 
--- An array's length, as its ownership tells it.
-pub mapped-length : {A B : Type 0} (f : A → B) (l : List A) {n : ℕ} → length (map f l) ≡ n → length l ≡ n
-mapped-length f l e = sym (length-map l f) ∙ e
-
 pub length-units : (b : Bus) → length (b .stations) ≡ 16 → length (unitsOf b) ≡ counted b
-length-units b h =
-    let e : length (unitsOf b) ≡ min (counted b) (length (b .stations)) = length-take (counted b) (b .stations) in
-    e ∙ (rw h (omega arith))
+length-units b h = front-length (b .stations) (b .count) h
 
 -- One more unit's pulls.
 pub levels-next : (l : Lines) (ss : List Station) (i : ℕ) (d : Station) → i < length ss

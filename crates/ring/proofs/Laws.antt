@@ -18,10 +18,14 @@ use Rattle.ring.specs.declared.Ring.{Ring}
 pub mapped-length : {A B : Type 0} (f : A → B) (l : List A) {n : ℕ} → length (map f l) ≡ n → length l ≡ n
 mapped-length f l e = sym (length-map l f) ∙ e
 
+-- The entries at the front of an array of sixteen.
+pub front-length : {A : Type 0} (l : List A) (n : ℕ) → length l ≡ 16 → length (take (min n 16) l) ≡ min n 16
+front-length l n h =
+    let e : length (take (min n 16) l) ≡ min (min n 16) (length l) = length-take (min n 16) l in
+    e ∙ rw h (omega arith)
+
 pub length-live : (r : Ring) → length (r .entries) ≡ 16 → length (live r) ≡ counted r
-length-live r h =
-    let e : length (live r) ≡ min (counted r) (length (r .entries)) = length-take (counted r) (r .entries) in
-    e ∙ (rw h (omega arith))
+length-live r h = front-length (r .entries) (r .count) h
 
 pub live-below : (r : Ring) → length (live r) ≤ 16
 live-below r = rw (length-take (counted r) (r .entries)) (omega arith)

@@ -8,12 +8,12 @@ use lib.ListN.{length, drop, drop-of-length-le}
 use lib.Seq.{getD-take}
 use Rattle.line.specs.declared.Lines.{Lines}
 use Rattle.unit.specs.Unit.{pullsOf}
+use Rattle.ring.proofs.Laws.{mapped-length}
 use Rattle.bus.specs.Bus.{wired, counted, unitsOf, levelsWith, levelsOf}
 use Rattle.bus.specs.declared.Station.{Station}
-use Rattle.bus.proofs.Laws.{mapped-length, length-units, levels-next}
+use Rattle.bus.proofs.Laws.{length-units, levels-next}
 use Rattle.bus.proofs.Bus.levels.Statement.{statement}
 use Rattle.bus.proofs.Bus.levels.Tie as tie
-use Rattle.unit.proofs.pulls.Reads as pulls-reads′
 
 abbrev Inv-loop : tie.InvT-loop
 Inv-loop self n l₀ i₀ l i = (i ≤ n) × ((n ≤ 16) × ((length (unitsOf self) ≡ n) × (levelsWith l (drop i (unitsOf self)) ≡ levelsOf self)))

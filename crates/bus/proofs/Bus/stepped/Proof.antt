@@ -6,9 +6,10 @@ use mathlib.Core.Path.{_≡_, refl, sym, _∙_, ap}
 use mathlib.Core.List.{_++_}
 use borrow.Author.Needs.{needs}
 use lib.ListN.{length, set, length-set, take, drop}
+use Rattle.ring.proofs.Laws.{mapped-length}
 use Rattle.bus.specs.Bus.{unitsAfter}
 use Rattle.bus.specs.declared.Station.{Station}
-use Rattle.bus.proofs.Laws.{mapped-length, whole, whole-start, whole-next, whole-end}
+use Rattle.bus.proofs.Laws.{whole, whole-start, whole-next, whole-end}
 use Rattle.bus.proofs.Bus.stepped.Statement.{statement}
 use Rattle.bus.proofs.Bus.stepped.Tie as tie
 
