@@ -3,13 +3,18 @@ use Prim.Native.Nat.{ℕ, suc, _-_, _/_, _≤_, _<_}
 use native.Mathlib.Nat.{sub-zero}
 use native.Mathlib.Omega.{arith}
 use mathlib.Core.Path.{_≡_, sym, _∙_, ap}
+use mathlib.Core.Bool.{Bool}
 use mathlib.Core.List.{List, [], _∷_, _++_}
 use lib.ListN.{length, take, drop, getD, set, take-append-drop}
 use lib.Seq.{drop-cons, drop-set-lt, take-suc-set, append-snoc}
 use Rattle.line.specs.declared.Lines.{Lines}
+use Rattle.message.specs.Answer.{Answer}
 use Rattle.ring.proofs.Laws.{front-length}
+use Rattle.unit.specs.Calls.{stepping, stepped, bufferAfter, outputAfter}
 use Rattle.unit.specs.Unit.{pullsOf}
-use Rattle.bus.specs.Bus.{wired, stationStep, isOdd, counted, unitsOf, levelsWith, unitsAfter}
+use Rattle.unit.specs.declared.Stepped.{Stepped}
+use Rattle.unit.specs.declared.Unit.{Unit}
+use Rattle.bus.specs.Bus.{wired, unitAfter, stationStep, isOdd, counted, unitsOf, levelsWith, unitsAfter}
 use Rattle.bus.specs.declared.Bus.{Bus}
 use Rattle.bus.specs.declared.Station.{Station}
 
@@ -48,3 +53,14 @@ whole-end seen busy n i ss h m =
     let none : n - i ≡ 0 = omega arith in
     let same : n ≡ i = omega arith in
     sym (rw (none, same) (take-append-drop i ss))
+
+-- A station after its step: the unit of an answer, or the one before a refusal.
+pub unit-after : (u : Unit) (r x : Stepped) (a : Answer Unit) → stepped r ≡ a → r ≡ x → unitAfter (stepped x) u ≡ unitAfter a u
+unit-after u r x a p q = ap (λ (y : Stepped). unitAfter (stepped y) u) (sym q) ∙ ap (λ (b : Answer Unit). unitAfter b u) p
+
+pub station-after : (s : Station) (seen : Lines) (busy : Bool) (v : Unit) (buffer output : List ℕ)
+    → v ≡ unitAfter (stepping (s .unit) seen busy (s .buffer) (s .input)) (s .unit)
+    → buffer ≡ bufferAfter (s .unit) seen busy (s .buffer) (s .input)
+    → output ≡ outputAfter (s .unit) seen busy (s .buffer) (s .input) (s .output)
+    → record { unit = v; buffer = buffer; input = s .input; output = output } ≡ stationStep s seen busy
+station-after s seen busy v buffer output p q r = λ i. record { unit = p i; buffer = q i; input = s .input; output = r i }

@@ -1,11 +1,6 @@
 -- `Station::step` meets its contract: the unit of an answer, or the one before a refusal.
-use mathlib.Core.Path.{sym, _∙_, ap}
 use borrow.Author.Needs.{needs}
-use Rattle.message.specs.Answer.{Answer}
-use Rattle.unit.specs.Calls.{stepped}
-use Rattle.unit.specs.declared.Stepped.{Stepped}
-use Rattle.unit.specs.declared.Unit.{Unit}
-use Rattle.bus.specs.Bus.{unitAfter}
+use Rattle.bus.proofs.Laws.{unit-after, station-after}
 use Rattle.bus.proofs.Station.step.Statement.{statement}
 use Rattle.bus.proofs.Station.step.Tie as tie
 
@@ -27,38 +22,23 @@ enum-told-2 c = search needs
 returns : tie.Need-returns
 returns c =
     let at-step = c .before .before .before .before in
-    let s = at-step .before .before .before .before .before .before .before .before .args .self in
-    λ i.
-    record {
-      unit = (ap (λ (r : Stepped). unitAfter (stepped r) (s .unit)) (sym (c .before .v .given .1)) ∙ ap (λ (a : Answer Unit). unitAfter a (s .unit)) (at-step .step .ensures .0)) i;
-      buffer = (at-step .step .ensures .1 .0) i;
-      input = s .input;
-      output = (at-step .step .ensures .1 .1) i;
-    }
+    let a = at-step .before .before .before .before .before .before .before .before .args in
+    let e = at-step .step .ensures in
+    station-after (a .self) (a .seen) (a .busy) _ _ _ (unit-after (a .self .unit) (at-step .step .result) _ _ (e .0) (c .before .v .given .1)) (e .1 .0) (e .1 .1)
 
 returns-2 : tie.Need-returns-2
 returns-2 c =
     let at-step = c .before .before .before in
-    let s = at-step .before .before .before .before .before .before .before .before .args .self in
-    λ i.
-    record {
-      unit = (ap (λ (r : Stepped). unitAfter (stepped r) (s .unit)) (sym (c .enum-told .given .1)) ∙ ap (λ (a : Answer Unit). unitAfter a (s .unit)) (at-step .step .ensures .0)) i;
-      buffer = (at-step .step .ensures .1 .0) i;
-      input = s .input;
-      output = (at-step .step .ensures .1 .1) i;
-    }
+    let a = at-step .before .before .before .before .before .before .before .before .args in
+    let e = at-step .step .ensures in
+    station-after (a .self) (a .seen) (a .busy) _ _ _ (unit-after (a .self .unit) (at-step .step .result) _ _ (e .0) (c .enum-told .given .1)) (e .1 .0) (e .1 .1)
 
 returns-3 : tie.Need-returns-3
 returns-3 c =
     let at-step = c .before .before .before in
-    let s = at-step .before .before .before .before .before .before .before .before .args .self in
-    λ i.
-    record {
-      unit = (ap (λ (r : Stepped). unitAfter (stepped r) (s .unit)) (sym (c .enum-told2 .given .1)) ∙ ap (λ (a : Answer Unit). unitAfter a (s .unit)) (at-step .step .ensures .0)) i;
-      buffer = (at-step .step .ensures .1 .0) i;
-      input = s .input;
-      output = (at-step .step .ensures .1 .1) i;
-    }
+    let a = at-step .before .before .before .before .before .before .before .before .args in
+    let e = at-step .step .ensures in
+    station-after (a .self) (a .seen) (a .busy) _ _ _ (unit-after (a .self .unit) (at-step .step .result) _ _ (e .0) (c .enum-told2 .given .1)) (e .1 .0) (e .1 .1)
 
 pub step-spec : {M : Type 1} → statement M
 step-spec =
