@@ -4,7 +4,7 @@ use mathlib.Core.Bool.{cond}
 use lib.Dec.{eqb}
 use Rattle.message.specs.Answer.{Answer, gives, refused, OneAnswer}
 use Rattle.message.proofs.Answers.{by-inverse}
-use Rattle.controller.specs.Calls.{Done, done, made, submitted, stepped, acknowledged}
+use Rattle.controller.specs.Calls.{Done, made, submitted, stepped, acknowledged}
 use Rattle.turn.specs.declared.Event.{Event}
 use Rattle.controller.specs.declared.Making.{Making}
 use Rattle.controller.specs.declared.Making.the-variants.{New, Setting}

@@ -1,6 +1,6 @@
 -- Document 01, "Refusal numbers" (1, 2, 3, 4, 5, 8, 10, 11): the controller's calls, each with its number or its values.
 use Prim.Native.Nat.{ℕ}
-use mathlib.Core.Bool.{Bool, true, false, cond}
+use mathlib.Core.Bool.{Bool, false, cond}
 use mathlib.Core.List.{List}
 use lib.Dec.{ltb, leb, eqb}
 use lib.ListN.{length}

@@ -1,7 +1,7 @@
 -- The two sorts of nibbles, and a nibble that is taken.
 use Prim.Native.Nat.{ℕ}
 use mathlib.Core.Path.{_≡_, sym, ap}
-use mathlib.Core.Bool.{Bool, true, false, cond}
+use mathlib.Core.Bool.{Bool, true, cond}
 use mathlib.Core.List.{List, []}
 use Rattle.answer.specs.Answer.{takenWith}
 use Rattle.answer.specs.declared.Response.{Response}
@@ -11,9 +11,8 @@ use Rattle.line.specs.declared.Lines.{Lines}
 use Rattle.line.specs.declared.Listener.{Listener}
 use Rattle.message.specs.Format.{commandFormat, bytesOf}
 use Rattle.message.specs.Nibbles.{nibbleIn}
-use Rattle.frame.specs.Frame.{isSubmitted, nibbleOf, stays, waited, quietAfter, listeningStep}
+use Rattle.frame.specs.Frame.{isSubmitted, nibbleOf, stays, listeningStep}
 use Rattle.frame.specs.declared.Frame.{Frame}
-use Rattle.frame.specs.declared.Moved.{Moved}
 use Rattle.frame.specs.declared.Stage.the-variants.{Listening}
 
 pub nibble-with : (f : Frame) (d : List ℕ) (i : ℕ) (b : Bool) → isSubmitted (f .kind) ≡ b

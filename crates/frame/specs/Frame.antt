@@ -1,6 +1,6 @@
 -- Document 01, "Lines and rounds" (controller) and "The controller and its ring": a frame of the controller, round by round.
 use Prim.Native.Nat.{ℕ, _+_, _-_, _*_}
-use mathlib.Core.Bool.{Bool, true, false, cond, _||_, _&&_, not}
+use mathlib.Core.Bool.{Bool, true, false, cond, _||_, _&&_}
 use mathlib.Core.List.{List, []}
 use lib.Dec.{ltb, leb, eqb}
 use Rattle.answer.specs.Answer.{nothingTaken, takenWith, bufferWith, isOver, statusOf, countOf}
@@ -20,7 +20,6 @@ use Rattle.frame.specs.declared.Kind.the-variants.{Submitted, Poll, Null
 use Rattle.frame.specs.declared.Frame.{Frame}
 use Rattle.frame.specs.declared.Stage.{Stage}
 use Rattle.frame.specs.declared.Stage.the-variants.{Free, Resting, Waiting, Sending, Listening}
-use Rattle.frame.specs.declared.End.{End}
 use Rattle.frame.specs.declared.End.the-variants.{NotYet, Over}
 use Rattle.frame.specs.declared.Moved.{Moved}
 use Rattle.frame.specs.declared.Lent.{Lent}

@@ -1,15 +1,15 @@
 -- The ring's operations on the list of its entries, and that list in sixteen slots.
 use Prim.Native.Nat.{ℕ, zero, suc, _+_, _-_, _≤_, _<_, min}
-use native.Mathlib.Nat.{add-zero, add-suc, suc-add, zero-add}
+use native.Mathlib.Nat.{zero-add}
 use native.Mathlib.Omega.{arith}
 use mathlib.Core.Logic.{_≢_}
 use mathlib.Core.Path.{_≡_, refl, sym, _∙_, ap, ap₂, subst}
 use mathlib.Core.Bool.{Bool, true, false, cond}
 use mathlib.Core.List.{List, [], _∷_, _++_, map}
-use borrow.Author.Tests.{lt-ltb, le-ltb, le-leb, lt-leb, eq-eqb, ne-eqb}
-use lib.Dec.{ltb, eqb}
+use borrow.Author.Tests.{lt-ltb, le-ltb, eq-eqb, ne-eqb}
+use lib.Dec.{eqb}
 use lib.ListN.{length, take, drop, getD, set, length-take, length-append, length-set, length-map, List·getD-append, List·getD-eq-default, drop-of-length-le}
-use lib.Seq.{getD-take, getD-at, getD-set-same, getD-set-other, take-all, drop-cons, drop-length}
+use lib.Seq.{getD-take, getD-at, getD-set-same, getD-set-other, drop-cons, drop-length}
 use Rattle.ring.specs.Ring.{entryOf, none, counted, live, slotsFrom, ringOf, placeOf, isIn, cutAt, joined, turned}
 use Rattle.ring.specs.declared.Entry.{Entry}
 use Rattle.ring.specs.declared.Ring.{Ring}

@@ -1,9 +1,9 @@
 -- Document 01, "The controller and its ring" (ring order set here): up to sixteen entries, each a device code and an unacknowledged
 -- mark, the front first.
 use Prim.Native.Nat.{ℕ, zero, suc, min}
-use mathlib.Core.Bool.{Bool, true, false, cond, _||_}
+use mathlib.Core.Bool.{Bool, false, cond}
 use mathlib.Core.List.{List, [], _∷_, _++_}
-use lib.Dec.{ltb, leb, eqb}
+use lib.Dec.{ltb, eqb}
 use lib.ListN.{length, take, getD, set}
 use Rattle.ring.specs.declared.Entry.{Entry}
 use Rattle.ring.specs.declared.Ring.{Ring}
