@@ -1,6 +1,7 @@
 // The calls of the controller's application, and what each comes to in words.
 use crate::bench::Bench;
 use controller::Acknowledging;
+use controller::Controller;
 use controller::Making;
 use controller::Submitting;
 use ring::Entry;
@@ -10,24 +11,24 @@ use text::slices;
 
 // Also where it is refused, the controller that stands beside the refusal is played against.
 pub fn make(b: Bench) -> Bench {
-    let text = Text::of(b"  time-out ").decimal(b.decimal as usize);
-    let made = controller::make(b.decimal);
+    let timeout = b.script.decimal;
+    let text = Text::of(b"  time-out ").decimal(timeout as usize);
+    let made = controller::make(timeout);
     let outcome = made.outcome;
     match outcome {
         Making::New => text.words(b": made").end(),
         Making::Setting => refused(text, 5),
     }
-    let mut next = b.with_controller(made.controller);
-    next.round = 0;
-    next
+    b.with_controller(made.controller).begun()
 }
 
 pub fn submit(b: Bench, bytes: &[u8], response: &[u8]) -> Bench {
     let text = Text::of(b"  submitted");
+    let script = b.script;
     let submitted = controller::submit(
         b.controller,
-        b.command,
-        slices::part(bytes, 0, b.length),
+        script.command,
+        slices::part(bytes, 0, script.length),
         slices::part(response, 0, b.lent),
     );
     let outcome = submitted.outcome;
@@ -43,7 +44,7 @@ pub fn submit(b: Bench, bytes: &[u8], response: &[u8]) -> Bench {
 }
 
 pub fn acknowledge(b: Bench) -> Bench {
-    let code = (b.decimal % 256) as u8;
+    let code = (b.script.decimal % 256) as u8;
     let text = Text::of(b"  acknowledged ").decimal(code as usize);
     let acknowledged = controller::acknowledge(b.controller, code);
     let outcome = acknowledged.outcome;
@@ -55,20 +56,13 @@ pub fn acknowledge(b: Bench) -> Bench {
 }
 
 // The ring in its order, marks as stars; whether a frame may start, and whether a command waits for its frame.
-pub fn look(b: Bench) {
-    let looks = controller::look(b.controller);
+pub fn look(c: Controller) {
+    let looks = controller::look(c);
     let ring = looks.ring;
     let text = Text::of(b"  ring of ").decimal(ring.len()).words(b":");
-    let start = if_so(entries(text, ring), looks.may_start, b" | may start");
-    if_so(start, looks.submitted, b" | submitted").end();
-}
-
-// The response buffer: its first bytes, and how many of all are EE.
-pub fn buffer(text: Text, response: &[u8]) {
-    text.words(b"buffer")
-        .bytes(slices::part(response, 0, 8))
-        .words(b" .., EE: ")
-        .decimal(slices::count(response, 0xEE))
+    entries(text, ring)
+        .if_so(looks.may_start, b" | may start")
+        .if_so(looks.submitted, b" | submitted")
         .end();
 }
 
@@ -90,12 +84,7 @@ fn entries(start: Text, ring: Ring) -> Text {
 
 fn with_entry(text: Text, e: Entry) -> Text {
     let code = e.code;
-    if_so(text.words(b" ").decimal(code as usize), e.marked, b"*")
-}
-
-fn if_so(text: Text, so: bool, words: &[u8]) -> Text {
-    if so {
-        return text.words(words);
-    }
-    text
+    text.words(b" ")
+        .decimal(code as usize)
+        .if_so(e.marked, b"*")
 }

@@ -2,6 +2,7 @@
 use line::Lines;
 use line::Listener;
 use line::Sender;
+use play::wire;
 
 // How it answers: the bytes, the nibbles after which it is cut, the rounds before it; the nibble on which HSK is held, and for how
 // many rounds more.
@@ -63,10 +64,10 @@ impl Peer {
         let bav = if self.heard == 0 { request } else { false };
         let act = self.act;
         match act {
-            Act::Hearing(ear) => pulling(bav, ear.hsk(), 15),
-            Act::Pausing(_) => pulling(bav, false, 15),
-            Act::Answering(sender) => pulling(bav, sender.hsk(), sender.nibble()),
-            Act::Silent => pulling(bav, false, 15),
+            Act::Hearing(ear) => wire::pulling(bav, ear.hsk(), 15),
+            Act::Pausing(_) => wire::pulling(bav, false, 15),
+            Act::Answering(sender) => wire::pulling(bav, sender.hsk(), sender.nibble()),
+            Act::Silent => wire::pulling(bav, false, 15),
         }
     }
 
@@ -110,7 +111,7 @@ impl Peer {
         let mut p = self;
         let n = self.heard;
         if ear.taken(seen.hsk) {
-            put(heard, n, seen.nibble);
+            wire::put(heard, n, seen.nibble);
             p.heard = n % 1000000 + 1;
         }
         let next = ear.step(seen.hsk, false);
@@ -144,10 +145,6 @@ impl Peer {
     }
 }
 
-fn pulling(bav: bool, hsk: bool, nibble: u8) -> Lines {
-    Lines { bav, hsk, nibble }
-}
-
 // Whether n nibbles are a whole command, by the length in it.
 fn is_whole(heard: &[u8; 512], n: usize) -> bool {
     if n < 18 {
@@ -171,15 +168,4 @@ fn nibble_of(bytes: &[u8], i: usize) -> u8 {
         };
     }
     15
-}
-
-fn put(bytes: &mut [u8], i: usize, nibble: u8) {
-    let at = i / 2;
-    if at < bytes.len() {
-        if i % 2 == 0 {
-            bytes[at] = nibble % 16;
-        } else {
-            bytes[at] = bytes[at] % 16 + 16 * (nibble % 16);
-        }
-    }
 }

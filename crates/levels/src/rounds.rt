@@ -1,8 +1,8 @@
 // Rounds of the controller, and how they are shown.
 use crate::bench::Bench;
-use crate::calls;
 use controller::Stepping;
 use line::Lines;
+use play::wire;
 use text::Text;
 use text::slices;
 use turn::Event;
@@ -14,11 +14,11 @@ const LONGEST: u32 = 100000;
 pub fn free(bench: Bench, every: bool, bytes: &[u8], response: &mut [u8; 512]) -> Bench {
     let mut b = bench;
     let mut i = 0;
-    while i < bench.decimal {
+    while i < bench.script.decimal {
         i += 1;
-        b = round(b.later(), b.levels, bytes, response);
-        if every | (i == bench.decimal) {
-            show(b.round, b.levels, controller::pulls(b.controller));
+        b = round(b.later(), b.script.levels, bytes, response);
+        if every | (i == bench.script.decimal) {
+            show(b, b.script.levels);
         }
     }
     b
@@ -35,7 +35,7 @@ pub fn go(
     let mut b = bench;
     let mut i = 0u32;
     while i < LONGEST {
-        if bench.last <= b.round {
+        if bench.script.last <= b.script.round {
             break;
         }
         i += 1;
@@ -56,42 +56,34 @@ fn both_ends(
     heard: &mut [u8; 512],
     response: &mut [u8; 512],
 ) -> Bench {
-    let levels = bench.levels;
     let peer = bench.peer;
-    let seen = wired(controller::pulls(bench.controller), peer.pulls(levels.bav));
+    let pulls = peer.pulls(bench.script.levels.bav);
+    let seen = wire::wired(controller::pulls(bench.controller), pulls);
     let next = peer.step(bench.manner, seen, answer, heard);
     let b = round(bench.later(), seen, bytes, response).with_peer(next);
-    if b.is_shown() {
-        show(b.round, seen, controller::pulls(b.controller));
+    if b.script.is_shown() {
+        show(b, seen);
     }
     b
 }
 
 // A round of the controller at these levels.
 fn round(b: Bench, seen: Lines, bytes: &[u8], response: &mut [u8]) -> Bench {
+    let script = b.script;
     let lent = b.lent;
     if lent <= response.len() {
         let stepped = controller::step(
             b.controller,
             seen,
-            b.is_busy(),
-            slices::part(bytes, 0, b.length),
+            script.is_busy(),
+            slices::part(bytes, 0, script.length),
             &mut response[0..lent],
         );
         let outcome = stepped.outcome;
-        tell(b.round, outcome, response);
+        tell(script.round, outcome, response);
         return b.with_controller(stepped.controller);
     }
     b
-}
-
-// The levels that two parties leave.
-fn wired(a: Lines, b: Lines) -> Lines {
-    Lines {
-        bav: a.bav | b.bav,
-        hsk: a.hsk | b.hsk,
-        nibble: a.nibble & b.nibble,
-    }
 }
 
 fn tell(round: u32, outcome: Stepping, response: &[u8]) {
@@ -107,7 +99,7 @@ fn tell(round: u32, outcome: Stepping, response: &[u8]) {
 fn tell_event(text: Text, event: Event, response: &[u8]) {
     match event {
         Event::Nothing => {}
-        Event::Ended(status, n) => calls::buffer(
+        Event::Ended(status, n) => wire::buffer(
             text.words(b"ended with ")
                 .hex(status)
                 .words(b", ")
@@ -124,7 +116,7 @@ fn tell_heard(b: Bench, bytes: &[u8], heard: &[u8]) {
     let peer = b.peer;
     let n = peer.heard / 2;
     let text = Text::of(b"  ")
-        .decimal(b.round as usize)
+        .decimal(b.script.round as usize)
         .words(b" rounds, heard ")
         .decimal(n)
         .words(b":");
@@ -138,23 +130,7 @@ fn tell_heard(b: Bench, bytes: &[u8], heard: &[u8]) {
         .end();
 }
 
-// A round as a line: what the controller sees, and what it then pulls.
-fn show(round: u32, seen: Lines, pulls: Lines) {
-    let start = Text::of(b"  ").decimal(round as usize).words(b":");
-    lines(lines(start, seen).words(b" |"), pulls).end();
-}
-
-// Lines that are low or pulled, by name, and the nibble.
-fn lines(text: Text, l: Lines) -> Text {
-    let bav = named(text, l.bav, b" BAV");
-    named(bav, l.hsk, b" HSK")
-        .words(b" ")
-        .decimal(l.nibble as usize)
-}
-
-fn named(text: Text, low: bool, name: &[u8]) -> Text {
-    if low {
-        return text.words(name);
-    }
-    text.words(b" -")
+// The round that was at these levels.
+fn show(b: Bench, seen: Lines) {
+    wire::shown(b.script.round, seen, controller::pulls(b.controller)).end();
 }

@@ -1,7 +1,10 @@
 // The script, letter by letter.
 use crate::bench::Bench;
 use crate::calls;
+use crate::peer::Peer;
 use crate::rounds;
+use play::Script;
+use play::wire;
 use text::Text;
 use text::slices;
 
@@ -37,57 +40,30 @@ fn act(
     heard: &mut [u8; 512],
     response: &mut [u8; 512],
 ) -> Bench {
-    if b.quoting {
-        return quoted(b, letter);
+    let script = b.script;
+    let read = b.with_script(script.read(letter, bytes));
+    if script.is_action(letter) {
+        let after = action(read, letter, bytes, answer, heard, response);
+        return after.with_script(after.script.cleared());
     }
-    if letter < b'0' {
-        return sign(b, letter, bytes, answer);
+    if script.quoting {
+        return read;
     }
-    if letter <= b'9' {
-        return b.digit(letter - b'0');
-    }
-    if letter < b'a' {
-        return b.digit(letter % 64 + 9);
-    }
-    let set = b.set(letter).answer(letter).field(letter);
-    event(set, letter, bytes, answer, heard, response).cleared()
-}
-
-// Writes a letter of the line that is quoted, up to its end.
-fn quoted(b: Bench, letter: u8) -> Bench {
-    text::letter(letter);
-    let mut next = b;
-    next.quoting = if letter == b'\n' { false } else { true };
-    next
-}
-
-// The signs that are no letters: a quoted line, and bytes of the data and of the answer.
-fn sign(b: Bench, letter: u8, bytes: &mut [u8; 65536], answer: &mut [u8; 512]) -> Bench {
-    let mut next = b.cleared();
+    let mut next = read;
     let mut manner = b.manner;
-    match letter {
-        b'\'' => next.quoting = true,
-        b',' => next.length = added(b.length, b.hex, bytes),
-        b'*' => {
-            slices::fill_by_rule(bytes);
-            next.length = b.decimal as usize;
-        }
-        b'-' => manner.length = 0,
-        b'.' => manner.length = added(manner.length, b.hex, answer),
-        b'+' => manner.length = added_many(manner.length, b.decimal as usize, answer),
-        _ => {}
-    }
+    manner.length = answered(manner.length, letter, script, answer);
     next.manner = manner;
     next
 }
 
-// A byte behind so many; the length with it.
-fn added(n: usize, byte: u8, bytes: &mut [u8]) -> usize {
-    if n < bytes.len() {
-        bytes[n] = byte;
-        return n + 1;
+// The length of the answer after a sign that changes it.
+fn answered(n: usize, sign: u8, s: Script, answer: &mut [u8; 512]) -> usize {
+    match sign {
+        b'-' => 0,
+        b'.' => play::added(n, s.hex, answer),
+        b'+' => added_many(n, s.decimal as usize, answer),
+        _ => n,
     }
-    n
 }
 
 // So many bytes by the rule behind n.
@@ -101,7 +77,7 @@ fn added_many(n: usize, more: usize, bytes: &mut [u8]) -> usize {
     n
 }
 
-fn event(
+fn action(
     b: Bench,
     letter: u8,
     bytes: &[u8; 65536],
@@ -120,17 +96,18 @@ fn event(
         b'q' => rounds::free(b, false, bytes, response),
         b'f' => {
             slices::fill(response, 0xEE);
-            rounds::go(b.begun(), bytes, answer, heard, response)
+            let met = b.with_peer(Peer::new(b.manner));
+            rounds::go(met.begun(), bytes, answer, heard, response)
         }
         b'g' => rounds::go(b, bytes, answer, heard, response),
         b'i' => {
-            calls::look(b);
+            calls::look(b.controller);
             b
         }
         b'j' => {
-            calls::buffer(Text::of(b"  "), response);
+            wire::buffer(Text::of(b"  "), response);
             b
         }
-        _ => b,
+        _ => b.set(letter),
     }
 }

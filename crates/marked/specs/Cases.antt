@@ -20,8 +20,9 @@ use Rattle.queue.specs.Queue.{contents, emptyQueue}
 use Rattle.reply.specs.Reply.{responseBytes}
 use Rattle.ring.specs.Ring.{entryOf, live, ringOf}
 use Rattle.ring.specs.declared.Entry.{Entry}
-use Rattle.serial.specs.Serial.{newSerial, verdictOf, applied}
+use Rattle.serial.specs.Serial.{newSerial, applied}
 use Rattle.serial.specs.declared.Serial.{Serial}
+use Rattle.verdict.specs.Verdict.{verdictOf}
 
 -- What a case is about: bytes, nibbles, a ring's codes in order, the number of a refusal, or that none came.
 pub data Outcome : Type 0 where

@@ -17,10 +17,11 @@ use Rattle.line.specs.declared.Sender.the-variants.{Next}
 use Rattle.message.specs.Nibbles.{nibbleIn}
 use Rattle.queue.specs.Queue.{contents}
 use Rattle.reply.specs.Reply.{isSilent, responseBytes, lastNibble}
-use Rattle.serial.specs.Serial.{verdictOf, applied, outputAfter, finished}
+use Rattle.serial.specs.Serial.{applied, outputAfter, finished}
 use Rattle.serial.specs.declared.Reply.{Reply}
 use Rattle.serial.specs.declared.Serial.{Serial}
-use Rattle.serial.specs.declared.Verdict.{Verdict}
+use Rattle.verdict.specs.Verdict.{verdictOf}
+use Rattle.verdict.specs.declared.Verdict.{Verdict}
 use Rattle.phase.specs.declared.Partial.{Partial}
 use Rattle.phase.specs.declared.Progress.{Progress}
 use Rattle.phase.specs.declared.Progress.the-variants.{Taking, Answered}

@@ -229,7 +229,7 @@ fn answer(s: Serial, header: Header, buffer: &[u8], output: &mut [u8; 256]) -> M
     let c = header.command;
     let n = header.data_length as usize;
     let d = data_in(n, buffer);
-    let v = s.verdict(c, n, d);
+    let v = verdict::verdict_of(s, c, n, d);
     let reply = v.reply;
     let effect = v.effect;
     let after = s.after(effect, d, output);

@@ -7,20 +7,19 @@ use unit::Fed;
 use unit::Made;
 use unit::Raised;
 use unit::Taken;
+use unit::Unit;
 
 pub fn make(b: Bench) -> Bench {
-    let command = b.command;
-    let own = command.device;
+    let script = b.script;
+    let own = script.command.device;
     let text = Text::of(b"  own code ")
         .decimal(own as usize)
         .words(b", retry ")
-        .decimal(b.decimal as usize);
-    match unit::make(own, b.decimal) {
+        .decimal(script.decimal as usize);
+    match unit::make(own, script.decimal) {
         Made::New(u) => {
             text.words(b": made").end();
-            let mut next = b.with_unit(u);
-            next.round = 0;
-            next
+            b.with_unit(u).with_script(script.begun())
         }
         Made::Setting => {
             text.words(b": refusal 5").end();
@@ -51,7 +50,7 @@ pub fn feed(b: Bench, byte: u8, input: &mut [u8; 256]) -> Bench {
 pub fn feed_many(bench: Bench, input: &mut [u8; 256]) -> Bench {
     let mut b = bench;
     let mut i = 0;
-    while i < bench.decimal {
+    while i < bench.script.decimal {
         b = feed_next(b, input);
         i += 1;
     }
@@ -97,16 +96,17 @@ pub fn raise(b: Bench) -> Bench {
     }
 }
 
-pub fn look(b: Bench) {
-    let looks = unit::look(b.unit);
+pub fn look(u: Unit) {
+    let looks = unit::look(u);
     let how = looks.opening;
     let text = opening(Text::of(b"  unit "), how)
         .words(b", input ")
         .decimal(looks.input)
         .words(b", output ")
         .decimal(looks.output);
-    let enabled = if_so(text, looks.enabled, b", enabled");
-    if_so(enabled, looks.requesting, b", requesting").end();
+    text.if_so(looks.enabled, b", enabled")
+        .if_so(looks.requesting, b", requesting")
+        .end();
 }
 
 fn opening(text: Text, opening: Opening) -> Text {
@@ -124,11 +124,4 @@ fn mode_of(text: Text, mode: Mode) -> Text {
         Mode::Output => text.words(b"output"),
         Mode::Update => text.words(b"update"),
     }
-}
-
-fn if_so(text: Text, so: bool, words: &[u8]) -> Text {
-    if so {
-        return text.words(words);
-    }
-    text
 }

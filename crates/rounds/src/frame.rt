@@ -1,12 +1,12 @@
 // A whole frame, as a controller sends it: the command, then the response.
-ghost use Prim.Native.Nat.{_≤_};
-use crate::bench;
 use crate::bench::Bench;
 use crate::calls;
 use crate::rounds;
 use line::Lines;
 use line::Listener;
 use line::Sender;
+use play::Script;
+use play::wire;
 use text::Text;
 use text::slices;
 
@@ -47,7 +47,16 @@ pub fn run(
     input: &mut [u8; 256],
     output: &mut [u8; 256],
 ) -> Bench {
-    let mut sent = begun(bench);
+    let frame = Frame {
+        stage: Stage::Before,
+        sent: 0,
+        got: 0,
+        quiet: 0,
+    };
+    let mut sent = Sent {
+        bench: bench.with_script(bench.script.begun()),
+        frame,
+    };
     let mut i = 0u32;
     while i < LONGEST {
         sent = turn(sent, data, answer, buffer, input, output);
@@ -57,18 +66,6 @@ pub fn run(
         i += 1;
     }
     ended(sent, answer, buffer, input, output)
-}
-
-fn begun(bench: Bench) -> Sent {
-    let mut b = bench;
-    b.round = 0;
-    let frame = Frame {
-        stage: Stage::Before,
-        sent: 0,
-        got: 0,
-        quiet: 0,
-    };
-    Sent { bench: b, frame }
 }
 
 // A round of both ends.
@@ -83,11 +80,10 @@ fn turn(
     let frame = s.frame;
     let bench = s.bench;
     let b = fed(bench.later(), input);
-    let seen = wired(frame.pulls(), unit::pulls(b.unit));
-    let next = frame.step(b, data, seen, answer);
-    let after = rounds::round(b, seen, b.is_busy(), is_shown(b), buffer, input, output);
+    let seen = wire::wired(frame.pulls(), unit::pulls(b.unit));
+    let next = frame.step(b.script, data, seen, answer);
     Sent {
-        bench: after,
+        bench: with_unit(b, seen, buffer, input, output),
         frame: next,
     }
 }
@@ -100,49 +96,58 @@ fn ended(
     output: &mut [u8; 256],
 ) -> Bench {
     let b = s.bench;
-    tell(b, s.frame, answer);
+    let frame = s.frame;
+    tell(b.script.round, frame.got, answer);
     let rested = rest(rest(b, buffer, input, output), buffer, input, output);
-    calls::look(rested);
+    calls::look(rested.unit);
     rested
 }
 
 // A round in which the controller pulls nothing.
 fn rest(bench: Bench, buffer: &mut [u8; 256], input: &[u8; 256], output: &mut [u8; 256]) -> Bench {
-    let b = bench.later();
-    let seen = wired(bench::released(), unit::pulls(b.unit));
-    rounds::round(b, seen, b.is_busy(), is_shown(b), buffer, input, output)
+    with_unit(
+        bench.later(),
+        unit::pulls(bench.unit),
+        buffer,
+        input,
+        output,
+    )
+}
+
+// After the unit's round at these levels.
+fn with_unit(
+    b: Bench,
+    seen: Lines,
+    buffer: &mut [u8; 256],
+    input: &[u8; 256],
+    output: &mut [u8; 256],
+) -> Bench {
+    let script = b.script;
+    rounds::round(
+        b,
+        seen,
+        script.is_busy(),
+        script.is_shown(),
+        buffer,
+        input,
+        output,
+    )
 }
 
 fn fed(b: Bench, input: &mut [u8; 256]) -> Bench {
-    if b.round == b.feeding {
+    if b.script.round == b.feeding {
         return calls::feed(b, 0x5A, input);
     }
     b
 }
 
-fn is_shown(b: Bench) -> bool {
-    if b.shown == 0 {
-        return false;
-    }
-    b.shown <= b.round
-}
-
-// The levels that two parties leave.
-fn wired(a: Lines, b: Lines) -> Lines {
-    Lines {
-        bav: a.bav | b.bav,
-        hsk: a.hsk | b.hsk,
-        nibble: a.nibble & b.nibble,
-    }
-}
-
 impl Frame {
-    fn step(self, b: Bench, data: &[u8], seen: Lines, answer: &mut [u8; 512]) -> Frame {
+    fn step(self, s: Script, data: &[u8], seen: Lines, answer: &mut [u8; 512]) -> Frame {
         let stage = self.stage;
         match stage {
             Stage::Before => self.at(Stage::Leading),
             Stage::Leading => self.at(Stage::Sending(Sender::Next)),
-            Stage::Sending(sender) => self.sending(b, data, sender, seen.hsk),
+            Stage::Sending(sender) => self.sending(s, data, sender, seen.hsk),
             Stage::Listening(ear) => self.listening(ear, seen, answer),
             Stage::Over => self,
         }
@@ -157,17 +162,17 @@ impl Frame {
         }
     }
 
-    fn sending(self, b: Bench, data: &[u8], sender: Sender, hsk: bool) -> Frame {
+    fn sending(self, s: Script, data: &[u8], sender: Sender, hsk: bool) -> Frame {
         let done = self.sent;
         if sender.sent(hsk) {
             let mut frame = self;
             frame.sent = done % 100000 + 1;
-            if 2 * (b.length % 65536 + 9) <= frame.sent {
+            if 2 * (s.length % 65536 + 9) <= frame.sent {
                 return frame.at(Stage::Listening(Listener::Ready));
             }
             return frame.at(Stage::Sending(Sender::Next));
         }
-        let nibble = command::nibble(b.command, slices::part(data, 0, b.length), done);
+        let nibble = command::nibble(s.command, slices::part(data, 0, s.length), done);
         self.at(Stage::Sending(sender.step(hsk, nibble)))
     }
 
@@ -175,7 +180,7 @@ impl Frame {
         let mut frame = self;
         let got = self.got;
         if ear.taken(seen.hsk) {
-            put(answer, got, seen.nibble);
+            wire::put(answer, got, seen.nibble);
             frame.got = got % 100000 + 1;
         }
         let heard = ear.step(seen.hsk, false);
@@ -193,19 +198,19 @@ impl Frame {
     fn pulls(self) -> Lines {
         let stage = self.stage;
         match stage {
-            Stage::Before => bench::released(),
-            Stage::Leading => pulling(false, 15),
-            Stage::Sending(sender) => pulling(sender.hsk(), sender.nibble()),
-            Stage::Listening(ear) => pulling(ear.hsk(), 15),
-            Stage::Over => bench::released(),
+            Stage::Before => wire::released(),
+            Stage::Leading => wire::pulling(true, false, 15),
+            Stage::Sending(sender) => wire::pulling(true, sender.hsk(), sender.nibble()),
+            Stage::Listening(ear) => wire::pulling(true, ear.hsk(), 15),
+            Stage::Over => wire::released(),
         }
     }
 }
 
 impl Sent {
     fn is_over(self) -> bool {
-        let b = self.bench;
-        if b.last <= b.round {
+        let script = self.bench.script;
+        if script.last <= script.round {
             return true;
         }
         let frame = self.frame;
@@ -216,26 +221,6 @@ impl Sent {
             Stage::Sending(_) => false,
             Stage::Listening(_) => false,
             Stage::Over => true,
-        }
-    }
-}
-
-fn pulling(hsk: bool, nibble: u8) -> Lines {
-    Lines {
-        bav: true,
-        hsk,
-        nibble,
-    }
-}
-
-// Nibble i of a response, the low nibble of a byte first.
-fn put(answer: &mut [u8], i: usize, nibble: u8) {
-    let at = i / 2;
-    if at < answer.len() {
-        if i % 2 == 0 {
-            answer[at] = nibble % 16;
-        } else {
-            answer[at] = answer[at] % 16 + 16 * (nibble % 16);
         }
     }
 }
@@ -255,26 +240,18 @@ fn is_whole(got: usize, answer: &[u8; 512], hsk: bool) -> bool {
 fn length_of(answer: &[u8; 512]) -> usize {
     let low = answer[0];
     let high = answer[1];
-    wide(field::value_of(low, high)) + 3
+    field::value_of(low, high) as usize % 65536 + 3
 }
 
-fn wide(n: u16) -> usize
-    ensures { λ r. ⌜ r ≤ 65535 ⌝ }
-{
-    n as usize
-}
-
-fn tell(b: Bench, frame: Frame, answer: &[u8; 512]) {
-    let rounds = Text::of(b"  ")
-        .decimal(b.round as usize)
-        .words(b" rounds, ");
+fn tell(round: u32, got: usize, answer: &[u8; 512]) {
+    let rounds = Text::of(b"  ").decimal(round as usize).words(b" rounds, ");
     let n = length_of(answer);
-    if frame.got == 0 {
+    if got == 0 {
         rounds.words(b"no response").end();
         return;
     }
-    if frame.got / 2 < n {
-        rounds.words(b"response nibbles ").decimal(frame.got).end();
+    if got / 2 < n {
+        rounds.words(b"response nibbles ").decimal(got).end();
         return;
     }
     if 32 < n {

@@ -2,6 +2,7 @@
 use crate::bench::Bench;
 use line::Lines;
 use phase::Phase;
+use play::wire;
 use text::Text;
 use unit::Stepped;
 use unit::Unit;
@@ -15,9 +16,10 @@ pub fn free(
 ) -> Bench {
     let mut b = bench;
     let mut i = 0;
-    while i < bench.decimal {
-        b = round(b.later(), b.levels, b.busy, true, buffer, input, output);
+    while i < bench.script.decimal {
         i += 1;
+        let levels = b.script.levels;
+        b = round(b.later(), levels, b.busy, true, buffer, input, output);
     }
     b
 }
@@ -39,7 +41,7 @@ pub fn round(
             unit::step(b.unit, seen, busy, &mut buffer[0..lent], input, output),
         );
         if shown {
-            show(b.round, seen, after);
+            show(b.script.round, seen, after);
         }
         return b.with_unit(after);
     }
@@ -63,25 +65,9 @@ fn after(u: Unit, stepped: Stepped) -> Unit {
 
 // A round as a line: what the unit sees, what it then pulls, and its phase.
 fn show(round: u32, seen: Lines, u: Unit) {
-    let start = Text::of(b"  ").decimal(round as usize).words(b":");
-    let pulled = lines(lines(start, seen).words(b" |"), unit::pulls(u));
     let phase = u.phase;
-    phase_of(pulled.words(b" | "), phase).end();
-}
-
-// Lines that are low or pulled, by name, and the nibble.
-fn lines(text: Text, l: Lines) -> Text {
-    let bav = named(text, l.bav, b" BAV");
-    named(bav, l.hsk, b" HSK")
-        .words(b" ")
-        .decimal(l.nibble as usize)
-}
-
-fn named(text: Text, low: bool, name: &[u8]) -> Text {
-    if low {
-        return text.words(name);
-    }
-    text.words(b" -")
+    let text = wire::shown(round, seen, unit::pulls(u)).words(b" | ");
+    phase_of(text, phase).end();
 }
 
 fn phase_of(text: Text, phase: Phase) -> Text {

@@ -3,6 +3,7 @@ use crate::bench::Bench;
 use crate::calls;
 use crate::frame;
 use crate::rounds;
+use play::wire;
 use text::Text;
 use text::slices;
 use unit::Made;
@@ -55,55 +56,16 @@ fn act(
     input: &mut [u8; 256],
     output: &mut [u8; 256],
 ) -> Bench {
-    if b.quoting {
-        return quoted(b, letter);
+    let script = b.script;
+    let read = b.with_script(script.read(letter, data));
+    if script.is_action(letter) {
+        let after = action(read, letter, data, answer, buffer, input, output);
+        return after.with_script(after.script.cleared());
     }
-    if letter < b'0' {
-        return sign(b, letter, data);
-    }
-    if letter <= b'9' {
-        return b.digit(letter - b'0');
-    }
-    if letter < b'a' {
-        return b.digit(letter % 64 + 9);
-    }
-    let set = b.set(letter).field(letter);
-    event(set, letter, data, answer, buffer, input, output).cleared()
+    read
 }
 
-// Writes a letter of the line that is quoted, up to its end.
-fn quoted(b: Bench, letter: u8) -> Bench {
-    text::letter(letter);
-    let mut next = b;
-    next.quoting = if letter == b'\n' { false } else { true };
-    next
-}
-
-// The signs that are no letters: a quoted line, a byte of data, bytes of data by the rule.
-fn sign(b: Bench, letter: u8, data: &mut [u8; 512]) -> Bench {
-    let mut next = b.cleared();
-    match letter {
-        b'\'' => next.quoting = true,
-        b',' => next.length = added(b.length, b.hex, data),
-        b'*' => {
-            slices::fill_by_rule(data);
-            next.length = b.decimal as usize;
-        }
-        _ => {}
-    }
-    next
-}
-
-// A byte behind so many; the length with it.
-fn added(n: usize, byte: u8, data: &mut [u8]) -> usize {
-    if n < data.len() {
-        data[n] = byte;
-        return n + 1;
-    }
-    n
-}
-
-fn event(
+fn action(
     b: Bench,
     letter: u8,
     data: &[u8; 512],
@@ -119,27 +81,18 @@ fn event(
         }
         b'f' => frame::run(b, data, answer, buffer, input, output),
         b'r' => rounds::free(b, buffer, input, output),
-        b's' => calls::feed(b, b.hex, input),
+        b's' => calls::feed(b, b.script.hex, input),
         b'p' => calls::feed_many(b, input),
         b't' => calls::take(b, output),
         b'g' => calls::raise(b),
         b'i' => {
-            calls::look(b);
+            calls::look(b.unit);
             b
         }
         b'e' => {
-            lent(buffer);
+            wire::buffer(Text::of(b"  "), buffer);
             b
         }
-        _ => b,
+        _ => b.set(letter),
     }
-}
-
-// The command buffer: its first bytes, and how many of all are EE.
-fn lent(buffer: &[u8]) {
-    Text::of(b"  buffer")
-        .bytes(slices::part(buffer, 0, 8))
-        .words(b" .., EE: ")
-        .decimal(slices::count(buffer, 0xEE))
-        .end();
 }

@@ -29,6 +29,14 @@ impl Text {
         text
     }
 
+    // These words where something is so, else none.
+    pub fn if_so(self, so: bool, words: &[u8]) -> Text {
+        if so {
+            return self.words(words);
+        }
+        self
+    }
+
     pub fn decimal(self, n: usize) -> Text {
         let mut digits = [0u8; 20];
         let k = io::decimal(n as u64, &mut digits);

@@ -9,8 +9,8 @@ cast-n c = search needs
 data-in-requires : tie.Need-data-in-requires
 data-in-requires c κs = search needs
 
-verdict-requires : tie.Need-verdict-requires
-verdict-requires c κs = search needs
+verdict-of-requires : tie.Need-verdict-of-requires
+verdict-of-requires c κs = search needs
 
 after-requires : tie.Need-after-requires
 after-requires c κs = search needs
@@ -21,10 +21,10 @@ moves-requires c κs = search needs
 returns : tie.Need-returns
 returns c = (
   cc,
-  simp (← (c .before .before .before .before .data-in .ensures), ← (c .before .before .before .verdict .ensures), ← (c .moves .ensures)) (c .before .after .ensures .1),
+  simp (← (c .before .before .before .before .data-in .ensures), ← (c .before .before .before .verdict-of .ensures), ← (c .moves .ensures)) (c .before .after .ensures .1),
 )
 
 pub answer-spec : {M : Type 1} → statement M
 answer-spec =
     tie.close
-    (tie.spec cast-n data-in-requires verdict-requires after-requires moves-requires returns)
+    (tie.spec cast-n data-in-requires verdict-of-requires after-requires moves-requires returns)

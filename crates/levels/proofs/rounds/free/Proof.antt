@@ -8,7 +8,7 @@ abbrev Inv-loop : tie.InvT-loop
 Inv-loop bench every bytes response₀ b₀ i₀ response b i = Unit {0}
 
 abbrev μ-loop : tie.MeasureT-loop
-μ-loop bench every bytes response₀ b₀ i₀ response b i = bench .decimal - i
+μ-loop bench every bytes response₀ b₀ i₀ response b i = bench .script .decimal - i
 
 loop-holds : tie.Need-loop-holds Inv-loop μ-loop
 loop-holds c = search needs
@@ -21,9 +21,6 @@ later-requires c κs = search needs
 
 round-requires : tie.Need-round-requires Inv-loop μ-loop
 round-requires c κs = search needs
-
-pulls-requires : tie.Need-pulls-requires Inv-loop μ-loop
-pulls-requires c κs = search needs
 
 show-requires : tie.Need-show-requires Inv-loop μ-loop
 show-requires c κs = search needs
@@ -53,7 +50,6 @@ free-spec =
     add-i
     later-requires
     round-requires
-    pulls-requires
     show-requires
     loop-less
     loop-again

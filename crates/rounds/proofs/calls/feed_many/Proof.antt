@@ -8,7 +8,7 @@ abbrev Inv-loop : tie.InvT-loop
 Inv-loop bench input₀ b₀ i₀ input b i = Unit {0}
 
 abbrev μ-loop : tie.MeasureT-loop
-μ-loop bench input₀ b₀ i₀ input b i = bench .decimal - i
+μ-loop bench input₀ b₀ i₀ input b i = bench .script .decimal - i
 
 loop-holds : tie.Need-loop-holds Inv-loop μ-loop
 loop-holds c = search needs

@@ -13,6 +13,9 @@ abbrev μ-loop : tie.MeasureT-loop
 begun-requires : tie.Need-begun-requires Inv-loop μ-loop
 begun-requires c κs = search needs
 
+with-script-requires : tie.Need-with-script-requires Inv-loop μ-loop
+with-script-requires c κs = search needs
+
 loop-holds : tie.Need-loop-holds Inv-loop μ-loop
 loop-holds c = search needs
 
@@ -44,6 +47,7 @@ run-spec =
     Inv-loop
     μ-loop
     begun-requires
+    with-script-requires
     loop-holds
     turn-requires
     is-over-requires

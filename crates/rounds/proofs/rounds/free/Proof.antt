@@ -8,19 +8,19 @@ abbrev Inv-loop : tie.InvT-loop
 Inv-loop bench buffer₀ input output₀ b₀ i₀ buffer output b i = Unit {0}
 
 abbrev μ-loop : tie.MeasureT-loop
-μ-loop bench buffer₀ input output₀ b₀ i₀ buffer output b i = bench .decimal - i
+μ-loop bench buffer₀ input output₀ b₀ i₀ buffer output b i = bench .script .decimal - i
 
 loop-holds : tie.Need-loop-holds Inv-loop μ-loop
 loop-holds c = search needs
+
+add-i : tie.Need-add-i Inv-loop μ-loop
+add-i c = search needs
 
 later-requires : tie.Need-later-requires Inv-loop μ-loop
 later-requires c κs = search needs
 
 round-requires : tie.Need-round-requires Inv-loop μ-loop
 round-requires c κs = search needs
-
-add-i : tie.Need-add-i Inv-loop μ-loop
-add-i c = search needs
 
 loop-less : tie.Need-loop-less Inv-loop μ-loop
 loop-less c = search needs
@@ -38,9 +38,9 @@ free-spec =
     Inv-loop
     μ-loop
     loop-holds
+    add-i
     later-requires
     round-requires
-    add-i
     loop-less
     loop-again
     returns)
