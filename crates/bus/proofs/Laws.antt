@@ -7,6 +7,7 @@ use mathlib.Core.Bool.{Bool}
 use mathlib.Core.List.{List, [], _∷_, _++_}
 use lib.ListN.{length, take, drop, getD, set, take-append-drop}
 use lib.Seq.{drop-cons, drop-set-lt, take-suc-set, append-snoc}
+use Rattle.line.specs.Line.{wired}
 use Rattle.line.specs.declared.Lines.{Lines}
 use Rattle.message.specs.Answer.{Answer}
 use Rattle.ring.proofs.Laws.{front-length}
@@ -14,7 +15,7 @@ use Rattle.unit.specs.Calls.{stepping, stepped, bufferAfter, outputAfter}
 use Rattle.unit.specs.Unit.{pullsOf}
 use Rattle.unit.specs.declared.Stepped.{Stepped}
 use Rattle.unit.specs.declared.Unit.{Unit}
-use Rattle.bus.specs.Bus.{wired, unitAfter, stationStep, isOdd, counted, unitsOf, levelsWith, unitsAfter}
+use Rattle.bus.specs.Bus.{unitAfter, stationStep, isOdd, counted, unitsOf, levelsWith, unitsAfter}
 use Rattle.bus.specs.declared.Bus.{Bus}
 use Rattle.bus.specs.declared.Station.{Station}
 

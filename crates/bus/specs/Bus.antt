@@ -7,8 +7,8 @@ use lib.Dec.{ltb, eqb}
 use lib.ListN.{take, drop, set, replicate}
 use Rattle.controller.specs.Calls.{stepping as controller·stepping, controllerStepped, bufferAfter as responseAfter}
 use Rattle.controller.specs.declared.Controller.{Controller}
-use Rattle.field.specs.Field.{digits, number}
 use Rattle.frame.specs.Frame.{pullsOf as framePulls}
+use Rattle.line.specs.Line.{wired}
 use Rattle.line.specs.declared.Lines.{Lines}
 use Rattle.message.specs.Answer.{Answer, gives, refused}
 use Rattle.turn.specs.declared.Event.{Event}
@@ -17,19 +17,6 @@ use Rattle.unit.specs.Unit.{newUnit, pullsOf}
 use Rattle.unit.specs.declared.Unit.{Unit}
 use Rattle.bus.specs.declared.Station.{Station}
 use Rattle.bus.specs.declared.Bus.{Bus}
-
--- The four data lines of two parties: each is high, 1, only where both leave it high.
-abbrev pub bothHigh : List ℕ → List ℕ → List ℕ
-bothHigh [] ms = []
-bothHigh (n ∷ ns) [] = []
-bothHigh (n ∷ ns) (m ∷ ms) = min n m ∷ bothHigh ns ms
-
-abbrev pub wiredNibble : ℕ → ℕ → ℕ
-wiredNibble a b = number 2 (bothHigh (digits 2 4 a) (digits 2 4 b))
-
--- The levels that two parties' pulls leave.
-abbrev pub wired : Lines → Lines → Lines
-wired a b = record { bav = a .bav || b .bav; hsk = a .hsk || b .hsk; nibble = wiredNibble (a .nibble) (b .nibble) }
 
 -- A unit with the memory that its calls are lent, cleared at first.
 abbrev pub newStation : Unit → Station

@@ -1,13 +1,11 @@
 // A bus of one controller and up to sixteen units: each party steps once a round and sees the levels left by all pulls of the round
 // before.
 ghost use mathlib.Core.Path.{_≡_};
-ghost use Prim.Native.Nat.{_≤_, _%_, min};
-ghost use mathlib.Core.Bool.{_||_};
 ghost use mathlib.Core.List.{_++_};
 ghost use lib.ListN.{drop};
 ghost use Rattle.controller.specs.Calls.{stepped};
 ghost use Rattle.unit.specs.Unit.{newUnit};
-ghost use Rattle.bus.specs.Bus.{wired, wiredNibble, newStation, stationStep, counted, unitsOf, newBus, withStation, levelsOf, unitsAfter, roundOf, outcomeOf, responseOf};
+ghost use Rattle.bus.specs.Bus.{newStation, stationStep, counted, unitsOf, newBus, withStation, levelsOf, unitsAfter, roundOf, outcomeOf, responseOf};
 use controller::Controller;
 use controller::Stepping;
 use line::Lines;
@@ -35,42 +33,6 @@ pub struct Bus {
 pub struct Rounded {
     pub bus: Bus,
     pub outcome: Stepping,
-}
-
-// The levels that two parties' pulls leave: a line is low if any of them pulls it.
-pub fn wired(a: Lines, b: Lines) -> Lines
-    ensures { λ r. ⌜ r ≡ wired a b ⌝ }
-{
-    Lines {
-        bav: either(a.bav, b.bav),
-        hsk: either(a.hsk, b.hsk),
-        nibble: wired_nibble(a.nibble, b.nibble),
-    }
-}
-
-fn either(a: bool, b: bool) -> bool
-    ensures { λ r. ⌜ r ≡ a || b ⌝ }
-{
-    if a { true } else { b }
-}
-
-fn wired_nibble(a: u8, b: u8) -> u8
-    ensures { λ r. ⌜ r ≡ wiredNibble a b ⌝ }
-{
-    let a1 = a / 2;
-    let b1 = b / 2;
-    let a2 = a1 / 2;
-    let b2 = b1 / 2;
-    both_high(a, b)
-        + 2 * (both_high(a1, b1) + 2 * (both_high(a2, b2) + 2 * both_high(a2 / 2, b2 / 2)))
-}
-
-// The lowest of the data lines.
-fn both_high(a: u8, b: u8) -> u8
-    ensures { λ r. ⌜ (r ≡ min (a % 2) (b % 2)) × (r ≤ 1) ⌝ }
-{
-    let high = a % 2;
-    if high < b % 2 { high } else { b % 2 }
 }
 
 impl Station {
@@ -144,7 +106,7 @@ impl Bus {
         let mut i = 0;
         while i < n {
             let s = self.stations[i];
-            l = wired(l, unit::pulls(s.unit));
+            l = line::wired(l, unit::pulls(s.unit));
             i += 1;
         }
         l

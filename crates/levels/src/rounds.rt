@@ -58,7 +58,7 @@ fn both_ends(
 ) -> Bench {
     let peer = bench.peer;
     let pulls = peer.pulls(bench.script.levels.bav);
-    let seen = wire::wired(controller::pulls(bench.controller), pulls);
+    let seen = line::wired(controller::pulls(bench.controller), pulls);
     let next = peer.step(bench.manner, seen, answer, heard);
     let b = round(bench.later(), seen, bytes, response).with_peer(next);
     if b.script.is_shown() {

@@ -1,10 +1,27 @@
--- Document 01, "Lines and rounds" (000, 3.1, 3.2, 4.1): the sender and the listener, round by round.
-use Prim.Native.Nat.{ℕ}
-use mathlib.Core.Bool.{Bool, true, false, cond, not}
+-- Document 01, "Lines and rounds" (000, 3.1, 3.2, 4.1): the lines, and the sender and the listener, round by round.
+use Prim.Native.Nat.{ℕ, min}
+use mathlib.Core.Bool.{Bool, true, false, cond, not, _||_}
+use mathlib.Core.List.{List, [], _∷_}
+use Rattle.field.specs.Field.{digits, number}
+use Rattle.line.specs.declared.Lines.{Lines}
 use Rattle.line.specs.declared.Sender.{Sender}
 use Rattle.line.specs.declared.Sender.the-variants.{Next, Placed, Kept}
 use Rattle.line.specs.declared.Listener.{Listener}
 use Rattle.line.specs.declared.Listener.the-variants.{Ready, Holding, Waiting}
+
+-- A line is low if any party pulls it, and a released nibble reads 15.
+-- The four data lines of two parties: each is high, 1, only where both leave it high.
+abbrev pub bothHigh : List ℕ → List ℕ → List ℕ
+bothHigh [] ms = []
+bothHigh (n ∷ ns) [] = []
+bothHigh (n ∷ ns) (m ∷ ms) = min n m ∷ bothHigh ns ms
+
+abbrev pub wiredNibble : ℕ → ℕ → ℕ
+wiredNibble a b = number 2 (bothHigh (digits 2 4 a) (digits 2 4 b))
+
+-- The levels that two parties' pulls leave.
+abbrev pub wired : Lines → Lines → Lines
+wired a b = record { bav = a .bav || b .bav; hsk = a .hsk || b .hsk; nibble = wiredNibble (a .nibble) (b .nibble) }
 
 -- In one round it places a nibble and pulls HSK. In the next it releases HSK and keeps the data. When it then sees HSK high it
 -- releases the data. The next is placed one round later. `low`: HSK is seen low; n: the nibble to place next.

@@ -1,7 +1,9 @@
 // The lines, and the two machines that move one nibble after another over them: the sender and the listener. Both ends of the
 // bus use these as they are.
 ghost use mathlib.Core.Path.{_≡_};
-ghost use Rattle.line.specs.Line.{sendOf, sentOf, senderHsk, senderNibble, hearOf, takenOf, isReady, listenerHsk};
+ghost use mathlib.Core.Bool.{_||_};
+ghost use Prim.Native.Nat.{_≤_, _%_, min};
+ghost use Rattle.line.specs.Line.{wired, wiredNibble, sendOf, sentOf, senderHsk, senderNibble, hearOf, takenOf, isReady, listenerHsk};
 
 // What a party sees on the lines, or does to them. A line is low if any party pulls it: true is low, or pulled. A released
 // nibble reads 15.
@@ -9,6 +11,42 @@ pub struct Lines {
     pub bav: bool,
     pub hsk: bool,
     pub nibble: u8,
+}
+
+// The levels that two parties' pulls leave: a line is low if any of them pulls it.
+pub fn wired(a: Lines, b: Lines) -> Lines
+    ensures { λ r. ⌜ r ≡ wired a b ⌝ }
+{
+    Lines {
+        bav: either(a.bav, b.bav),
+        hsk: either(a.hsk, b.hsk),
+        nibble: wired_nibble(a.nibble, b.nibble),
+    }
+}
+
+fn either(a: bool, b: bool) -> bool
+    ensures { λ r. ⌜ r ≡ a || b ⌝ }
+{
+    if a { true } else { b }
+}
+
+fn wired_nibble(a: u8, b: u8) -> u8
+    ensures { λ r. ⌜ r ≡ wiredNibble a b ⌝ }
+{
+    let a1 = a / 2;
+    let b1 = b / 2;
+    let a2 = a1 / 2;
+    let b2 = b1 / 2;
+    both_high(a, b)
+        + 2 * (both_high(a1, b1) + 2 * (both_high(a2, b2) + 2 * both_high(a2 / 2, b2 / 2)))
+}
+
+// The lowest of the data lines.
+fn both_high(a: u8, b: u8) -> u8
+    ensures { λ r. ⌜ (r ≡ min (a % 2) (b % 2)) × (r ≤ 1) ⌝ }
+{
+    let high = a % 2;
+    if high < b % 2 { high } else { b % 2 }
 }
 
 // A sender: before it places its next nibble, after it placed one, and while it keeps one with HSK released.

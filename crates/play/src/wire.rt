@@ -12,15 +12,6 @@ pub fn pulling(bav: bool, hsk: bool, nibble: u8) -> Lines {
     Lines { bav, hsk, nibble }
 }
 
-// The levels that two parties leave.
-pub fn wired(a: Lines, b: Lines) -> Lines {
-    Lines {
-        bav: a.bav | b.bav,
-        hsk: a.hsk | b.hsk,
-        nibble: a.nibble & b.nibble,
-    }
-}
-
 // Puts nibble i of a message in its place, the low nibble of a byte first.
 pub fn put(bytes: &mut [u8], i: usize, nibble: u8) {
     let at = i / 2;

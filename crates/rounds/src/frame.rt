@@ -80,7 +80,7 @@ fn turn(
     let frame = s.frame;
     let bench = s.bench;
     let b = fed(bench.later(), input);
-    let seen = wire::wired(frame.pulls(), unit::pulls(b.unit));
+    let seen = line::wired(frame.pulls(), unit::pulls(b.unit));
     let next = frame.step(b.script, data, seen, answer);
     Sent {
         bench: with_unit(b, seen, buffer, input, output),

@@ -6,10 +6,11 @@ use mathlib.Core.Path.{_≡_, sym, _∙_, ap}
 use borrow.Author.Needs.{needs}
 use lib.ListN.{length, drop, drop-of-length-le}
 use lib.Seq.{getD-take}
+use Rattle.line.specs.Line.{wired}
 use Rattle.line.specs.declared.Lines.{Lines}
 use Rattle.unit.specs.Unit.{pullsOf}
 use Rattle.ring.proofs.Laws.{mapped-length}
-use Rattle.bus.specs.Bus.{wired, counted, unitsOf, levelsWith, levelsOf}
+use Rattle.bus.specs.Bus.{counted, unitsOf, levelsWith, levelsOf}
 use Rattle.bus.specs.declared.Station.{Station}
 use Rattle.bus.proofs.Laws.{length-units, levels-next}
 use Rattle.bus.proofs.Bus.levels.Statement.{statement}

@@ -1,7 +1,7 @@
--- `bus::wired` meets its contract, line by line.
+-- `line::wired` meets its contract, line by line.
 use borrow.Author.Needs.{needs}
-use Rattle.bus.proofs.wired.Statement.{statement}
-use Rattle.bus.proofs.wired.Tie as tie
+use Rattle.line.proofs.wired.Statement.{statement}
+use Rattle.line.proofs.wired.Tie as tie
 
 either-requires : tie.Need-either-requires
 either-requires c κs = search needs
