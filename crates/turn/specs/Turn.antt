@@ -18,8 +18,7 @@ use Rattle.turn.specs.declared.Event.the-variants.{Nothing, Ended, Hande
 abbrev pub turnOf : Entry → Frame
 turnOf e = cond (e .marked) nullFrame (pollOf (e .code))
 
--- The ring after a submitted command that ended with a status: 08 ending with 00 joins, 09 or 01 ending with 00 removes. A bus
--- reset leaves the ring as it is.
+-- The ring after a submitted command that ended with 00: 08 joins, 09 or 01 removes. A bus reset leaves the ring as it is.
 abbrev pub ringWith : Ring → Command → Ring
 ringWith ring c =
     cond (eqb (c .command) 0x08) (ringOf (joined (c .device) (live ring)))
