@@ -150,22 +150,14 @@ fn is_whole(heard: &[u8; 512], n: usize) -> bool {
     if n < 18 {
         return false;
     }
-    n / 2 == 9 + wide(heard[7]) % 256 + 256 * (wide(heard[8]) % 256)
-}
-
-fn wide(b: u8) -> usize {
-    b as usize
+    n / 2 == 9 + field::value_of(heard[7], heard[8]) as usize
 }
 
 // Nibble i of bytes, the low nibble of each first.
 fn nibble_of(bytes: &[u8], i: usize) -> u8 {
     let at = i / 2;
     if at < bytes.len() {
-        return if i % 2 == 0 {
-            bytes[at] % 16
-        } else {
-            bytes[at] / 16
-        };
+        return field::nibble(bytes[at], i);
     }
     15
 }

@@ -17,9 +17,9 @@ pub fn put(bytes: &mut [u8], i: usize, nibble: u8) {
     let at = i / 2;
     if at < bytes.len() {
         if i % 2 == 0 {
-            bytes[at] = nibble % 16;
+            bytes[at] = field::byte_of(nibble, 0);
         } else {
-            bytes[at] = bytes[at] % 16 + 16 * (nibble % 16);
+            bytes[at] = field::byte_of(bytes[at], nibble);
         }
     }
 }
