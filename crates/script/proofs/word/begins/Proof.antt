@@ -1,0 +1,51 @@
+-- Lent memory keeps its length; what is left to go through grows less.
+use borrow.Author.Needs.{needs}
+use lib.ListN.{length}
+use Prim.Native.Nat.{_-_}
+use Rattle.script.proofs.word.begins.Statement.{statement}
+use Rattle.script.proofs.word.begins.Tie as tie
+
+abbrev Inv-loop : tie.InvT-loop
+Inv-loop w name i₀ i = Unit {0}
+
+abbrev μ-loop : tie.MeasureT-loop
+μ-loop w name i₀ i = length name - i
+
+loop-holds : tie.Need-loop-holds Inv-loop μ-loop
+loop-holds c = search needs
+
+letter-requires : tie.Need-letter-requires Inv-loop μ-loop
+letter-requires c κs = search needs
+
+shared-slice-read-if1 : tie.Need-shared-slice-read-if1 Inv-loop μ-loop
+shared-slice-read-if1 c = search needs
+
+add-i : tie.Need-add-i Inv-loop μ-loop
+add-i c = search needs
+
+loop-less : tie.Need-loop-less Inv-loop μ-loop
+loop-less c = search needs
+
+loop-again : tie.Need-loop-again Inv-loop μ-loop
+loop-again c = search needs
+
+returns : tie.Need-returns Inv-loop μ-loop
+returns c = search needs
+
+returns-2 : tie.Need-returns-2 Inv-loop μ-loop
+returns-2 c = search needs
+
+pub begins-spec : {M : Type 1} → statement M
+begins-spec =
+    tie.close
+    (tie.spec
+    Inv-loop
+    μ-loop
+    loop-holds
+    letter-requires
+    shared-slice-read-if1
+    add-i
+    loop-less
+    loop-again
+    returns
+    returns-2)

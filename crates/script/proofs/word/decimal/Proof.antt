@@ -1,0 +1,87 @@
+-- Lent memory keeps its length; what is left to go through grows less.
+use borrow.Author.Needs.{needs}
+use lib.ListN.{length}
+use Prim.Native.Nat.{_-_}
+use Rattle.script.proofs.word.decimal.Statement.{statement}
+use Rattle.script.proofs.word.decimal.Tie as tie
+
+abbrev Inv-loop : tie.InvT-loop
+Inv-loop w value₀ i₀ value i = Unit {0}
+
+abbrev μ-loop : tie.MeasureT-loop
+μ-loop w value₀ i₀ value i = length w - i
+
+none-requires : tie.Need-none-requires Inv-loop μ-loop
+none-requires c κs = search needs
+
+returns : tie.Need-returns Inv-loop μ-loop
+returns c = search needs
+
+none-requires-2 : tie.Need-none-requires-2 Inv-loop μ-loop
+none-requires-2 c κs = search needs
+
+returns-2 : tie.Need-returns-2 Inv-loop μ-loop
+returns-2 c = search needs
+
+loop-holds : tie.Need-loop-holds Inv-loop μ-loop
+loop-holds c = search needs
+
+shared-slice-read-digit : tie.Need-shared-slice-read-digit Inv-loop μ-loop
+shared-slice-read-digit c = search needs
+
+digit-requires : tie.Need-digit-requires Inv-loop μ-loop
+digit-requires c κs = search needs
+
+none-requires-3 : tie.Need-none-requires-3 Inv-loop μ-loop
+none-requires-3 c κs = search needs
+
+returns-3 : tie.Need-returns-3 Inv-loop μ-loop
+returns-3 c = search needs
+
+mul-value : tie.Need-mul-value Inv-loop μ-loop
+mul-value c = search needs
+
+wide-requires : tie.Need-wide-requires Inv-loop μ-loop
+wide-requires c κs = search needs
+
+add-value : tie.Need-add-value Inv-loop μ-loop
+add-value c = search needs
+
+add-i : tie.Need-add-i Inv-loop μ-loop
+add-i c = search needs
+
+loop-less : tie.Need-loop-less Inv-loop μ-loop
+loop-less c = search needs
+
+loop-again : tie.Need-loop-again Inv-loop μ-loop
+loop-again c = search needs
+
+some-requires : tie.Need-some-requires Inv-loop μ-loop
+some-requires c κs = search needs
+
+returns-4 : tie.Need-returns-4 Inv-loop μ-loop
+returns-4 c = search needs
+
+pub decimal-spec : {M : Type 1} → statement M
+decimal-spec =
+    tie.close
+    (tie.spec
+    Inv-loop
+    μ-loop
+    none-requires
+    returns
+    none-requires-2
+    returns-2
+    loop-holds
+    shared-slice-read-digit
+    digit-requires
+    none-requires-3
+    returns-3
+    mul-value
+    wide-requires
+    add-value
+    add-i
+    loop-less
+    loop-again
+    some-requires
+    returns-4)
