@@ -7,6 +7,7 @@ pub mod show;
 pub mod tell;
 
 use picture::RELEASED;
+use script::Topic;
 
 // No number of a statement is above this: no request yet, no status yet.
 pub const NONE: u32 = 256;
@@ -43,6 +44,8 @@ pub struct Desk {
     pub refusal: u8,
     pub bytes: [u8; 256],
     pub taken: usize,
+    // The unit whose request the last call has raised, by its place; 16 for none.
+    pub news: usize,
     // Expectations.
     pub held: u32,
     pub failed: u32,
@@ -78,6 +81,7 @@ impl Desk {
             refusal: 0,
             bytes: [0; 256],
             taken: 0,
+            news: 16,
             held: 0,
             failed: 0,
             start: 0,
@@ -110,6 +114,43 @@ impl Desk {
             d.codes[n] = code;
             d.count = n + 1;
         }
+        d
+    }
+
+    // With what a host, and the application, are said to do from now on. Code 0 is the controller's.
+    pub fn with_acknowledging(self, each: bool) -> Desk {
+        let mut d = self.refused(0);
+        d.acknowledges = each;
+        d
+    }
+
+    pub fn with_busy(self, code: u8, rounds: u32) -> Desk {
+        let mut d = self;
+        let i = self.find(code);
+        if code == 0 {
+            d.busy[16] = rounds;
+        } else if i < 16 {
+            d.busy[i] = rounds;
+        }
+        d
+    }
+
+    pub fn with_every(self, code: u8, rounds: u32) -> Desk {
+        let mut d = self.refused(0);
+        let i = self.find(code);
+        if i < 16 {
+            d.every[i] = rounds;
+            d.due[i] = self.round;
+        }
+        d
+    }
+
+    // With the lengths of what was lent for a command that was accepted.
+    pub fn with_command(self, length: usize, lent: usize) -> Desk {
+        let mut d = self.refused(0);
+        d.submitted = true;
+        d.length = length;
+        d.lent = lent;
         d
     }
 
@@ -172,6 +213,7 @@ impl Desk {
             d.waiting[i] = true;
             d.waited[i] = 0;
             d.ahead[i] = ahead;
+            d.news = i;
         }
         d
     }
@@ -213,9 +255,11 @@ impl Desk {
         d
     }
 
+    // A call was refused with a number; 0 for one that was not.
     pub fn refused(self, number: u8) -> Desk {
         let mut d = self;
         d.refusal = number;
+        d.news = 16;
         d
     }
 
@@ -251,14 +295,12 @@ impl Desk {
     // With the strip shown when it is full, and in the first round with no line low.
     pub fn shown(self, page: &mut [u8]) -> Desk {
         let least = self.least();
-        let n = self.columns;
         if least == 0 {
             return self;
         }
+        look::strip(page, self, least);
         let mut d = self;
-        let strip = self.strip;
         d.columns = 0;
-        look::strip(page, &strip, n, least, self.round);
         d
     }
 
@@ -271,6 +313,15 @@ impl Desk {
             return 1;
         }
         0
+    }
+
+    // Whether a run that is until this topic has come to its end; one of so many rounds never does.
+    pub fn is_over(self, topic: Topic, quiet: bool) -> bool {
+        match topic {
+            Topic::Ended => if self.submitted { false } else { true },
+            Topic::Quiet => quiet,
+            _ => false,
+        }
     }
 
     // Whether no line is pulled.

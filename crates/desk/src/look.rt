@@ -36,8 +36,13 @@ fn with_column(d: Desk, marks: &[u8; 18]) -> Desk {
     next
 }
 
-// A strip of at least so many columns.
-pub fn strip(page: &mut [u8], strip: &[u8], n: usize, least: usize, round: u64) {
+// The strip, if it has at least so many columns.
+pub fn strip(page: &mut [u8], d: Desk, least: usize) {
+    let strip = d.strip;
+    show(page, &strip, d.columns, least, d.round);
+}
+
+fn show(page: &mut [u8], strip: &[u8], n: usize, least: usize, round: u64) {
     if least <= n {
         picture::strip::show(page, strip, n, round);
     }

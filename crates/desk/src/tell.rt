@@ -7,6 +7,8 @@ use frame::Kind;
 use frame::Stage;
 use page::names;
 use ring::Ring;
+use script::Topic;
+use script::Verb;
 use turn::Event;
 
 // The start of a line: the round.
@@ -169,14 +171,9 @@ fn service_ended(page: &mut [u8], d: Desk, f: Frame, status: u8) {
 fn happened(page: &mut [u8], d: Desk, outcome: Stepping, response: &[u8]) -> Desk {
     match outcome {
         Stepping::On(event) => event_of(page, d, event, response),
-        Stepping::Level => refused(page, d, 5, b"a nibble level over 15"),
-        Stepping::Data => refused(page, d, 10, b"data of another length than submitted"),
-        Stepping::Buffer => refused(
-            page,
-            d,
-            11,
-            b"the response buffer is under the buffer length",
-        ),
+        Stepping::Level => refused(page, d, 5),
+        Stepping::Data => refused(page, d, 10),
+        Stepping::Buffer => refused(page, d, 11),
     }
 }
 
@@ -251,14 +248,6 @@ fn handed_words(page: &mut [u8], code: u8, waited: u32, ahead: u32) {
     page::end(page);
 }
 
-// A refused call.
-pub fn refused(page: &mut [u8], d: Desk, number: u8, meaning: &[u8]) -> Desk {
-    at(page, d);
-    names::refusal(page, number, meaning);
-    page::end(page);
-    d.refused(number)
-}
-
 // Units that begin to pull BAV for a request.
 fn asked(page: &mut [u8], d: Desk, before: &[u8; 18]) {
     let codes = d.codes;
@@ -279,20 +268,8 @@ fn asks(page: &mut [u8], d: Desk, code: u8, before: u8, after: u8) {
     }
 }
 
-// The desk after a raise that is held.
-pub fn raised(page: &mut [u8], d: Desk, i: usize, code: u8, again: bool, ring: Ring) -> Desk {
-    if again {
-        return d;
-    }
-    at(page, d);
-    page::code(page, code);
-    page::words(page, b" holds a request");
-    page::end(page);
-    d.raised(i, place_of(ring, code))
-}
-
 // How many entries stand before a code.
-fn place_of(ring: Ring, code: u8) -> u32 {
+pub fn place_of(ring: Ring, code: u8) -> u32 {
     let mut n = 0u32;
     let mut i = 0;
     while i < 16 {
@@ -306,29 +283,8 @@ fn place_of(ring: Ring, code: u8) -> u32 {
     n
 }
 
-// A command that was not submitted.
-pub fn not_submitted(page: &mut [u8], d: Desk, number: u8) -> Desk {
-    match number {
-        1 => refused(
-            page,
-            d,
-            1,
-            b"a command is submitted, or a frame or its rest runs",
-        ),
-        2 => refused(page, d, 2, b"data over 65,535 bytes"),
-        3 => refused(page, d, 3, b"0A is not submitted; polls are the ring's"),
-        4 => refused(page, d, 4, b"the ring is full"),
-        _ => refused(
-            page,
-            d,
-            11,
-            b"the response buffer is under the buffer length",
-        ),
-    }
-}
-
 // What a host has taken.
-pub fn taken_by(page: &mut [u8], d: Desk, code: u8) {
+fn taken_by(page: &mut [u8], d: Desk, code: u8) {
     at(page, d);
     page::code(page, code);
     given(page, d);
@@ -351,4 +307,107 @@ pub fn echo(page: &mut [u8], line: &[u8]) {
     page::words(page, b"> ");
     page::words(page, front(line, 100));
     page::end(page);
+}
+
+// A step of the controller that was refused.
+fn refused(page: &mut [u8], d: Desk, number: u8) -> Desk {
+    at(page, d);
+    refusal(page, Verb::Run, number);
+    page::end(page);
+    d.refused(number)
+}
+
+// What came of a call.
+pub fn call(page: &mut [u8], d: Desk, verb: Verb, code: u8) {
+    match verb {
+        Verb::Blank => {}
+        Verb::Say => {}
+        Verb::Busy => {}
+        Verb::Take => taken_by(page, d, code),
+        _ => answer(page, d, verb),
+    }
+}
+
+fn answer(page: &mut [u8], d: Desk, verb: Verb) {
+    if 0 < d.refusal {
+        at(page, d);
+        refusal(page, verb, d.refusal);
+        page::end(page);
+        return;
+    }
+    if d.news < 16 {
+        request(page, d, d.news);
+    }
+}
+
+fn request(page: &mut [u8], d: Desk, i: usize) {
+    let codes = d.codes;
+    at(page, d);
+    page::code(page, codes[i % 16]);
+    page::words(page, b" holds a request");
+    page::end(page);
+}
+
+// A refusal's number and its meaning for the call that met it.
+fn refusal(page: &mut [u8], verb: Verb, number: u8) {
+    names::refusal(page, number);
+    match verb {
+        Verb::Controller => page::words(page, b"the time-out is 8 to 65,535"),
+        Verb::Unit => page::words(
+            page,
+            b"the own code is 1 to 255, the retry count 4 to 65,535",
+        ),
+        Verb::Raise => page::words(page, b"not enabled"),
+        Verb::Feed => fed(page, number),
+        Verb::Acknowledge => page::words(page, b"the code is not in the ring or not marked"),
+        _ => submitted_wrong(page, number),
+    }
+}
+
+fn fed(page: &mut [u8], number: u8) {
+    match number {
+        6 => page::words(page, b"the input queue is full"),
+        _ => page::words(page, b"not open for input or update"),
+    }
+}
+
+fn submitted_wrong(page: &mut [u8], number: u8) {
+    match number {
+        1 => page::words(page, b"a command is submitted, or a frame or its rest runs"),
+        2 => page::words(page, b"data over 65,535 bytes"),
+        3 => page::words(page, b"0A is not submitted; polls are the ring's"),
+        4 => page::words(page, b"the ring is full"),
+        5 => page::words(page, b"a nibble level over 15"),
+        10 => page::words(page, b"data of another length than submitted"),
+        _ => page::words(page, b"the response buffer is under the buffer length"),
+    }
+}
+
+// How long a run was, and whether it came to its end.
+pub fn ran(page: &mut [u8], d: Desk, topic: Topic, over: bool, rounds: u32) {
+    at(page, d);
+    page::count(page, rounds);
+    page::words(page, b" rounds");
+    not_over(page, topic, over);
+    page::end(page);
+}
+
+fn not_over(page: &mut [u8], topic: Topic, over: bool) {
+    if over {
+        return;
+    }
+    match topic {
+        Topic::Ended => page::words(page, b", and the command has not ended"),
+        Topic::Quiet => page::words(page, b", and the bus is not quiet"),
+        _ => {}
+    }
+}
+
+// How far a long run has come.
+pub fn progress(page: &mut [u8], i: u32, all: u32) {
+    page::words(page, b"hexbus: ");
+    page::count(page, i);
+    page::words(page, b" of ");
+    page::count(page, all);
+    page::words(page, b" rounds\n");
 }

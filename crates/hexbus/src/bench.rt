@@ -1,15 +1,16 @@
 // The bus and what a run keeps beside it; its rounds.
+use crate::calls;
 use bus::Bus;
 use bus::Rounded;
-use controller::Acknowledging;
+use bus::Station;
 use controller::Stepping;
 use desk::Desk;
 use desk::reading;
 use desk::tell;
 use frame::Stage;
 use ring::Ring;
+use script::Verb;
 use turn::Event;
-use unit::Raised;
 use unit::Unit;
 
 pub struct Bench {
@@ -21,12 +22,6 @@ impl Bench {
     pub fn with_desk(self, d: Desk) -> Bench {
         let mut b = self;
         b.desk = d;
-        b
-    }
-
-    pub fn with_bus(self, bus: Bus) -> Bench {
-        let mut b = self;
-        b.bus = bus;
         b
     }
 
@@ -42,74 +37,20 @@ impl Bench {
         self.with_desk(d)
     }
 
-    // The unit at a place under 16.
-    pub fn unit(self, i: usize) -> Unit {
+    // The unit at a place under 16, with its memory.
+    pub fn station(self, i: usize) -> Station {
         let bus = self.bus;
-        let s = bus.stations[i % 16];
-        let u = s.unit;
-        u
+        bus.stations[i % 16]
     }
 
-    pub fn with_unit(self, i: usize, u: Unit) -> Bench {
+    // With a unit as its host's call has left it.
+    pub fn with_station(self, i: usize, s: Station, desk: Desk) -> Bench {
         let mut bus = self.bus;
-        let mut s = bus.stations[i % 16];
-        s.unit = u;
         bus.stations[i % 16] = s;
-        self.with_bus(bus)
+        Bench { bus, desk }
     }
 
-    pub fn stage(self) -> Stage {
-        let bus = self.bus;
-        let c = bus.controller;
-        let stage = c.stage;
-        stage
-    }
-
-    pub fn ring(self) -> Ring {
-        let bus = self.bus;
-        let c = bus.controller;
-        let ring = c.ring;
-        ring
-    }
-
-    // The host of the unit at a place raises a request. Raising again changes nothing.
-    pub fn raise(self, page: &mut [u8], i: usize) -> Bench {
-        let u = self.unit(i);
-        let looks = unit::look(u);
-        let d = self.desk;
-        match unit::raise(u) {
-            Raised::Held(v) => self.with_unit(i, v).with_desk(tell::raised(
-                page,
-                d.refused(0),
-                i,
-                u.own,
-                looks.requesting,
-                self.ring(),
-            )),
-            Raised::NotEnabled => { self.with_desk(tell::refused(page, d, 7, b"not enabled")) }
-        }
-    }
-
-    // The application acknowledges the request of a code.
-    pub fn acknowledge(self, page: &mut [u8], code: u8) -> Bench {
-        let mut bus = self.bus;
-        let d = self.desk;
-        let acknowledged = controller::acknowledge(bus.controller, code);
-        let c = acknowledged.controller;
-        bus.controller = c;
-        let outcome = acknowledged.outcome;
-        match outcome {
-            Acknowledging::Cleared => self.with_bus(bus).with_desk(d.refused(0)),
-            Acknowledging::NotMarked => self.with_desk(tell::refused(
-                page,
-                d,
-                8,
-                b"the code is not in the ring or not marked",
-            )),
-        }
-    }
-
-    // A round of every party.
+    // A round of every party, after what hosts do by themselves.
     pub fn round(
         self,
         page: &mut [u8],
@@ -120,110 +61,76 @@ impl Bench {
         self.by_itself(page).all_step(page, dump, data, response)
     }
 
-    fn all_step(self, page: &mut [u8], dump: &mut [u8], data: &[u8], response: &mut [u8]) -> Bench {
-        let rounded = stepped(self.bus, self.desk, data, response);
-        let outcome = rounded.outcome;
-        self.after(rounded.bus)
-            .told(page, dump, response, self, outcome)
-    }
-
-    // In the next round, with the bus after it.
-    fn after(self, bus: Bus) -> Bench {
-        let d = self.desk;
-        let mut next = d.later();
-        let marks = marks_of(bus, d.count);
-        next.marks = marks;
-        Bench { bus, desk: next }
-    }
-
-    // With the round told, and what is handed over dealt with.
-    fn told(
-        self,
-        page: &mut [u8],
-        dump: &mut [u8],
-        response: &[u8],
-        before: Bench,
-        outcome: Stepping,
-    ) -> Bench {
-        let old = before.marks();
-        let d = tell::all(
-            page,
-            dump,
-            self.desk,
-            &old,
-            before.stage(),
-            self.stage(),
-            self.ring(),
-            outcome,
-            response,
-        );
-        self.with_desk(d).handed(page, outcome)
-    }
-
-    fn marks(self) -> [u8; 18] {
-        let d = self.desk;
-        let marks = d.marks;
-        marks
-    }
-
-    // What hosts do by themselves before a round.
     fn by_itself(self, page: &mut [u8]) -> Bench {
         let d = self.desk;
         let i = d.is_due();
         if i < 16 {
-            return self.with_desk(d.put_off(i)).raise(page, i);
+            return asked(page, calls::raised(self.with_desk(d.put_off(i)), i));
         }
         self
+    }
+
+    fn all_step(self, page: &mut [u8], dump: &mut [u8], data: &[u8], response: &mut [u8]) -> Bench {
+        let d = self.desk;
+        let before = stage_of(self.bus);
+        let rounded = stepped(self.bus, d, data, response);
+        told(page, dump, response, rounded, d, before)
     }
 
     // A request that was handed over is acknowledged at once, where the script says so.
-    fn handed(self, page: &mut [u8], outcome: Stepping) -> Bench {
+    fn handed(self, outcome: Stepping) -> Bench {
         let d = self.desk;
+        let code = handed_code(outcome);
         if d.acknowledges {
-            return match outcome {
-                Stepping::On(event) => self.acknowledged(page, event),
-                _ => self,
-            };
+            if 0 < code {
+                return calls::acknowledged(self, code);
+            }
         }
         self
-    }
-
-    fn acknowledged(self, page: &mut [u8], event: Event) -> Bench {
-        match event {
-            Event::Handed(code) => self.acknowledge(page, code),
-            _ => self,
-        }
     }
 
     // Whether no party has anything to do: no line is pulled, no frame or rest runs, nothing is submitted, no unit holds a request.
     pub fn is_quiet(self) -> bool {
         let d = self.desk;
         if d.is_released() {
-            if is_free(self.stage()) {
-                return self.requests() == 0;
+            if is_free(stage_of(self.bus)) {
+                return requests(self.bus, d.count) == 0;
             }
         }
         false
     }
+}
 
-    // How many units hold a request.
-    fn requests(self) -> u32 {
-        let bus = self.bus;
-        let d = self.desk;
-        let mut n = 0u32;
-        let mut i = 0;
-        while i < 16 {
-            if i < d.count {
-                let s = bus.stations[i];
-                let u = s.unit;
-                if is_requesting(u) {
-                    n = n % 16 + 1;
-                }
+// What a raise has come to.
+fn asked(page: &mut [u8], b: Bench) -> Bench {
+    tell::call(page, b.desk, Verb::Raise, 0);
+    b
+}
+
+pub fn stage_of(bus: Bus) -> Stage {
+    let c = bus.controller;
+    c.stage
+}
+
+pub fn ring_of(bus: Bus) -> Ring {
+    let c = bus.controller;
+    c.ring
+}
+
+// How many units hold a request.
+fn requests(bus: Bus, count: usize) -> u32 {
+    let mut n = 0u32;
+    let mut i = 0;
+    while i < 16 {
+        if i < count {
+            let s = bus.stations[i];
+            if is_requesting(s.unit) {
+                n = n % 16 + 1;
             }
-            i += 1;
         }
-        n
+        i += 1;
     }
+    n
 }
 
 fn is_requesting(u: Unit) -> bool {
@@ -249,6 +156,56 @@ fn stepped(bus: Bus, d: Desk, data: &[u8], response: &mut [u8]) -> Rounded {
     bus.round(hosts, known, response)
 }
 
+// The bus after a round, with the round told and what is handed over dealt with.
+fn told(
+    page: &mut [u8],
+    dump: &mut [u8],
+    response: &[u8],
+    rounded: Rounded,
+    d: Desk,
+    before: Stage,
+) -> Bench {
+    let outcome = rounded.outcome;
+    let old = d.marks;
+    let bus = rounded.bus;
+    let desk = tell::all(
+        page,
+        dump,
+        later(d, bus),
+        &old,
+        before,
+        stage_of(bus),
+        ring_of(bus),
+        outcome,
+        response,
+    );
+    let b = Bench { bus, desk };
+    b.handed(outcome)
+}
+
+// The desk in the next round.
+fn later(d: Desk, bus: Bus) -> Desk {
+    let mut next = d.later();
+    let marks = marks_of(bus, d.count);
+    next.marks = marks;
+    next
+}
+
+// The code that a step hands over; 0 for none.
+fn handed_code(outcome: Stepping) -> u8 {
+    match outcome {
+        Stepping::On(event) => code_of(event),
+        _ => 0,
+    }
+}
+
+fn code_of(event: Event) -> u8 {
+    match event {
+        Event::Handed(code) => code,
+        _ => 0,
+    }
+}
+
 // What each party and all together leave on the lines.
 fn marks_of(bus: Bus, count: usize) -> [u8; 18] {
     let mut marks = [picture::RELEASED; 18];
@@ -256,8 +213,7 @@ fn marks_of(bus: Bus, count: usize) -> [u8; 18] {
     while i < 16 {
         if i < count {
             let s = bus.stations[i];
-            let u = s.unit;
-            marks[i] = picture::mark(unit::pulls(u));
+            marks[i] = picture::mark(unit::pulls(s.unit));
         }
         i += 1;
     }

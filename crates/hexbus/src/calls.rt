@@ -1,7 +1,9 @@
-// The calls of the application and of the hosts that a script makes.
+// The calls of the application and of the hosts that a script makes. What came of a call stands on the desk.
+use crate::bench;
 use crate::bench::Bench;
 use bus::Bus;
 use bus::Station;
+use controller::Acknowledging;
 use controller::Making;
 use controller::Submitting;
 use desk::Desk;
@@ -9,7 +11,17 @@ use desk::tell;
 use script::Statement;
 use unit::Fed;
 use unit::Made;
+use unit::Raised;
 use unit::Taken;
+
+// What the call of a unit's host has come to: the unit after it, the refusal, 0 for none, the byte that it gave, and whether
+// anything has changed.
+struct Given {
+    station: Station,
+    refusal: u8,
+    byte: u8,
+    changed: bool,
+}
 
 // A bus with a controller of the default time-out and no unit.
 pub fn start(pictured: bool) -> Bench {
@@ -20,7 +32,7 @@ pub fn start(pictured: bool) -> Bench {
     }
 }
 
-pub fn make_controller(b: Bench, page: &mut [u8], s: Statement) -> Bench {
+pub fn make_controller(b: Bench, s: Statement) -> Bench {
     let d = b.desk;
     let timeout = if s.second == 0 {
         controller::TIMEOUT
@@ -30,63 +42,52 @@ pub fn make_controller(b: Bench, page: &mut [u8], s: Statement) -> Bench {
     let made = controller::make(timeout);
     let outcome = made.outcome;
     match outcome {
-        Making::New => b.with_bus(Bus::new(made.controller))
-            .with_desk(d.refused(0)),
-        Making::Setting => {
-            b.with_desk(tell::refused(page, d, 5, b"the time-out is 8 to 65,535"))
-        }
+        Making::New => Bench {
+            bus: Bus::new(made.controller),
+            desk: d.refused(0),
+        },
+        Making::Setting => b.with_desk(d.refused(5)),
     }
 }
 
-pub fn make_unit(b: Bench, page: &mut [u8], s: Statement) -> Bench {
+pub fn make_unit(b: Bench, s: Statement) -> Bench {
     let d = b.desk;
     let retry = if s.second == 0 { unit::RETRY } else { s.first };
     match unit::make(s.code, retry) {
-        Made::New(u) => {
-            let bus = b.bus;
-            b.with_bus(bus.with(Station::new(u)))
-                .with_desk(d.with_unit(s.code).refused(0))
-        }
-        Made::Setting => b.with_desk(tell::refused(
-            page,
-            d,
-            5,
-            b"the own code is 1 to 255, the retry count 4 to 65,535",
-        )),
+        Made::New(u) => with_unit(b.bus, Station::new(u), d.with_unit(s.code)),
+        Made::Setting => b.with_desk(d.refused(5)),
+    }
+}
+
+fn with_unit(bus: Bus, s: Station, d: Desk) -> Bench {
+    Bench {
+        bus: bus.with(s),
+        desk: d.refused(0),
     }
 }
 
 // Submits a command with bytes, which are kept for its frame.
-pub fn submit(
-    b: Bench,
-    page: &mut [u8],
-    s: Statement,
-    bytes: &[u8],
-    data: &mut [u8],
-    response: &[u8],
-) -> Bench {
+pub fn submit(b: Bench, s: Statement, bytes: &[u8], data: &mut [u8], response: &[u8]) -> Bench {
+    let known = tell::front(bytes, s.length);
+    copy(data, known);
+    submitted(b, s, known, tell::front(response, s.lent as usize))
+}
+
+fn submitted(b: Bench, s: Statement, known: &[u8], response: &[u8]) -> Bench {
     let mut bus = b.bus;
     let d = b.desk;
-    let lent = s.lent as usize;
-    let submitted = controller::submit(
-        bus.controller,
-        s.command,
-        tell::front(bytes, s.length),
-        tell::front(response, lent),
-    );
+    let submitted = controller::submit(bus.controller, s.command, known, response);
     let outcome = submitted.outcome;
     let number = refusal_of(outcome);
+    let c = submitted.controller;
+    bus.controller = c;
     if number == 0 {
-        copy(data, tell::front(bytes, s.length));
-        let c = submitted.controller;
-        bus.controller = c;
-        let mut next = d.refused(0);
-        next.submitted = true;
-        next.length = s.length;
-        next.lent = lent;
-        return b.with_bus(bus).with_desk(next);
+        return Bench {
+            bus,
+            desk: d.with_command(s.length, s.lent as usize),
+        };
     }
-    b.with_desk(tell::not_submitted(page, d, number))
+    b.with_desk(d.refused(number))
 }
 
 fn refusal_of(outcome: Submitting) -> u8 {
@@ -114,62 +115,85 @@ fn put(to: &mut [u8], i: usize, b: u8) {
     }
 }
 
-// The host of a unit feeds bytes, until one is refused.
-pub fn feed(b: Bench, page: &mut [u8], s: Statement, bytes: &[u8]) -> Bench {
+// The application acknowledges the request of a code.
+pub fn acknowledged(b: Bench, code: u8) -> Bench {
+    let mut bus = b.bus;
     let d = b.desk;
-    let mut bench = b.with_desk(d.refused(0));
+    let acknowledged = controller::acknowledge(bus.controller, code);
+    let c = acknowledged.controller;
+    let outcome = acknowledged.outcome;
+    bus.controller = c;
+    Bench {
+        bus,
+        desk: d.refused(acknowledged_or(outcome)),
+    }
+}
+
+fn acknowledged_or(outcome: Acknowledging) -> u8 {
+    match outcome {
+        Acknowledging::Cleared => 0,
+        Acknowledging::NotMarked => 8,
+    }
+}
+
+// The host of a unit feeds bytes, until one is refused.
+pub fn feed(b: Bench, s: Statement, bytes: &[u8]) -> Bench {
+    let d = b.desk;
     let i = d.find(s.code);
+    let mut bench = b.with_desk(d.refused(0));
     let mut k = 0;
     while k < 65535 {
         if bytes.len() <= k {
             break;
         }
-        bench = fed(bench, page, i, bytes[k]);
+        bench = fed(bench, i, bytes[k]);
         k += 1;
     }
     bench
 }
 
 // One byte, if none was refused.
-fn fed(b: Bench, page: &mut [u8], i: usize, byte: u8) -> Bench {
+fn fed(b: Bench, i: usize, byte: u8) -> Bench {
     let d = b.desk;
     if d.refusal == 0 {
-        return queued(b, page, i, byte);
+        let g = feed_one(b.station(i), byte);
+        return b.with_station(i, g.station, d.refused(g.refusal));
     }
     b
 }
 
-fn queued(b: Bench, page: &mut [u8], i: usize, byte: u8) -> Bench {
-    let mut bus = b.bus;
-    let d = b.desk;
-    let mut station = bus.stations[i % 16];
-    let mut input = station.input;
-    match unit::feed(station.unit, &mut input, byte) {
+fn feed_one(s: Station, byte: u8) -> Given {
+    let mut station = s;
+    let mut input = s.input;
+    match unit::feed(s.unit, &mut input, byte) {
         Fed::Queued(u) => {
             station.unit = u;
             station.input = input;
-            bus.stations[i % 16] = station;
-            b.with_bus(bus)
+            outcome(station, 0, 0, true)
         }
-        Fed::Full => b.with_desk(tell::refused(page, d, 6, b"the input queue is full")),
-        Fed::NotOpen => b.with_desk(tell::refused(page, d, 7, b"not open for input or update")),
+        Fed::Full => outcome(s, 6, 0, false),
+        Fed::NotOpen => outcome(s, 7, 0, false),
+    }
+}
+
+fn outcome(station: Station, refusal: u8, byte: u8, changed: bool) -> Given {
+    Given {
+        station,
+        refusal,
+        byte,
+        changed,
     }
 }
 
 // The host of a unit takes up to so many bytes.
-pub fn take(b: Bench, page: &mut [u8], s: Statement) -> Bench {
+pub fn take(b: Bench, s: Statement) -> Bench {
     let mut d = b.desk;
     d.taken = 0;
-    let bench = taken_up_to(b.with_desk(d.refused(0)), d.find(s.code), s.first);
-    tell::taken_by(page, bench.desk, s.code);
-    bench
-}
-
-fn taken_up_to(b: Bench, i: usize, most: u32) -> Bench {
-    let mut bench = b;
+    let i = d.find(s.code);
+    let mut bench = b.with_desk(d.refused(0));
     let mut k = 0u32;
     while k < 256 {
-        if k < most {
+        if k < s.first {
             bench = took(bench, i);
         }
         k += 1;
@@ -178,38 +202,61 @@ fn taken_up_to(b: Bench, i: usize, most: u32) -> Bench {
 }
 
 fn took(b: Bench, i: usize) -> Bench {
-    let d = b.desk;
-    let bus = b.bus;
-    let station = bus.stations[i % 16];
-    let output = station.output;
-    match unit::take(station.unit, &output) {
-        Taken::Byte(byte, u) => b.with_unit(i, u).with_desk(d.took(byte)),
-        Taken::Nothing => b,
+    let g = take_one(b.station(i));
+    if g.changed {
+        let d = b.desk;
+        return b.with_station(i, g.station, d.took(g.byte));
+    }
+    b
+}
+
+fn take_one(s: Station) -> Given {
+    let mut station = s;
+    let output = s.output;
+    match unit::take(s.unit, &output) {
+        Taken::Byte(byte, u) => {
+            station.unit = u;
+            outcome(station, 0, byte, true)
+        }
+        Taken::Nothing => outcome(s, 0, 0, false),
     }
 }
 
 // The host of a unit raises a request, now or every so many rounds from now on.
-pub fn raise(b: Bench, page: &mut [u8], s: Statement) -> Bench {
-    let mut d = b.desk;
-    let i = d.find(s.code);
+pub fn raise(b: Bench, s: Statement) -> Bench {
+    let d = b.desk;
     if s.second == 0 {
-        return b.raise(page, i);
+        return raised(b, d.find(s.code));
     }
-    if i < 16 {
-        d.every[i] = s.first;
-        d.due[i] = d.round;
-    }
-    b.with_desk(d)
+    b.with_desk(d.with_every(s.code, s.first))
 }
 
-// A host is busy for so many rounds.
-pub fn busy(b: Bench, s: Statement) -> Bench {
-    let mut d = b.desk;
-    let i = d.find(s.code);
-    if s.code == 0 {
-        d.busy[16] = s.first;
-    } else if i < 16 {
-        d.busy[i] = s.first;
+// Raising again changes nothing.
+pub fn raised(b: Bench, i: usize) -> Bench {
+    let d = b.desk;
+    let g = raise_one(b.station(i));
+    let next = d.refused(g.refusal);
+    if g.changed {
+        return b.with_station(i, g.station, waiting(next, i, b.bus));
     }
-    b.with_desk(d)
+    b.with_desk(next)
+}
+
+// The desk with a request that is waited for.
+fn waiting(d: Desk, i: usize, bus: Bus) -> Desk {
+    let codes = d.codes;
+    d.raised(i, tell::place_of(bench::ring_of(bus), codes[i % 16]))
+}
+
+fn raise_one(s: Station) -> Given {
+    let mut station = s;
+    let looks = unit::look(s.unit);
+    let changed = if looks.requesting { false } else { true };
+    match unit::raise(s.unit) {
+        Raised::Held(u) => {
+            station.unit = u;
+            outcome(station, 0, 0, changed)
+        }
+        Raised::NotEnabled => outcome(s, 7, 0, false),
+    }
 }

@@ -4,7 +4,6 @@ mod calls;
 mod help;
 mod play;
 
-use desk::Desk;
 use desk::reading;
 use desk::tell;
 use libc::STDERR_FILENO;
@@ -247,7 +246,7 @@ fn played(
 ) {
     started(w, page, dump, name);
     let d = play::whole(page, dump, text, w.pictured, bytes, data, response);
-    ended(page, dump, name, d);
+    ended(page, dump, name, d.round, d.held, d.failed);
 }
 
 fn started(w: Wishes, page: &mut [u8], dump: &mut [u8], name: &[u8]) {
@@ -255,10 +254,10 @@ fn started(w: Wishes, page: &mut [u8], dump: &mut [u8], name: &[u8]) {
     title(page, name);
 }
 
-fn ended(page: &mut [u8], dump: &mut [u8], name: &[u8], d: Desk) {
-    close_dump(dump, d.round);
+fn ended(page: &mut [u8], dump: &mut [u8], name: &[u8], round: u64, held: u32, failed: u32) {
+    close_dump(dump, round);
     page::words(page, name);
-    summary(page, d.round, d.held, d.failed);
+    summary(page, round, held, failed);
 }
 
 fn title(page: &mut [u8], name: &[u8]) {

@@ -1,4 +1,5 @@
 // A script without faults, played line by line.
+use crate::bench;
 use crate::bench::Bench;
 use crate::calls;
 use desk::Desk;
@@ -10,7 +11,13 @@ use script::Statement;
 use script::Topic;
 use script::Verb;
 
-// Plays a script; what the desk has at its end.
+// How a script has gone: its rounds, and the expectations that held and that failed.
+pub struct Tally {
+    pub round: u64,
+    pub held: u32,
+    pub failed: u32,
+}
+
 pub fn whole(
     page: &mut [u8],
     dump: &mut [u8],
@@ -19,7 +26,7 @@ pub fn whole(
     bytes: &mut [u8],
     data: &mut [u8],
     response: &mut [u8],
-) -> Desk {
+) -> Tally {
     let mut b = calls::start(pictured);
     let mut i = 0;
     while i < 16777216 {
@@ -29,7 +36,15 @@ pub fn whole(
         b = played_to(b, page, dump, text, i, bytes, data, response);
         i += 1;
     }
-    b.desk
+    counted(b.desk)
+}
+
+fn counted(d: Desk) -> Tally {
+    Tally {
+        round: d.round,
+        held: d.held,
+        failed: d.failed,
+    }
 }
 
 // Up to a letter of the script: where a line ends, it is played.
@@ -71,6 +86,23 @@ fn played(
     acted(b, page, dump, s, bytes, data, response)
 }
 
+// A statement as it was written, before what comes of it; the words of `say` alone.
+fn echo(page: &mut [u8], line: &[u8], s: Statement) {
+    let verb = s.verb;
+    match verb {
+        Verb::Blank => {}
+        Verb::Say => said(page, line, s.at),
+        _ => tell::echo(page, line),
+    }
+}
+
+// The rest of a line, from a place on.
+fn said(page: &mut [u8], line: &[u8], at: usize) {
+    let words = script::word::next(line, at);
+    page::words(page, reading::part(line, words.start, line.len()));
+    page::end(page);
+}
+
 // A statement that was read, with its bytes.
 fn acted(
     b: Bench,
@@ -84,56 +116,74 @@ fn acted(
     let verb = s.verb;
     match verb {
         Verb::Run => run(b, page, dump, s, data, response),
-        Verb::Submit => calls::submit(b, page, s, bytes, data, response),
-        _ => looked(b, page, s, bytes, response),
+        _ => called(b, page, s, bytes, data, response),
     }
 }
 
-// What the application sees.
-fn looked(b: Bench, page: &mut [u8], s: Statement, bytes: &[u8], response: &[u8]) -> Bench {
+fn called(
+    b: Bench,
+    page: &mut [u8],
+    s: Statement,
+    bytes: &[u8],
+    data: &mut [u8],
+    response: &[u8],
+) -> Bench {
     let verb = s.verb;
     match verb {
-        Verb::Expect => expect(b, page, s, tell::front(bytes, s.length), response),
+        Verb::Expect => { b.with_desk(judged(b, page, s, tell::front(bytes, s.length), response)) }
         Verb::Show => shown(b, page, s, response),
-        _ => called(b, page, s, bytes),
+        _ => answered(page, done(b, s, bytes, data, response), s),
     }
 }
 
-// What is made, and what hosts do.
-fn called(b: Bench, page: &mut [u8], s: Statement, bytes: &[u8]) -> Bench {
+fn answered(page: &mut [u8], b: Bench, s: Statement) -> Bench {
+    let verb = s.verb;
+    tell::call(page, b.desk, verb, s.code);
+    b
+}
+
+// A call, which says nothing by itself.
+fn done(b: Bench, s: Statement, bytes: &[u8], data: &mut [u8], response: &[u8]) -> Bench {
     let verb = s.verb;
     match verb {
-        Verb::Controller => calls::make_controller(b, page, s),
-        Verb::Unit => calls::make_unit(b, page, s),
-        Verb::Feed => calls::feed(b, page, s, tell::front(bytes, s.length)),
-        Verb::Take => calls::take(b, page, s),
-        _ => asked(b, page, s),
+        Verb::Submit => calls::submit(b, s, bytes, data, response),
+        Verb::Feed => calls::feed(b, s, tell::front(bytes, s.length)),
+        _ => made(b, s),
     }
 }
 
-fn asked(b: Bench, page: &mut [u8], s: Statement) -> Bench {
+fn made(b: Bench, s: Statement) -> Bench {
     let verb = s.verb;
     match verb {
-        Verb::Raise => calls::raise(b, page, s),
-        Verb::Acknowledge => acknowledge(b, page, s),
-        Verb::Busy => calls::busy(b, s),
+        Verb::Controller => calls::make_controller(b, s),
+        Verb::Unit => calls::make_unit(b, s),
+        Verb::Take => calls::take(b, s),
+        _ => asked(b, s),
+    }
+}
+
+fn asked(b: Bench, s: Statement) -> Bench {
+    let verb = s.verb;
+    match verb {
+        Verb::Raise => calls::raise(b, s),
+        Verb::Acknowledge => acknowledge(b, s),
+        Verb::Busy => busy(b, s),
         _ => b,
     }
 }
 
-fn acknowledge(b: Bench, page: &mut [u8], s: Statement) -> Bench {
-    let mut d = b.desk;
+fn busy(b: Bench, s: Statement) -> Bench {
+    let d = b.desk;
+    b.with_desk(d.with_busy(s.code, s.first))
+}
+
+fn acknowledge(b: Bench, s: Statement) -> Bench {
+    let d = b.desk;
     let topic = s.topic;
     match topic {
-        Topic::Each => {
-            d.acknowledges = true;
-            b.with_desk(d)
-        }
-        Topic::Hand => {
-            d.acknowledges = false;
-            b.with_desk(d)
-        }
-        _ => b.acknowledge(page, s.code),
+        Topic::Each => b.with_desk(d.with_acknowledging(true)),
+        Topic::Hand => b.with_desk(d.with_acknowledging(false)),
+        _ => calls::acknowledged(b, s.code),
     }
 }
 
@@ -145,15 +195,18 @@ fn shown(b: Bench, page: &mut [u8], s: Statement, response: &[u8]) -> Bench {
             units(b, page);
             b
         }
-        Topic::Ring => {
-            show::ring(page, d, b.ring());
-            b
-        }
         Topic::Picture => b.with_desk(d.with_picture()),
         _ => {
-            tell::data(page, tell::front(response, d.received));
+            kept(page, d, topic, b, response);
             b
         }
+    }
+}
+
+fn kept(page: &mut [u8], d: Desk, topic: Topic, b: Bench, response: &[u8]) {
+    match topic {
+        Topic::Ring => show::ring(page, d, bench::ring_of(b.bus)),
+        _ => tell::data(page, tell::front(response, d.received)),
     }
 }
 
@@ -170,36 +223,21 @@ fn units(b: Bench, page: &mut [u8]) {
 }
 
 // An expectation.
-fn expect(b: Bench, page: &mut [u8], s: Statement, bytes: &[u8], response: &[u8]) -> Bench {
-    b.with_desk(judged(b, page, s, bytes, response))
-}
-
 fn judged(b: Bench, page: &mut [u8], s: Statement, bytes: &[u8], response: &[u8]) -> Desk {
     let d = b.desk;
     let topic = s.topic;
     match topic {
-        Topic::Ring => judge::ring(page, d, b.ring(), bytes),
+        Topic::Ring => judge::ring(page, d, bench::ring_of(b.bus), bytes),
         Topic::Quiet => judge::quiet(page, d, b.is_quiet()),
-        Topic::Queued => judge::queued(page, d, s, b.unit(d.find(s.code))),
+        Topic::Queued => queued(b, page, s),
         _ => judge::kept(page, d, s, bytes, response),
     }
 }
 
-// A statement as it was written, before what comes of it; the words of `say` alone.
-fn echo(page: &mut [u8], line: &[u8], s: Statement) {
-    let verb = s.verb;
-    match verb {
-        Verb::Blank => {}
-        Verb::Say => said(page, line, s.at),
-        _ => tell::echo(page, line),
-    }
-}
-
-// The rest of a line, from a place on.
-fn said(page: &mut [u8], line: &[u8], at: usize) {
-    let words = script::word::next(line, at);
-    page::words(page, reading::part(line, words.start, line.len()));
-    page::end(page);
+fn queued(b: Bench, page: &mut [u8], s: Statement) -> Desk {
+    let d = b.desk;
+    let station = b.station(d.find(s.code));
+    judge::queued(page, d, s, station.unit)
 }
 
 // Rounds up to so many, or until the end that the statement names.
@@ -222,39 +260,17 @@ fn run(
         b = b.round(page, dump, data, response);
         progress(i, s.first);
     }
-    ran(page, b, topic, i);
-    b
+    ran(b, page, topic, i)
 }
 
 fn is_over(b: Bench, topic: Topic) -> bool {
     let d = b.desk;
-    match topic {
-        Topic::Ended => if d.submitted { false } else { true },
-        Topic::Quiet => b.is_quiet(),
-        _ => false,
-    }
+    d.is_over(topic, b.is_quiet())
 }
 
-// How long a run was, and whether it came to its end.
-fn ran(page: &mut [u8], b: Bench, topic: Topic, i: u32) {
-    let over = is_over(b, topic);
-    tell::at(page, b.desk);
-    page::count(page, i);
-    page::words(page, b" rounds");
-    if over {
-        page::end(page);
-        return;
-    }
-    not_over(page, topic);
-    page::end(page);
-}
-
-fn not_over(page: &mut [u8], topic: Topic) {
-    match topic {
-        Topic::Ended => page::words(page, b", and the command has not ended"),
-        Topic::Quiet => page::words(page, b", and the bus is not quiet"),
-        _ => {}
-    }
+fn ran(b: Bench, page: &mut [u8], topic: Topic, i: u32) -> Bench {
+    tell::ran(page, b.desk, topic, is_over(b, topic), i);
+    b
 }
 
 // Long runs are heard of while they last.
@@ -267,10 +283,6 @@ fn progress(i: u32, all: u32) {
 
 fn lend_progress(page: &mut [u8], i: u32, all: u32) {
     page::begin(page, 2);
-    page::words(page, b"hexbus: ");
-    page::count(page, i);
-    page::words(page, b" of ");
-    page::count(page, all);
-    page::words(page, b" rounds\n");
+    tell::progress(page, i, all);
     page::flush(page);
 }

@@ -45,10 +45,9 @@ fn other_status(page: &mut [u8], number: u8) {
     }
 }
 
-// A refusal's number, and what its caller says it means.
-pub fn refusal(page: &mut [u8], number: u8, meaning: &[u8]) {
+// A refusal's number, before its meaning.
+pub fn refusal(page: &mut [u8], number: u8) {
     crate::words(page, b"refusal ");
     crate::code(page, number);
     crate::words(page, b": ");
-    crate::words(page, meaning);
 }

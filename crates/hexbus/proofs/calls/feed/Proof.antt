@@ -1,25 +1,23 @@
 -- Lent memory keeps its length; what is left to go through grows less.
 use borrow.Author.Needs.{needs}
-use lib.ListN.{length}
 use Prim.Native.Nat.{_-_}
-use mathlib.Core.Path.{_≡_}
 use Rattle.hexbus.proofs.calls.feed.Statement.{statement}
 use Rattle.hexbus.proofs.calls.feed.Tie as tie
 
 abbrev Inv-loop : tie.InvT-loop
-Inv-loop page₀ bytes bench₀ i k₀ page bench k = length page ≡ length page₀
+Inv-loop bytes i bench₀ k₀ bench k = Unit {0}
 
 abbrev μ-loop : tie.MeasureT-loop
-μ-loop page₀ bytes bench₀ i k₀ page bench k = 65535 - k
+μ-loop bytes i bench₀ k₀ bench k = 65535 - k
+
+find-requires : tie.Need-find-requires Inv-loop μ-loop
+find-requires c κs = search needs
 
 refused-requires : tie.Need-refused-requires Inv-loop μ-loop
 refused-requires c κs = search needs
 
 with-desk-requires : tie.Need-with-desk-requires Inv-loop μ-loop
 with-desk-requires c κs = search needs
-
-find-requires : tie.Need-find-requires Inv-loop μ-loop
-find-requires c κs = search needs
 
 loop-holds : tie.Need-loop-holds Inv-loop μ-loop
 loop-holds c = search needs
@@ -39,14 +37,8 @@ loop-less c = search needs
 loop-again : tie.Need-loop-again Inv-loop μ-loop
 loop-again c = search needs
 
-same-length : tie.Need-same-length Inv-loop μ-loop
-same-length c = search needs
-
 returns : tie.Need-returns Inv-loop μ-loop
 returns c = search needs
-
-same-length-2 : tie.Need-same-length-2 Inv-loop μ-loop
-same-length-2 c = search needs
 
 returns-2 : tie.Need-returns-2 Inv-loop μ-loop
 returns-2 c = search needs
@@ -57,16 +49,14 @@ feed-spec =
     (tie.spec
     Inv-loop
     μ-loop
+    find-requires
     refused-requires
     with-desk-requires
-    find-requires
     loop-holds
     shared-slice-read-fed
     fed-requires
     add-k
     loop-less
     loop-again
-    same-length
     returns
-    same-length-2
     returns-2)

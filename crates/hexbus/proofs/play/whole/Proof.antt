@@ -30,6 +30,9 @@ loop-less c = search needs
 loop-again : tie.Need-loop-again Inv-loop μ-loop
 loop-again c = search needs
 
+counted-requires : tie.Need-counted-requires Inv-loop μ-loop
+counted-requires c κs = search needs
+
 same-length : tie.Need-same-length Inv-loop μ-loop
 same-length c = search needs
 
@@ -60,6 +63,7 @@ whole-spec =
     add-i
     loop-less
     loop-again
+    counted-requires
     same-length
     same-length-2
     same-length-3

@@ -1,14 +1,14 @@
 -- Lent memory keeps its length; what is left to go through grows less.
 use borrow.Author.Needs.{needs}
 use Prim.Native.Nat.{_-_}
-use Rattle.hexbus.proofs.bench.Bench.requests.Statement.{statement}
-use Rattle.hexbus.proofs.bench.Bench.requests.Tie as tie
+use Rattle.hexbus.proofs.bench.requests.Statement.{statement}
+use Rattle.hexbus.proofs.bench.requests.Tie as tie
 
 abbrev Inv-loop : tie.InvT-loop
-Inv-loop bus d n₀ i₀ n i = Unit {0}
+Inv-loop count bus n₀ i₀ n i = Unit {0}
 
 abbrev μ-loop : tie.MeasureT-loop
-μ-loop bus d n₀ i₀ n i = 16 - i
+μ-loop count bus n₀ i₀ n i = 16 - i
 
 loop-holds : tie.Need-loop-holds Inv-loop μ-loop
 loop-holds c = search needs

@@ -1,0 +1,54 @@
+-- Lent memory keeps its length; what is left to go through grows less.
+use borrow.Author.Needs.{needs}
+use Prim.Native.Nat.{_-_}
+use Rattle.hexbus.proofs.calls.take.Statement.{statement}
+use Rattle.hexbus.proofs.calls.take.Tie as tie
+
+abbrev Inv-loop : tie.InvT-loop
+Inv-loop s i bench₀ k₀ bench k = Unit {0}
+
+abbrev μ-loop : tie.MeasureT-loop
+μ-loop s i bench₀ k₀ bench k = 256 - k
+
+find-requires : tie.Need-find-requires Inv-loop μ-loop
+find-requires c κs = search needs
+
+refused-requires : tie.Need-refused-requires Inv-loop μ-loop
+refused-requires c κs = search needs
+
+with-desk-requires : tie.Need-with-desk-requires Inv-loop μ-loop
+with-desk-requires c κs = search needs
+
+loop-holds : tie.Need-loop-holds Inv-loop μ-loop
+loop-holds c = search needs
+
+took-requires : tie.Need-took-requires Inv-loop μ-loop
+took-requires c κs = search needs
+
+add-k : tie.Need-add-k Inv-loop μ-loop
+add-k c = search needs
+
+loop-less : tie.Need-loop-less Inv-loop μ-loop
+loop-less c = search needs
+
+loop-again : tie.Need-loop-again Inv-loop μ-loop
+loop-again c = search needs
+
+returns : tie.Need-returns Inv-loop μ-loop
+returns c = search needs
+
+pub take-spec : {M : Type 1} → statement M
+take-spec =
+    tie.close
+    (tie.spec
+    Inv-loop
+    μ-loop
+    find-requires
+    refused-requires
+    with-desk-requires
+    loop-holds
+    took-requires
+    add-k
+    loop-less
+    loop-again
+    returns)
