@@ -7,9 +7,9 @@ use desk::Desk;
 use desk::reading;
 use desk::tell;
 use frame::Stage;
+use host::Raised;
 use ring::Ring;
 use turn::Event;
-use unit::Raised;
 use unit::Unit;
 
 pub struct Bench {
@@ -75,9 +75,9 @@ impl Bench {
     // The host of the unit at a place raises a request. Raising again changes nothing.
     pub fn raise(self, page: &mut [u8], i: usize) -> Bench {
         let u = self.unit(i);
-        let looks = unit::look(u);
+        let looks = host::look(u);
         let d = self.desk;
-        match unit::raise(u) {
+        match host::raise(u) {
             Raised::Held(v) => self.with_unit(i, v).with_desk(tell::raised(
                 page,
                 d.refused(0),
@@ -227,7 +227,7 @@ impl Bench {
 }
 
 fn is_requesting(u: Unit) -> bool {
-    let looks = unit::look(u);
+    let looks = host::look(u);
     looks.requesting
 }
 

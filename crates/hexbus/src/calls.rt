@@ -6,10 +6,10 @@ use controller::Making;
 use controller::Submitting;
 use desk::Desk;
 use desk::tell;
+use host::Fed;
+use host::Made;
+use host::Taken;
 use script::Statement;
-use unit::Fed;
-use unit::Made;
-use unit::Taken;
 
 // A bus with a controller of the default time-out and no unit.
 pub fn start(pictured: bool) -> Bench {
@@ -40,8 +40,8 @@ pub fn make_controller(b: Bench, page: &mut [u8], s: Statement) -> Bench {
 
 pub fn make_unit(b: Bench, page: &mut [u8], s: Statement) -> Bench {
     let d = b.desk;
-    let retry = if s.second == 0 { unit::RETRY } else { s.first };
-    match unit::make(s.code, retry) {
+    let retry = if s.second == 0 { host::RETRY } else { s.first };
+    match host::make(s.code, retry) {
         Made::New(u) => {
             let bus = b.bus;
             b.with_bus(bus.with(Station::new(u)))
@@ -144,7 +144,7 @@ fn queued(b: Bench, page: &mut [u8], i: usize, byte: u8) -> Bench {
     let d = b.desk;
     let mut station = bus.stations[i % 16];
     let mut input = station.input;
-    match unit::feed(station.unit, &mut input, byte) {
+    match host::feed(station.unit, &mut input, byte) {
         Fed::Queued(u) => {
             station.unit = u;
             station.input = input;
@@ -182,7 +182,7 @@ fn took(b: Bench, i: usize) -> Bench {
     let bus = b.bus;
     let station = bus.stations[i % 16];
     let output = station.output;
-    match unit::take(station.unit, &output) {
+    match host::take(station.unit, &output) {
         Taken::Byte(byte, u) => b.with_unit(i, u).with_desk(d.took(byte)),
         Taken::Nothing => b,
     }

@@ -6,8 +6,8 @@ use mathlib.Core.List.{[], _∷_}
 use lib.Dec.{eqb}
 use Rattle.message.specs.Answer.{gives}
 use Rattle.queue.specs.Queue.{room, queueWith}
-use Rattle.unit.specs.Calls.{isFed, feeding, withSerial, withInput}
+use Rattle.host.specs.Calls.{isFed, feeding, withSerial, withInput}
 use Rattle.unit.specs.declared.Unit.{Unit}
 
 pub feeding-queued : (u : Unit) (b : ℕ) → isFed (u .serial .opening) ≡ true → eqb (room (u .serial .input)) 0 ≡ false
     → feeding u b ≡ gives (withSerial u (withInput (u .serial) (queueWith (u .serial .input) (b ∷ []))))

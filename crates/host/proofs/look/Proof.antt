@@ -1,7 +1,7 @@
--- `unit::look` meets its contract: the counts are what the queues hold.
+-- `host::look` meets its contract: the counts are what the queues hold.
 use borrow.Author.Needs.{needs}
-use Rattle.unit.proofs.look.Statement.{statement}
-use Rattle.unit.proofs.look.Tie as tie
+use Rattle.host.proofs.look.Statement.{statement}
+use Rattle.host.proofs.look.Tie as tie
 
 len-requires : tie.Need-len-requires
 len-requires c κs = search needs

@@ -1,14 +1,14 @@
--- `unit::feed` meets its contract: 7 before 6, and the bytes change only where neither comes.
+-- `host::feed` meets its contract: 7 before 6, and the bytes change only where neither comes.
 use Prim.Native.Nat.{ℕ}
 use mathlib.Core.Path.{_∙_, ap, sym}
 use lib.Dec.{eqb}
 use Rattle.message.specs.Answer.{gives}
 use Rattle.queue.specs.declared.Queue.{Queue}
-use Rattle.unit.specs.Calls.{withSerial, withInput}
-use Rattle.unit.proofs.Laws.{feeding-queued}
+use Rattle.host.specs.Calls.{withSerial, withInput}
+use Rattle.host.proofs.Laws.{feeding-queued}
 use borrow.Author.Needs.{needs}
-use Rattle.unit.proofs.feed.Statement.{statement}
-use Rattle.unit.proofs.feed.Tie as tie
+use Rattle.host.proofs.feed.Statement.{statement}
+use Rattle.host.proofs.feed.Tie as tie
 
 is-fed-requires : tie.Need-is-fed-requires
 is-fed-requires c κs = search needs

@@ -1,7 +1,7 @@
--- `unit::take` meets its contract: the oldest byte and the rest, or nothing.
+-- `host::take` meets its contract: the oldest byte and the rest, or nothing.
 use borrow.Author.Needs.{needs}
-use Rattle.unit.proofs.take.Statement.{statement}
-use Rattle.unit.proofs.take.Tie as tie
+use Rattle.host.proofs.take.Statement.{statement}
+use Rattle.host.proofs.take.Tie as tie
 
 pop-requires : tie.Need-pop-requires
 pop-requires c κs = search needs

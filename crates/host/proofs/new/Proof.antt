@@ -1,7 +1,7 @@
--- `unit::new` meets its contract: idle, and new beside its lines.
+-- `host::new` meets its contract: idle, and new beside its lines.
 use borrow.Author.Needs.{needs}
-use Rattle.unit.proofs.new.Statement.{statement}
-use Rattle.unit.proofs.new.Tie as tie
+use Rattle.host.proofs.new.Statement.{statement}
+use Rattle.host.proofs.new.Tie as tie
 
 new-requires : tie.Need-new-requires
 new-requires c κs = search needs

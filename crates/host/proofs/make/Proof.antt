@@ -1,8 +1,8 @@
--- `unit::make` meets its contract: the tests are those of `making`.
+-- `host::make` meets its contract: the tests are those of `making`.
 use Rattle.field.proofs.Rules.{tests}
 use borrow.Author.Needs.{needs}
-use Rattle.unit.proofs.make.Statement.{statement}
-use Rattle.unit.proofs.make.Tie as tie
+use Rattle.host.proofs.make.Statement.{statement}
+use Rattle.host.proofs.make.Tie as tie
 
 returns : tie.Need-returns
 returns c = simp (tests, c .if1 .taken)

@@ -1,7 +1,7 @@
--- `unit::raise` meets its contract: enabled decides.
+-- `host::raise` meets its contract: enabled decides.
 use borrow.Author.Needs.{needs}
-use Rattle.unit.proofs.raise.Statement.{statement}
-use Rattle.unit.proofs.raise.Tie as tie
+use Rattle.host.proofs.raise.Statement.{statement}
+use Rattle.host.proofs.raise.Tie as tie
 
 with-serial-requires : tie.Need-with-serial-requires
 with-serial-requires c κs = search needs
