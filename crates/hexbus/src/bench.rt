@@ -1,7 +1,7 @@
 // The bus and what a run keeps beside it; its rounds.
+use application::Acknowledging;
 use bus::Bus;
 use bus::Rounded;
-use controller::Acknowledging;
 use controller::Stepping;
 use desk::Desk;
 use desk::reading;
@@ -94,7 +94,7 @@ impl Bench {
     pub fn acknowledge(self, page: &mut [u8], code: u8) -> Bench {
         let mut bus = self.bus;
         let d = self.desk;
-        let acknowledged = controller::acknowledge(bus.controller, code);
+        let acknowledged = application::acknowledge(bus.controller, code);
         let c = acknowledged.controller;
         bus.controller = c;
         let outcome = acknowledged.outcome;

@@ -1,9 +1,9 @@
 // The calls of the application and of the hosts that a script makes.
 use crate::bench::Bench;
+use application::Making;
+use application::Submitting;
 use bus::Bus;
 use bus::Station;
-use controller::Making;
-use controller::Submitting;
 use desk::Desk;
 use desk::tell;
 use host::Fed;
@@ -13,7 +13,7 @@ use script::Statement;
 
 // A bus with a controller of the default time-out and no unit.
 pub fn start(pictured: bool) -> Bench {
-    let made = controller::make(controller::TIMEOUT);
+    let made = application::make(application::TIMEOUT);
     Bench {
         bus: Bus::new(made.controller),
         desk: Desk::new(pictured),
@@ -23,11 +23,11 @@ pub fn start(pictured: bool) -> Bench {
 pub fn make_controller(b: Bench, page: &mut [u8], s: Statement) -> Bench {
     let d = b.desk;
     let timeout = if s.second == 0 {
-        controller::TIMEOUT
+        application::TIMEOUT
     } else {
         s.first
     };
-    let made = controller::make(timeout);
+    let made = application::make(timeout);
     let outcome = made.outcome;
     match outcome {
         Making::New => b.with_bus(Bus::new(made.controller))
@@ -68,7 +68,7 @@ pub fn submit(
     let mut bus = b.bus;
     let d = b.desk;
     let lent = s.lent as usize;
-    let submitted = controller::submit(
+    let submitted = application::submit(
         bus.controller,
         s.command,
         tell::front(bytes, s.length),

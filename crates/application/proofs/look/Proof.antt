@@ -1,7 +1,7 @@
--- `controller::look` meets its contract: each field by its own function.
+-- `application::look` meets its contract: each field by its own function.
 use borrow.Author.Needs.{needs}
-use Rattle.controller.proofs.look.Statement.{statement}
-use Rattle.controller.proofs.look.Tie as tie
+use Rattle.application.proofs.look.Statement.{statement}
+use Rattle.application.proofs.look.Tie as tie
 
 may-start-requires : tie.Need-may-start-requires
 may-start-requires c κs = search needs

@@ -1,8 +1,8 @@
--- `controller::make` meets its contract: the two ends of the range.
+-- `application::make` meets its contract: the two ends of the range.
 use borrow.Author.Needs.{needs}
 use Rattle.field.proofs.Rules.{tests}
-use Rattle.controller.proofs.make.Statement.{statement}
-use Rattle.controller.proofs.make.Tie as tie
+use Rattle.application.proofs.make.Statement.{statement}
+use Rattle.application.proofs.make.Tie as tie
 
 new-requires : tie.Need-new-requires
 new-requires c κs = search needs

@@ -1,7 +1,7 @@
--- `controller::is_shut_out` meets its contract: its tests are those of `isShutOut`.
+-- `application::is_shut_out` meets its contract: its tests are those of `isShutOut`.
 use borrow.Author.Needs.{needs}
-use Rattle.controller.proofs.is_shut_out.Statement.{statement}
-use Rattle.controller.proofs.is_shut_out.Tie as tie
+use Rattle.application.proofs.is_shut_out.Statement.{statement}
+use Rattle.application.proofs.is_shut_out.Tie as tie
 
 has-requires : tie.Need-has-requires
 has-requires c κs = search needs

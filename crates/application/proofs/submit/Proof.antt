@@ -1,8 +1,8 @@
--- `controller::submit` meets its contract: the refusals in their order.
+-- `application::submit` meets its contract: the refusals in their order.
 use borrow.Author.Needs.{needs}
 use Rattle.field.proofs.Rules.{tests}
-use Rattle.controller.proofs.submit.Statement.{statement}
-use Rattle.controller.proofs.submit.Tie as tie
+use Rattle.application.proofs.submit.Statement.{statement}
+use Rattle.application.proofs.submit.Tie as tie
 
 is-idle-requires : tie.Need-is-idle-requires
 is-idle-requires c κs = search needs
@@ -37,19 +37,16 @@ returns-4 c = (
   simp (← (c .before .before .before .before .before .before .before .before .is-idle .ensures)) (simp (tests, c .before .before .before .before .before .before .before .if1 .taken, c .before .before .before .before .before .before .if2 .left, c .before .before .before .before .if3 .left) (simp (← (c .before .before .before .is-shut-out .ensures)) (simp (tests, c .before .before .if4 .left, c .if5 .taken)))),
 )
 
-cast-submitted : tie.Need-cast-submitted
-cast-submitted c = search needs
+cast-with-command : tie.Need-cast-with-command
+cast-with-command c = search needs
 
-submitted-requires : tie.Need-submitted-requires
-submitted-requires c κs = search needs
-
-with-stage-requires : tie.Need-with-stage-requires
-with-stage-requires c κs = search needs
+with-command-requires : tie.Need-with-command-requires
+with-command-requires c κs = search needs
 
 returns-5 : tie.Need-returns-5
 returns-5 c = (
-  simp (← (c .before .submitted .ensures), ← (c .before .before .before .before .before .is-shut-out .ensures), ← (c .before .before .before .before .before .before .before .before .before .before .is-idle .ensures)) (simp (tests, c .before .before .before .before .before .before .before .before .before .if1 .taken, c .before .before .before .before .before .before .before .before .if2 .left, c .before .before .before .before .before .before .if3 .left, c .before .before .before .before .if4 .left, c .before .before .if5 .left, c .with-stage .ensures)),
-  simp (← (c .before .before .before .before .before .before .before .before .before .before .is-idle .ensures)) (simp (tests, c .before .before .before .before .before .before .before .before .before .if1 .taken, c .before .before .before .before .before .before .before .before .if2 .left, c .before .before .before .before .before .before .if3 .left) (simp (← (c .before .before .before .before .before .is-shut-out .ensures)) (simp (tests, c .before .before .before .before .if4 .left, c .before .before .if5 .left) (simp (← (c .before .submitted .ensures), ← (c .with-stage .ensures)))))),
+  simp (← (c .before .before .before .before .is-shut-out .ensures), ← (c .before .before .before .before .before .before .before .before .before .is-idle .ensures)) (simp (tests, c .before .before .before .before .before .before .before .before .if1 .taken, c .before .before .before .before .before .before .before .if2 .left, c .before .before .before .before .before .if3 .left, c .before .before .before .if4 .left, c .before .if5 .left)),
+  simp (← (c .before .before .before .before .before .before .before .before .before .is-idle .ensures)) (simp (tests, c .before .before .before .before .before .before .before .before .if1 .taken, c .before .before .before .before .before .before .before .if2 .left, c .before .before .before .before .before .if3 .left) (simp (← (c .before .before .before .before .is-shut-out .ensures)) (simp (tests, c .before .before .before .if4 .left, c .before .if5 .left) (simp (← (c .with-command .ensures)))))),
 )
 
 returns-6 : tie.Need-returns-6
@@ -66,8 +63,7 @@ submit-spec =
     returns-3
     cast-is-short
     returns-4
-    cast-submitted
-    submitted-requires
-    with-stage-requires
+    cast-with-command
+    with-command-requires
     returns-5
     returns-6)

@@ -1,7 +1,7 @@
--- `controller::new` meets its contract: its ring is the empty one.
+-- `application::new` meets its contract: its ring is the empty one.
 use borrow.Author.Needs.{needs}
-use Rattle.controller.proofs.new.Statement.{statement}
-use Rattle.controller.proofs.new.Tie as tie
+use Rattle.application.proofs.new.Statement.{statement}
+use Rattle.application.proofs.new.Tie as tie
 
 new-requires : tie.Need-new-requires
 new-requires c κs = search needs
