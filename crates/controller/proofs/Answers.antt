@@ -1,48 +1,13 @@
--- The number and value of an answer say which it is: making, submitting, stepping and acknowledging.
+-- The number and value of a step's answer say which it is.
 use mathlib.Core.Path.{_≡_, refl}
 use mathlib.Core.Bool.{cond}
 use lib.Dec.{eqb}
 use Rattle.message.specs.Answer.{Answer, gives, refused, OneAnswer}
 use Rattle.message.proofs.Answers.{by-inverse}
-use Rattle.controller.specs.Calls.{Done, made, submitted, stepped, acknowledged}
+use Rattle.controller.specs.Calls.{stepped}
 use Rattle.turn.specs.declared.Event.{Event}
-use Rattle.controller.specs.declared.Making.{Making}
-use Rattle.controller.specs.declared.Making.the-variants.{New, Setting}
-use Rattle.controller.specs.declared.Submitting.{Submitting}
-use Rattle.controller.specs.declared.Submitting.the-variants.{Accepted, Running, TooLong, PollCommand, FullRing, ShortResponse}
 use Rattle.controller.specs.declared.Stepping.{Stepping}
 use Rattle.controller.specs.declared.Stepping.the-variants.{On, Level, Data, Buffer}
-use Rattle.controller.specs.declared.Acknowledging.{Acknowledging}
-use Rattle.controller.specs.declared.Acknowledging.the-variants.{Cleared, NotMarked}
-
-was-made : Answer Done → Making
-was-made (gives d) = New
-was-made (refused k) = Setting
-
-made-back : (r : Making) → was-made (made r) ≡ r
-unfolding was-made
-made-back New = refl
-made-back Setting = refl
-
-pub one-made : OneAnswer made
-one-made = by-inverse made was-made made-back
-
-was-submitted : Answer Done → Submitting
-was-submitted (gives d) = Accepted
-was-submitted (refused k) =
-    cond (eqb k 1) Running (cond (eqb k 2) TooLong (cond (eqb k 3) PollCommand (cond (eqb k 4) FullRing ShortResponse)))
-
-submitted-back : (r : Submitting) → was-submitted (submitted r) ≡ r
-unfolding was-submitted
-submitted-back Accepted = refl
-submitted-back Running = refl
-submitted-back TooLong = refl
-submitted-back PollCommand = refl
-submitted-back FullRing = refl
-submitted-back ShortResponse = refl
-
-pub one-submitted : OneAnswer submitted
-one-submitted = by-inverse submitted was-submitted submitted-back
 
 was-stepped : Answer Event → Stepping
 was-stepped (gives event) = On event
@@ -57,15 +22,3 @@ stepped-back Buffer = refl
 
 pub one-stepped : OneAnswer stepped
 one-stepped = by-inverse stepped was-stepped stepped-back
-
-was-acknowledged : Answer Done → Acknowledging
-was-acknowledged (gives d) = Cleared
-was-acknowledged (refused k) = NotMarked
-
-acknowledged-back : (r : Acknowledging) → was-acknowledged (acknowledged r) ≡ r
-unfolding was-acknowledged
-acknowledged-back Cleared = refl
-acknowledged-back NotMarked = refl
-
-pub one-acknowledged : OneAnswer acknowledged
-one-acknowledged = by-inverse acknowledged was-acknowledged acknowledged-back

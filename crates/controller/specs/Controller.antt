@@ -1,6 +1,6 @@
 -- Document 01, "The controller and its ring": the controller's round.
 use Prim.Native.Nat.{ℕ}
-use mathlib.Core.Bool.{Bool, true, false, cond, _||_}
+use mathlib.Core.Bool.{Bool, true, false, cond}
 use mathlib.Core.List.{List, []}
 use lib.Dec.{eqb}
 use lib.ListN.{getD}
@@ -17,7 +17,6 @@ use Rattle.turn.specs.Turn.{turnOf, ringEnded, eventOf}
 use Rattle.turn.specs.declared.Event.{Event}
 use Rattle.turn.specs.declared.Event.the-variants.{Nothing}
 use Rattle.controller.specs.declared.Controller.{Controller}
-use Rattle.controller.specs.declared.Looks.{Looks}
 
 abbrev pub controllerOf : ℕ → Stage → Ring → Controller
 controllerOf timeout stage ring = record { timeout = timeout; stage = stage; ring = ring }
@@ -61,17 +60,3 @@ controllerStep c seen busy d =
 
 abbrev pub eventIn : Controller → Lines → Bool → List ℕ → Event
 eventIn c seen busy d = cond (isIdle (c .stage)) Nothing (eventAfter (frameOf c seen busy d .end))
-
--- What an application may look at: the ring in order with its marks, whether no frame or rest runs, whether a command is submitted.
-abbrev pub isSubmitted : Stage → Bool
-isSubmitted Free = false
-isSubmitted (Resting first) = false
-isSubmitted (Waiting f) = true
-isSubmitted (Sending f i sender wait) = false
-isSubmitted (Listening f ear response quiet) = false
-
-abbrev pub mayStart : Stage → Bool
-mayStart stage = isIdle stage || isSubmitted stage
-
-abbrev pub looksOf : Controller → Looks
-looksOf c = record { ring = c .ring; «may_start» = mayStart (c .stage); submitted = isSubmitted (c .stage) }

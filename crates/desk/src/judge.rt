@@ -73,7 +73,7 @@ fn same(page: &mut [u8], d: Desk, bytes: &[u8], all: &[u8], n: usize) -> Desk {
 }
 
 pub fn queued(page: &mut [u8], d: Desk, s: Statement, u: Unit) -> Desk {
-    let looks = unit::look(u);
+    let looks = host::look(u);
     let input = looks.input;
     let output = looks.output;
     let holds = is_pair(input, output, s.second as usize, s.first as usize);

@@ -15,7 +15,7 @@ pub fn unit_at(page: &mut [u8], d: Desk, i: usize, u: Unit) {
 }
 
 fn one(page: &mut [u8], d: Desk, i: usize, u: Unit) {
-    let looks = unit::look(u);
+    let looks = host::look(u);
     tell::at(page, d);
     page::code(page, u.own);
     let known = looks.opening;

@@ -134,7 +134,7 @@ fn requests(bus: Bus, count: usize) -> u32 {
 }
 
 fn is_requesting(u: Unit) -> bool {
-    let looks = unit::look(u);
+    let looks = host::look(u);
     looks.requesting
 }
 

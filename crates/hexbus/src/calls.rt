@@ -1,18 +1,18 @@
 // The calls of the application and of the hosts that a script makes. What came of a call stands on the desk.
 use crate::bench;
 use crate::bench::Bench;
+use application::Acknowledging;
+use application::Making;
+use application::Submitting;
 use bus::Bus;
 use bus::Station;
-use controller::Acknowledging;
-use controller::Making;
-use controller::Submitting;
 use desk::Desk;
 use desk::tell;
+use host::Fed;
+use host::Made;
+use host::Raised;
+use host::Taken;
 use script::Statement;
-use unit::Fed;
-use unit::Made;
-use unit::Raised;
-use unit::Taken;
 
 // What the call of a unit's host has come to: the unit after it, the refusal, 0 for none, the byte that it gave, and whether
 // anything has changed.
@@ -25,7 +25,7 @@ struct Given {
 
 // A bus with a controller of the default time-out and no unit.
 pub fn start(pictured: bool) -> Bench {
-    let made = controller::make(controller::TIMEOUT);
+    let made = application::make(application::TIMEOUT);
     Bench {
         bus: Bus::new(made.controller),
         desk: Desk::new(pictured),
@@ -35,11 +35,11 @@ pub fn start(pictured: bool) -> Bench {
 pub fn make_controller(b: Bench, s: Statement) -> Bench {
     let d = b.desk;
     let timeout = if s.second == 0 {
-        controller::TIMEOUT
+        application::TIMEOUT
     } else {
         s.first
     };
-    let made = controller::make(timeout);
+    let made = application::make(timeout);
     let outcome = made.outcome;
     match outcome {
         Making::New => Bench {
@@ -52,8 +52,8 @@ pub fn make_controller(b: Bench, s: Statement) -> Bench {
 
 pub fn make_unit(b: Bench, s: Statement) -> Bench {
     let d = b.desk;
-    let retry = if s.second == 0 { unit::RETRY } else { s.first };
-    match unit::make(s.code, retry) {
+    let retry = if s.second == 0 { host::RETRY } else { s.first };
+    match host::make(s.code, retry) {
         Made::New(u) => with_unit(b.bus, Station::new(u), d.with_unit(s.code)),
         Made::Setting => b.with_desk(d.refused(5)),
     }
@@ -76,7 +76,7 @@ pub fn submit(b: Bench, s: Statement, bytes: &[u8], data: &mut [u8], response: &
 fn submitted(b: Bench, s: Statement, known: &[u8], response: &[u8]) -> Bench {
     let mut bus = b.bus;
     let d = b.desk;
-    let submitted = controller::submit(bus.controller, s.command, known, response);
+    let submitted = application::submit(bus.controller, s.command, known, response);
     let outcome = submitted.outcome;
     let number = refusal_of(outcome);
     let c = submitted.controller;
@@ -119,7 +119,7 @@ fn put(to: &mut [u8], i: usize, b: u8) {
 pub fn acknowledged(b: Bench, code: u8) -> Bench {
     let mut bus = b.bus;
     let d = b.desk;
-    let acknowledged = controller::acknowledge(bus.controller, code);
+    let acknowledged = application::acknowledge(bus.controller, code);
     let c = acknowledged.controller;
     let outcome = acknowledged.outcome;
     bus.controller = c;
@@ -165,7 +165,7 @@ fn fed(b: Bench, i: usize, byte: u8) -> Bench {
 fn feed_one(s: Station, byte: u8) -> Given {
     let mut station = s;
     let mut input = s.input;
-    match unit::feed(s.unit, &mut input, byte) {
+    match host::feed(s.unit, &mut input, byte) {
         Fed::Queued(u) => {
             station.unit = u;
             station.input = input;
@@ -213,7 +213,7 @@ fn took(b: Bench, i: usize) -> Bench {
 fn take_one(s: Station) -> Given {
     let mut station = s;
     let output = s.output;
-    match unit::take(s.unit, &output) {
+    match host::take(s.unit, &output) {
         Taken::Byte(byte, u) => {
             station.unit = u;
             outcome(station, 0, byte, true)
@@ -250,9 +250,9 @@ fn waiting(d: Desk, i: usize, bus: Bus) -> Desk {
 
 fn raise_one(s: Station) -> Given {
     let mut station = s;
-    let looks = unit::look(s.unit);
+    let looks = host::look(s.unit);
     let changed = if looks.requesting { false } else { true };
-    match unit::raise(s.unit) {
+    match host::raise(s.unit) {
         Raised::Held(u) => {
             station.unit = u;
             outcome(station, 0, 0, changed)

@@ -15,7 +15,7 @@ pub struct Bench {
 
 impl Bench {
     pub fn new() -> Bench {
-        let made = controller::make(200);
+        let made = application::make(200);
         let controller = made.controller;
         let manner = Manner {
             length: 0,
@@ -87,7 +87,7 @@ impl Bench {
 
     // Whether nothing is submitted and no frame or rest runs.
     pub fn is_over(self) -> bool {
-        let looks = controller::look(self.controller);
+        let looks = application::look(self.controller);
         if looks.submitted {
             return false;
         }

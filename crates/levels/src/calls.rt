@@ -1,9 +1,9 @@
 // The calls of the controller's application, and what each comes to in words.
 use crate::bench::Bench;
-use controller::Acknowledging;
+use application::Acknowledging;
+use application::Making;
+use application::Submitting;
 use controller::Controller;
-use controller::Making;
-use controller::Submitting;
 use ring::Entry;
 use ring::Ring;
 use text::Text;
@@ -13,7 +13,7 @@ use text::slices;
 pub fn make(b: Bench) -> Bench {
     let timeout = b.script.decimal;
     let text = Text::of(b"  time-out ").decimal(timeout as usize);
-    let made = controller::make(timeout);
+    let made = application::make(timeout);
     let outcome = made.outcome;
     match outcome {
         Making::New => text.words(b": made").end(),
@@ -25,7 +25,7 @@ pub fn make(b: Bench) -> Bench {
 pub fn submit(b: Bench, bytes: &[u8], response: &[u8]) -> Bench {
     let text = Text::of(b"  submitted");
     let script = b.script;
-    let submitted = controller::submit(
+    let submitted = application::submit(
         b.controller,
         script.command,
         slices::part(bytes, 0, script.length),
@@ -46,7 +46,7 @@ pub fn submit(b: Bench, bytes: &[u8], response: &[u8]) -> Bench {
 pub fn acknowledge(b: Bench) -> Bench {
     let code = (b.script.decimal % 256) as u8;
     let text = Text::of(b"  acknowledged ").decimal(code as usize);
-    let acknowledged = controller::acknowledge(b.controller, code);
+    let acknowledged = application::acknowledge(b.controller, code);
     let outcome = acknowledged.outcome;
     match outcome {
         Acknowledging::Cleared => text.end(),
@@ -57,7 +57,7 @@ pub fn acknowledge(b: Bench) -> Bench {
 
 // The ring in its order, marks as stars; whether a frame may start, and whether a command waits for its frame.
 pub fn look(c: Controller) {
-    let looks = controller::look(c);
+    let looks = application::look(c);
     let ring = looks.ring;
     let text = Text::of(b"  ring of ").decimal(ring.len()).words(b":");
     entries(text, ring)

@@ -10,7 +10,7 @@ use Rattle.message.specs.Format.{commandFormat, bytesOf, least}
 use Rattle.message.specs.Reading.{reading}
 use Rattle.message.specs.Writing.{writing, writtenAs}
 use Rattle.command.specs.Command.{messageOf}
-use Rattle.controller.specs.Calls.{controllerSubmitted}
+use Rattle.application.specs.Calls.{controllerSubmitted}
 use Rattle.controller.specs.Controller.{controllerOf, controllerStep}
 use Rattle.controller.specs.declared.Controller.{Controller}
 use Rattle.frame.specs.declared.Stage.the-variants.{Free}

@@ -1,8 +1,8 @@
 // Steps one unit along a script of levels, a thousand rounds for each word that it is started with, its own name among them. Counting
 // its instructions at two numbers of words gives those of a step (docs/DECISIONS.md, "Where the queues' bytes live").
+use host::Made;
 use libc::STDOUT_FILENO;
 use line::Lines;
-use unit::Made;
 use unit::Stepped;
 use unit::Unit;
 
@@ -12,7 +12,7 @@ fn main() {
     let mut output = [0u8; 256];
     let mut script = [0u8; 256];
     os::arg(1, &mut script);
-    match unit::make(20, unit::RETRY) {
+    match host::make(20, host::RETRY) {
         Made::New(u) => run(u, &script, &mut buffer, &input, &mut output),
         Made::Setting => {}
     }

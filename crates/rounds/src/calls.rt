@@ -1,12 +1,12 @@
 // The calls of a unit's host, and what each comes to in words.
 use crate::bench::Bench;
+use host::Fed;
+use host::Made;
+use host::Raised;
+use host::Taken;
 use serial::Mode;
 use serial::Opening;
 use text::Text;
-use unit::Fed;
-use unit::Made;
-use unit::Raised;
-use unit::Taken;
 use unit::Unit;
 
 pub fn make(b: Bench) -> Bench {
@@ -16,7 +16,7 @@ pub fn make(b: Bench) -> Bench {
         .decimal(own as usize)
         .words(b", retry ")
         .decimal(script.decimal as usize);
-    match unit::make(own, script.decimal) {
+    match host::make(own, script.decimal) {
         Made::New(u) => {
             text.words(b": made").end();
             b.with_unit(u).with_script(script.begun())
@@ -30,7 +30,7 @@ pub fn make(b: Bench) -> Bench {
 
 pub fn feed(b: Bench, byte: u8, input: &mut [u8; 256]) -> Bench {
     let text = Text::of(b"  fed ").hex(byte);
-    match unit::feed(b.unit, input, byte) {
+    match host::feed(b.unit, input, byte) {
         Fed::Queued(u) => {
             text.end();
             b.with_unit(u)
@@ -59,7 +59,7 @@ pub fn feed_many(bench: Bench, input: &mut [u8; 256]) -> Bench {
 
 fn feed_next(b: Bench, input: &mut [u8; 256]) -> Bench {
     let byte = b.next;
-    match unit::feed(b.unit, input, byte) {
+    match host::feed(b.unit, input, byte) {
         Fed::Queued(u) => {
             let mut next = b.with_unit(u);
             next.next = byte % 255 + 1;
@@ -71,7 +71,7 @@ fn feed_next(b: Bench, input: &mut [u8; 256]) -> Bench {
 }
 
 pub fn take(b: Bench, output: &[u8; 256]) -> Bench {
-    match unit::take(b.unit, output) {
+    match host::take(b.unit, output) {
         Taken::Byte(byte, u) => {
             Text::of(b"  taken ").hex(byte).end();
             b.with_unit(u)
@@ -84,7 +84,7 @@ pub fn take(b: Bench, output: &[u8; 256]) -> Bench {
 }
 
 pub fn raise(b: Bench) -> Bench {
-    match unit::raise(b.unit) {
+    match host::raise(b.unit) {
         Raised::Held(u) => {
             Text::of(b"  raised").end();
             b.with_unit(u)
@@ -97,7 +97,7 @@ pub fn raise(b: Bench) -> Bench {
 }
 
 pub fn look(u: Unit) {
-    let looks = unit::look(u);
+    let looks = host::look(u);
     let how = looks.opening;
     let text = opening(Text::of(b"  unit "), how)
         .words(b", input ")

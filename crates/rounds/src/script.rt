@@ -3,13 +3,13 @@ use crate::bench::Bench;
 use crate::calls;
 use crate::frame;
 use crate::rounds;
+use host::Made;
 use play::wire;
 use text::Text;
 use text::slices;
-use unit::Made;
 
 pub fn run(script: &[u8]) {
-    match unit::make(20, unit::RETRY) {
+    match host::make(20, host::RETRY) {
         Made::New(u) => {
             let mut data = [0u8; 512];
             let mut answer = [0u8; 512];

@@ -1,11 +1,10 @@
--- Document 01, "Lines and rounds": a unit's state, its round, what it pulls, and what may be looked at.
+-- Document 01, "Lines and rounds": a unit's state, its round, and what it pulls.
 use Prim.Native.Nat.{ℕ, _+_, min}
 use mathlib.Core.Bool.{Bool, true, false, cond, not, _&&_}
 use mathlib.Core.List.{List}
 use lib.Dec.{leb}
 use Rattle.line.specs.Line.{senderHsk, senderNibble, listenerHsk}
 use Rattle.line.specs.declared.Lines.{Lines}
-use Rattle.queue.specs.Queue.{held}
 use Rattle.serial.specs.Serial.{newSerial}
 use Rattle.serial.specs.declared.Serial.{Serial}
 use Rattle.phase.specs.Phase.{phaseStep, phaseBuffer, phaseOutput}
@@ -13,7 +12,6 @@ use Rattle.phase.specs.declared.Moved.{Moved}
 use Rattle.phase.specs.declared.Phase.{Phase}
 use Rattle.phase.specs.declared.Phase.the-variants.{Idle, Selecting, Receiving, Responding, SittingOut}
 use Rattle.unit.specs.declared.Unit.{Unit}
-use Rattle.unit.specs.declared.Looks.{Looks}
 
 -- A new unit is idle, and pulls no line.
 abbrev pub newUnit : ℕ → ℕ → Unit
@@ -82,13 +80,3 @@ unitBuffer u seen buffer = cond (seen .bav) (phaseBuffer (u .phase) seen buffer)
 
 abbrev pub unitOutput : Unit → Lines → List ℕ → List ℕ → List ℕ
 unitOutput u seen buffer output = cond (seen .bav) (phaseOutput (u .phase) (u .serial) seen buffer output) output
-
--- Open and how, queued counts, enabled, requesting.
-abbrev pub looksOf : Unit → Looks
-looksOf u = record {
-  opening = u .serial .opening;
-  input = held (u .serial .input);
-  output = held (u .serial .output);
-  enabled = u .serial .enabled;
-  requesting = u .serial .requesting;
-}
