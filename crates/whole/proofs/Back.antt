@@ -20,19 +20,19 @@ use Rattle.message.specs.Nibbles.{nibbleIn}
 use Rattle.whole.specs.Back.{responseFor, takenAt, storedAt, Answered, lengthOf, received, Completes, NotBefore, Received}
 
 -- The two nibbles of byte j.
-low-nibble : (bytes : List ℕ) (j : ℕ) → nibbleIn bytes (2 * j) ≡ getD bytes j 255 % 16
+pub low-nibble : (bytes : List ℕ) (j : ℕ) → nibbleIn bytes (2 * j) ≡ getD bytes j 255 % 16
 low-nibble bytes j =
     let half : 2 * j / 2 ≡ j = omega arith in
     let side : 2 * j % 2 ≡ 0 = omega arith in
     nibble-at bytes (2 * j) ∙ rw (half, side)
 
-high-nibble : (bytes : List ℕ) (j : ℕ) → nibbleIn bytes (suc (2 * j)) ≡ getD bytes j 255 / 16 % 16
+pub high-nibble : (bytes : List ℕ) (j : ℕ) → nibbleIn bytes (suc (2 * j)) ≡ getD bytes j 255 / 16 % 16
 high-nibble bytes j =
     let half : suc (2 * j) / 2 ≡ j = omega arith in
     let side : suc (2 * j) % 2 ≡ 1 = omega arith in
     nibble-at bytes (suc (2 * j)) ∙ rw (half, side)
 
-byte-own : (b : ℕ) → b < 256 → byteFrom (b % 16) (b / 16 % 16) ≡ b
+pub byte-own : (b : ℕ) → b < 256 → byteFrom (b % 16) (b / 16 % 16) ≡ b
 byte-own b h = omega arith
 
 -- A response of which whole bytes were taken: one nibble more, and one byte more.

@@ -12,9 +12,11 @@ use lib.Seq.{take-at, take-suc, take-length, set-out, length-take-le}
 use Rattle.header.specs.Header.{headerBytes, headerIn}
 use Rattle.header.specs.declared.Command.{Command}
 use Rattle.header.specs.declared.Header.{Header}
-use Rattle.header.proofs.Laws.{header-own}
-use Rattle.phase.specs.Phase.{bufferWith}
-use Rattle.whole.specs.Whole.{bytesFor, byteAt, frontAt, headAt, bufferAt, withData, headerFor, Sent, Bytes, WholeHeader, WholeBuffer, WholeData}
+use Rattle.header.proofs.Laws.{Holds, holds-with, header-own}
+use Rattle.field.specs.Field.{Below}
+use Rattle.message.proofs.Fields.{below-set, zeros-below}
+use Rattle.phase.specs.Phase.{bufferWith, withByte}
+use Rattle.whole.specs.Whole.{bytesFor, byteAt, frontAt, headAt, bufferAt, withData, headerFor, Sent, Bytes, NextHeader, WholeHeader, Length, NotLast, Last, WholeBuffer, WholeData}
 
 -- Nine and i more.
 abbrev nine : ℕ → ℕ
@@ -41,9 +43,19 @@ bytes-below c d (suc (suc (suc (suc (suc (suc (suc zero))))))) p = omega arith
 bytes-below c d (suc (suc (suc (suc (suc (suc (suc (suc zero)))))))) p = omega arith
 bytes-below c d (suc (suc (suc (suc (suc (suc (suc (suc (suc i))))))))) p = subst (λ (x : ℕ). x < 256) (sym (byte-behind c d i)) (past d i (p .bytes))
 
+front-below : (c : Command) (d : List ℕ) (j : ℕ) → Sent c d → Below 256 (frontAt (bytesFor c d) j)
+front-below c d zero p = zeros-below 9
+front-below c d (suc j) p = below-set (frontAt (bytesFor c d) j) j (byteAt (bytesFor c d) j) (front-below c d j p) (bytes-below c d j p)
+
 front-length : (bytes : List ℕ) (j : ℕ) → length (frontAt bytes j) ≡ 9
 front-length bytes zero = refl
 front-length bytes (suc j) = length-set (frontAt bytes j) j (byteAt bytes j) ∙ front-length bytes j
+
+pub next-header : NextHeader
+next-header c d j p =
+    let t = frontAt (bytesFor c d) j in
+    let b = byteAt (bytesFor c d) j in
+    holds-with {h = headerIn t} {r = withByte (headerIn t) j b} {t = t} j b (record { says = refl; nine = front-length (bytesFor c d) j; bytes = front-below c d j p }) (bytes-below c d j p) refl .says
 
 front-whole : (c : Command) (d : List ℕ) (i : ℕ) → frontAt (bytesFor c d) (nine i) ≡ headerBytes (headerFor c d)
 front-whole c d zero = refl
@@ -56,6 +68,24 @@ header-whole c d i p = ap headerIn (front-whole c d i) ∙ header-own (headerFor
 
 pub whole-header : WholeHeader
 whole-header c d j p h = let e : nine (j - 9) ≡ j = omega arith in subst (λ (k : ℕ). headAt (bytesFor c d) k ≡ headerFor c d) e (header-whole c d (j - 9) p)
+
+pub length-bytes : Length
+length-bytes c d = let l : length (d ++ []) ≡ length d = ap length (append-nil d) in omega arith
+
+not-last-by : (t : Bool) (c : Command) (d : List ℕ) (j : ℕ) → ltb j 8 ≡ t → Sent c d → suc j < 9 + length d → j < 8 + headAt (bytesFor c d) (suc j) .«data_length»
+not-last-by true c d j e p h = let q = ltb-true j 8 e in omega arith
+not-last-by false c d j e p h =
+    let q : 8 ≤ j = ltb-false j 8 e in
+    let n : headAt (bytesFor c d) (suc j) .«data_length» ≡ length d = ap (λ (x : Header). x .«data_length») (whole-header c d (suc j) p (omega arith)) in
+    omega arith
+
+pub not-last : NotLast
+not-last c d j p h = lt-leb (8 + headAt (bytesFor c d) (suc j) .«data_length») j (not-last-by (ltb j 8) c d j refl p h)
+
+pub last : Last
+last c d j p h =
+    let n : headAt (bytesFor c d) (suc j) .«data_length» ≡ length d = ap (λ (x : Header). x .«data_length») (whole-header c d (suc j) p (omega arith)) in
+    le-leb (8 + headAt (bytesFor c d) (suc j) .«data_length») j (omega arith)
 
 -- Nothing before byte 9 is stored.
 kept : (n place b : ℕ) (buffer : List ℕ) → place < 9 → bufferWith n place b buffer ≡ buffer

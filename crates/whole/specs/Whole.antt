@@ -12,7 +12,7 @@ use Rattle.header.specs.Header.{InRange, headerIn}
 use Rattle.header.specs.declared.Command.{Command}
 use Rattle.header.specs.declared.Header.{Header}
 use Rattle.message.specs.Format.{commandFormat, bytesOf}
-use Rattle.phase.specs.Phase.{bufferWith, storedData}
+use Rattle.phase.specs.Phase.{bufferWith, storedData, withByte, isLast}
 
 -- The bytes of a command with its data. Past their end a byte has all bits set, as released lines have.
 abbrev pub bytesFor : Command → List ℕ → List ℕ
@@ -53,9 +53,23 @@ headerFor c d = record { command = c; «data_length» = length d }
 abbrev pub Bytes : Type 0
 Bytes = (c : Command) (d : List ℕ) (j : ℕ) → Sent c d → byteAt (bytesFor c d) j < 256
 
+-- A header with one byte more is the next one.
+abbrev pub NextHeader : Type 0
+NextHeader = (c : Command) (d : List ℕ) (j : ℕ) → Sent c d → withByte (headAt (bytesFor c d) j) j (byteAt (bytesFor c d) j) ≡ headAt (bytesFor c d) (suc j)
+
 -- From byte 9 on the header is the command's own, with its data's length.
 abbrev pub WholeHeader : Type 0
 WholeHeader = (c : Command) (d : List ℕ) (j : ℕ) → Sent c d → 9 ≤ j → headAt (bytesFor c d) j ≡ headerFor c d
+
+-- A byte is the last exactly when it is the last of the message.
+abbrev pub Length : Type 0
+Length = (c : Command) (d : List ℕ) → length (bytesFor c d) ≡ 9 + length d
+
+abbrev pub NotLast : Type 0
+NotLast = (c : Command) (d : List ℕ) (j : ℕ) → Sent c d → suc j < 9 + length d → isLast (headAt (bytesFor c d) (suc j) .«data_length») j ≡ false
+
+abbrev pub Last : Type 0
+Last = (c : Command) (d : List ℕ) (j : ℕ) → Sent c d → suc j ≡ 9 + length d → isLast (headAt (bytesFor c d) (suc j) .«data_length») j ≡ true
 
 -- When the last byte is there, the buffer holds the data at its front, and the checks see just the data.
 abbrev pub WholeBuffer : Type 0

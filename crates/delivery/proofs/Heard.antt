@@ -1,0 +1,217 @@
+-- One sender and one listener, against one view of the lines; and what a unit that listens takes.
+use Prim.Native.Nat.{ℕ, zero, suc, _+_, _-_, _*_, _/_, _%_, _<_, _≤_}
+use native.Mathlib.Nat.{mod-eq-of-lt}
+use native.Mathlib.Omega.{arith}
+use mathlib.Core.Path.{_≡_, refl, sym, _∙_, ap, subst}
+use mathlib.Core.Bool.{Bool, true, false, cond, not, _||_, true≢false, false≢true}
+use mathlib.Core.List.{List, []}
+use borrow.Author.Tests.{lt-leb, le-leb}
+use lib.Dec.{eqb}
+use lib.ListN.{length}
+use Rattle.field.specs.Field.{byteFrom}
+use Rattle.line.specs.Line.{sendOf, sentOf, hearOf, takenOf, isReady}
+use Rattle.line.specs.declared.Lines.{Lines}
+use Rattle.line.specs.declared.Listener.{Listener}
+use Rattle.line.specs.declared.Listener.the-variants.{Ready, Holding, Waiting}
+use Rattle.line.specs.declared.Sender.{Sender}
+use Rattle.line.specs.declared.Sender.the-variants.{Next, Placed, Kept}
+use Rattle.phase.specs.Phase.{phaseStep, phaseBuffer, phaseOutput}
+use Rattle.phase.specs.declared.Phase.{Phase}
+use Rattle.phase.specs.declared.Phase.the-variants.{Selecting, Receiving, SittingOut}
+use Rattle.serial.specs.declared.Serial.{Serial}
+use Rattle.header.specs.declared.Command.{Command}
+use Rattle.header.specs.declared.Header.{Header}
+use Rattle.message.specs.Nibbles.{nibbleIn}
+use Rattle.phase.specs.Phase.{partial, withByte, byteStep, byteBuffer, byteOutput, answered, stored, selected, isLast, bufferWith, moves}
+use Rattle.phase.specs.declared.Moved.{Moved}
+use Rattle.phase.specs.declared.Partial.{Partial}
+use Rattle.phase.specs.declared.Progress.the-variants.{Taking, Answered}
+use Rattle.whole.specs.Whole.{bytesFor, byteAt, headAt, bufferAt, headerFor, withData, storedOf, Sent}
+use Rattle.whole.proofs.Whole.{bytes-below, next-header, length-bytes, not-last, last, whole-header, whole-buffer, whole-data}
+use Rattle.whole.proofs.Back.{low-nibble, high-nibble, byte-own}
+use Rattle.delivery.specs.Heard.{Fits, f-next, f-placed, f-holds, f-waits, Sees, Heard, h-none, h-first, h-byte, h-half}
+
+-- A round of the pair: nothing changes but the places; or the nibble is taken; or it counts as sent.
+pub data Pair (n : ℕ) (sender : Sender) (ear : Listener) (t : ℕ) (low : Bool) (seen : ℕ) (busy : Bool) : Type 0 where
+  rests : takenOf ear low ≡ false → sentOf sender low ≡ false → Fits n (sendOf sender low n) (hearOf ear low busy) t → Pair n sender ear t low seen busy
+  takes : ear ≡ Ready → low ≡ true → seen ≡ n → t ≡ 0 → sentOf sender low ≡ false → Fits n (sendOf sender low n) Holding 1 → Pair n sender ear t low seen busy
+  sends : takenOf ear low ≡ false → sentOf sender low ≡ true → low ≡ false → hearOf ear low busy ≡ Ready → t ≡ 1 → Pair n sender ear t low seen busy
+
+pub pair : {n t : ℕ} {sender : Sender} {ear : Listener} (low : Bool) (seen : ℕ) (busy : Bool) → Fits n sender ear t → Sees sender ear low seen → Pair n sender ear t low seen busy
+pair true seen busy f-next e = absurd (true≢false e)
+pair false seen busy f-next e = rests refl refl f-placed
+pair true seen busy f-placed e = takes refl refl (e .1) refl refl f-holds
+pair false seen busy f-placed e = absurd (false≢true (e .0))
+pair true seen true f-holds e = rests refl refl f-holds
+pair true seen false f-holds e = rests refl refl f-waits
+pair false seen busy f-holds e = absurd (false≢true e)
+pair true seen busy f-waits e = rests refl refl f-waits
+pair false seen busy f-waits e = sends refl refl refl refl refl
+
+-- What a unit's round does to its phase, its state, the lent buffer and the output queue's bytes.
+pub record Round (p : Phase) (own : ℕ) (s : Serial) (seen : Lines) (busy : Bool) (b input o : List ℕ) (p′ : Phase) (t : Serial) (b′ o′ : List ℕ) : Type 0 where
+  pub phase : phaseStep p own s seen busy b input .phase ≡ p′
+  pub serial : phaseStep p own s seen busy b input .serial ≡ t
+  pub buffer : phaseBuffer p seen b ≡ b′
+  pub output : phaseOutput p s seen b o ≡ o′
+
+-- A unit that does not take a nibble keeps what it has, and its listener goes on.
+pub data Waits (bytes : List ℕ) (k : ℕ) (ear : Listener) (phase : Phase) (own : ℕ) (s : Serial) (seen : Lines) (busy : Bool) (buffer input output : List ℕ) : Type 0 where
+  waits : (after : Phase) → Heard bytes ear k after buffer → Round phase own s seen busy buffer input output after s buffer output → Waits bytes k ear phase own s seen busy buffer input output
+
+pub heard-waits :
+    {bytes : List ℕ} {ear : Listener} {k : ℕ} {phase : Phase} {buffer : List ℕ} (own : ℕ) (s : Serial) (seen : Lines) (busy : Bool) (input output : List ℕ)
+    → Heard bytes ear k phase buffer → takenOf ear (seen .hsk) ≡ false
+    → Waits bytes k (hearOf ear (seen .hsk) busy) phase own s seen busy buffer input output
+heard-waits own s seen busy input output (h-none room) e = waits _ (h-none room) (record { phase = rw e; serial = refl; buffer = refl; output = refl })
+heard-waits own s seen busy input output (h-first room) e = waits _ (h-first room) (record { phase = rw e; serial = refl; buffer = refl; output = refl })
+heard-waits own s seen busy input output (h-byte j buffer room g h) e = waits _ (h-byte j buffer room g h) (record { phase = rw e; serial = rw e; buffer = rw e; output = rw e })
+heard-waits own s seen busy input output (h-half j buffer room g h) e = waits _ (h-half j buffer room g h) (record { phase = rw e; serial = rw e; buffer = rw e; output = rw e })
+
+-- A unit that takes the nibble that is next.
+pub data Takes (bytes : List ℕ) (k : ℕ) (phase : Phase) (own : ℕ) (s : Serial) (seen : Lines) (busy : Bool) (buffer input output : List ℕ) : Type 0 where
+  takes-it :
+      (after : Phase) (buffer′ : List ℕ) → Heard bytes Holding (suc k) after buffer′ → Round phase own s seen busy buffer input output after s buffer′ output
+      → Takes bytes k phase own s seen busy buffer input output
+
+-- The last nibble: the answer is fixed, and effects happen.
+pub record Fixed (h : Header) (b : List ℕ) (p : Phase) (own : ℕ) (s : Serial) (seen : Lines) (busy : Bool) (buffer input output : List ℕ) : Type 0 where
+  pub round : Round p own s seen busy buffer input output (answered s h b .phase) (answered s h b .serial) b (stored s h b output)
+
+module _ (c : Command) (d : List ℕ) (ok : Sent c d) (own : ℕ) (s : Serial) (seen : Lines) (busy : Bool) (input output : List ℕ) (low : seen .hsk ≡ true) where
+  abbrev bytes : List ℕ
+  bytes = bytesFor c d
+
+  -- A byte from its two nibbles.
+  byte-from : (j n : ℕ) → n ≡ byteAt bytes j / 16 % 16 → byteFrom (byteAt bytes j % 16) n ≡ byteAt bytes j
+  byte-from j n e = ap (byteFrom (byteAt bytes j % 16)) e ∙ byte-own (byteAt bytes j) (bytes-below c d j ok)
+
+  -- A unit with half of byte j takes the other half.
+  abbrev halfAt : ℕ → Phase
+  halfAt j = Receiving Ready (Taking (record { header = headAt bytes j; place = j; half = true; low = byteAt bytes j % 16 }))
+
+  abbrev byteOf : ℕ → ℕ
+  byteOf j = byteFrom (byteAt bytes j % 16) (seen .nibble)
+
+  abbrev movedBy : ℕ → Header → ℕ → List ℕ → Moved
+  movedBy j x b buffer = cond (isLast (x .«data_length») j) (answered s x (bufferWith (x .«data_length») j b buffer)) (moves (Receiving Holding (Taking (partial x (j + 1)))) s)
+
+  abbrev outputBy : ℕ → Header → ℕ → List ℕ → List ℕ
+  outputBy j x b buffer = cond (isLast (x .«data_length») j) (stored s x (bufferWith (x .«data_length») j b buffer) output) output
+
+  module _ (j : ℕ) (buffer : List ℕ) (seen-high : seen .nibble ≡ byteAt bytes j / 16 % 16) where
+    byte-moved : phaseStep (halfAt j) own s seen busy buffer input ≡ movedBy j (headAt bytes (suc j)) (byteAt bytes j) buffer
+    byte-moved =
+        ap (λ (t : Bool). cond t (movedBy j (withByte (headAt bytes j) j (byteOf j)) (byteOf j) buffer) (moves (Receiving (hearOf Ready (seen .hsk) busy) (Taking (record { header = headAt bytes j; place = j; half = true; low = byteAt bytes j % 16 }))) s)) low
+        ∙ ap (λ (n : ℕ). movedBy j (withByte (headAt bytes j) j n) n buffer) (byte-from j (seen .nibble) seen-high)
+        ∙ ap (λ (x : Header). movedBy j x (byteAt bytes j) buffer) (next-header c d j ok)
+
+    byte-buffer : phaseBuffer (halfAt j) seen buffer ≡ bufferWith (headAt bytes (suc j) .«data_length») j (byteAt bytes j) buffer
+    byte-buffer =
+        ap (λ (t : Bool). cond t (bufferWith (withByte (headAt bytes j) j (byteOf j) .«data_length») j (byteOf j) buffer) buffer) low
+        ∙ ap (λ (n : ℕ). bufferWith (withByte (headAt bytes j) j n .«data_length») j n buffer) (byte-from j (seen .nibble) seen-high)
+        ∙ ap (λ (x : Header). bufferWith (x .«data_length») j (byteAt bytes j) buffer) (next-header c d j ok)
+
+    byte-output : phaseOutput (halfAt j) s seen buffer output ≡ outputBy j (headAt bytes (suc j)) (byteAt bytes j) buffer
+    byte-output =
+        ap (λ (t : Bool). cond t (outputBy j (withByte (headAt bytes j) j (byteOf j)) (byteOf j) buffer) output) low
+        ∙ ap (λ (n : ℕ). outputBy j (withByte (headAt bytes j) j n) n buffer) (byte-from j (seen .nibble) seen-high)
+        ∙ ap (λ (x : Header). outputBy j x (byteAt bytes j) buffer) (next-header c d j ok)
+
+    -- It is not the last byte.
+    byte-goes-on : isLast (headAt bytes (suc j) .«data_length») j ≡ false
+        → Round (halfAt j) own s seen busy buffer input output (Receiving Holding (Taking (partial (headAt bytes (suc j)) (suc j)))) s (bufferWith (headAt bytes (suc j) .«data_length») j (byteAt bytes j) buffer) output
+    byte-goes-on e =
+        let next : j + 1 ≡ suc j = omega arith in
+        let m : phaseStep (halfAt j) own s seen busy buffer input ≡ moves (Receiving Holding (Taking (partial (headAt bytes (suc j)) (suc j)))) s =
+        byte-moved ∙ rw (e, next) in
+        record { phase = ap (λ (x : Moved). x .phase) m; serial = ap (λ (x : Moved). x .serial) m; buffer = byte-buffer; output = byte-output ∙ rw e }
+
+    -- It is the last.
+    byte-ends : isLast (headAt bytes (suc j) .«data_length») j ≡ true
+        → Fixed (headAt bytes (suc j)) (bufferWith (headAt bytes (suc j) .«data_length») j (byteAt bytes j) buffer) (halfAt j) own s seen busy buffer input output
+    byte-ends e =
+        let x = headAt bytes (suc j) in
+        let b = bufferWith (x .«data_length») j (byteAt bytes j) buffer in
+        let m : phaseStep (halfAt j) own s seen busy buffer input ≡ answered s x b = byte-moved ∙ rw e in
+        record { round = record { phase = ap (λ (y : Moved). y .phase) m; serial = ap (λ (y : Moved). y .serial) m; buffer = byte-buffer; output = byte-output ∙ rw e } }
+
+  -- The device code is the unit's own or 0.
+  chosen : (b : ℕ) → (eqb b own || eqb b 0) ≡ true → selected own b ≡ Receiving Holding (Taking (partial (withByte (headAt bytes 0) 0 b) 1))
+  chosen b e = rw e
+
+  device-own : byteAt bytes 0 ≡ c .device
+  device-own = mod-eq-of-lt (ok .fields .device)
+
+  pub heard-takes :
+      {k : ℕ} {phase : Phase} {buffer : List ℕ} → Heard bytes Ready k phase buffer → seen .nibble ≡ nibbleIn bytes k → suc k < 2 * length bytes
+      → (k ≡ 1 → (eqb (c .device) own || eqb (c .device) 0) ≡ true)
+      → Takes bytes k phase own s seen busy buffer input output
+  heard-takes (h-none room) q l a =
+      takes-it _ _ (h-first room) (record {
+        phase = ap (λ (t : Bool). cond t (Selecting Holding true (seen .nibble)) (Selecting (hearOf Ready (seen .hsk) busy) false 0)) low ∙ ap (Selecting Holding true) (q ∙ low-nibble bytes 0);
+        serial = refl;
+        buffer = refl;
+        output = refl;
+      })
+  heard-takes (h-first {buffer = buffer} room) q l a =
+      takes-it _ _ (h-byte 1 buffer room (omega arith) (omega arith)) (record {
+        phase =
+            ap (λ (t : Bool). cond t (selected own (byteOf 0)) (Selecting (hearOf Ready (seen .hsk) busy) true (byteAt bytes 0 % 16))) low
+            ∙ ap (selected own) (byte-from 0 (seen .nibble) (q ∙ high-nibble bytes 0))
+            ∙ chosen (byteAt bytes 0) (ap (λ (x : ℕ). eqb x own || eqb x 0) device-own ∙ a refl)
+            ∙ ap (λ (x : Header). Receiving Holding (Taking (partial x 1))) (next-header c d 0 ok);
+        serial = refl;
+        buffer = refl;
+        output = refl;
+      })
+  heard-takes (h-byte j buffer room g h) q l a =
+      let m : phaseStep (Receiving Ready (Taking (partial (headAt bytes j) j))) own s seen busy (bufferAt bytes j buffer) input ≡ moves (Receiving Holding (Taking (record { header = headAt bytes j; place = j; half = true; low = byteAt bytes j % 16 }))) s =
+      ap (λ (t : Bool). cond t (moves (Receiving Holding (Taking (record { header = headAt bytes j; place = j; half = true; low = seen .nibble }))) s) (moves (Receiving (hearOf Ready (seen .hsk) busy) (Taking (partial (headAt bytes j) j))) s)) low
+      ∙ ap (λ (n : ℕ). moves (Receiving Holding (Taking (record { header = headAt bytes j; place = j; half = true; low = n }))) s) (q ∙ low-nibble bytes j) in
+      takes-it _ _ (h-half j buffer room g h) (record {
+        phase = ap (λ (x : Moved). x .phase) m;
+        serial = ap (λ (x : Moved). x .serial) m;
+        buffer = rw low;
+        output = rw low;
+      })
+  heard-takes (h-half j buffer room g h) q l a =
+      let more : suc j < length bytes = omega arith in
+      let next : 2 * suc j ≡ suc (suc (2 * j)) = omega arith in
+      let n : length bytes ≡ 9 + length d = length-bytes c d in
+      takes-it _ _ (subst (λ (x : ℕ). Heard bytes Holding x (Receiving Holding (Taking (partial (headAt bytes (suc j)) (suc j)))) (bufferAt bytes (suc j) buffer)) next (h-byte (suc j) buffer room (omega arith) more))
+      (byte-goes-on j (bufferAt bytes j buffer) (q ∙ high-nibble bytes j) (not-last c d j ok (omega arith)))
+
+  -- The last nibble of the command.
+  pub heard-last :
+      {k : ℕ} {phase : Phase} {buffer : List ℕ} → Heard bytes Ready k phase buffer → seen .nibble ≡ nibbleIn bytes k → suc k ≡ 2 * length bytes
+      → (b : List ℕ) × (256 ≤ length b) × Fixed (headerFor c d) (withData d b) phase own s seen busy buffer input output
+  heard-last (h-none room) q l = let n : length bytes ≡ 9 + length d = length-bytes c d in absurd (omega arith)
+  heard-last (h-first room) q l = let n : length bytes ≡ 9 + length d = length-bytes c d in absurd (omega arith)
+  heard-last (h-byte j buffer room g h) q l = absurd (omega arith)
+  heard-last (h-half j buffer room g h) q l =
+      let n : length bytes ≡ 9 + length d = length-bytes c d in
+      let all : suc j ≡ 9 + length d = omega arith in
+      let old = bufferAt bytes j buffer in
+      let full : bufferAt bytes (suc j) buffer ≡ withData d buffer = ap (λ (x : ℕ). bufferAt bytes x buffer) all ∙ whole-buffer c d buffer ok room in
+      let fixed = byte-ends j old (q ∙ high-nibble bytes j) (last c d j ok all) in
+      (buffer, room, subst (λ (b : List ℕ). Fixed (headerFor c d) b (halfAt j) own s seen busy old input output) full (subst (λ (x : Header). Fixed x (bufferAt bytes (suc j) buffer) (halfAt j) own s seen busy old input output) (whole-header c d (suc j) ok (omega arith)) fixed))
+
+  -- The device code is another's: the unit sits out.
+  pub heard-other :
+      {k : ℕ} {phase : Phase} {buffer : List ℕ} → Heard bytes Ready k phase buffer → k ≡ 1 → seen .nibble ≡ nibbleIn bytes 1 → (eqb (c .device) own || eqb (c .device) 0) ≡ false
+      → Round phase own s seen busy buffer input output (SittingOut true) s buffer output
+  heard-other (h-none room) e q a = absurd (omega arith)
+  heard-other (h-first room) e q a =
+      let z : (eqb (byteAt bytes 0) own || eqb (byteAt bytes 0) 0) ≡ false = ap (λ (x : ℕ). eqb x own || eqb x 0) device-own ∙ a in
+      record {
+        phase =
+            ap (λ (t : Bool). cond t (selected own (byteOf 0)) (Selecting (hearOf Ready (seen .hsk) busy) true (byteAt bytes 0 % 16))) low
+            ∙ ap (selected own) (byte-from 0 (seen .nibble) (q ∙ high-nibble bytes 0))
+            ∙ rw z;
+        serial = refl;
+        buffer = refl;
+        output = refl;
+      }
+  heard-other (h-byte j buffer room g h) e q a = absurd (omega arith)
+  heard-other (h-half j buffer room g h) e q a = absurd (omega arith)

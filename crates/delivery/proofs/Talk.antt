@@ -1,0 +1,301 @@
+-- The unit that responds, beside the controller that listens.
+use Prim.Native.Nat.{ℕ, zero, suc, _+_, _-_, _*_, _<_, _≤_}
+use native.Mathlib.Nat.{add-zero}
+use native.Mathlib.Omega.{arith}
+use mathlib.Core.Path.{_≡_, refl, sym, _∙_, ap, subst}
+use mathlib.Core.Bool.{Bool, true, false, cond, not, _&&_, _||_, or-false, true≢false, false≢true}
+use mathlib.Core.List.{List}
+use borrow.Author.Tests.{lt-leb, ltb-true, ltb-false}
+use lib.Dec.{ltb, leb}
+use lib.ListN.{length}
+use Rattle.answer.specs.Answer.{nothingTaken, takenWith, bufferWith, isOver, statusOf, countOf}
+use Rattle.answer.specs.declared.Response.{Response}
+use Rattle.answer.specs.declared.Response.the-variants.{Complete}
+use Rattle.bus.specs.declared.Station.{Station}
+use Rattle.frame.specs.Frame.{listeningStep, listeningBuffer, over, stays, waited, quietAfter, isSubmitted}
+use Rattle.frame.specs.declared.Frame.{Frame}
+use Rattle.frame.specs.declared.Moved.{Moved}
+use Rattle.frame.specs.declared.Stage.the-variants.{Listening, Resting}
+use Rattle.header.specs.declared.Command.{Command}
+use Rattle.line.specs.Line.{sendOf, sentOf, hearOf, takenOf, isReady, listenerHsk, senderHsk, senderNibble}
+use Rattle.line.specs.declared.Lines.{Lines}
+use Rattle.line.specs.declared.Listener.{Listener}
+use Rattle.line.specs.declared.Listener.the-variants.{Ready, Holding, Waiting}
+use Rattle.line.specs.declared.Sender.{Sender}
+use Rattle.line.specs.declared.Sender.the-variants.{Next, Placed, Kept}
+use Rattle.message.specs.Nibbles.{nibbleIn}
+use Rattle.phase.specs.Phase.{phaseStep, respondingStep, moves}
+use Rattle.phase.specs.declared.Moved.{Moved as Step}
+use Rattle.phase.specs.declared.Phase.{Phase}
+use Rattle.phase.specs.declared.Phase.the-variants.{Responding, SittingOut}
+use Rattle.queue.specs.Queue.{contents}
+use Rattle.reply.specs.Reply.{replyStatus, replyData, responseBytes, lastNibble, replyLength}
+use Rattle.serial.specs.Serial.{finished}
+use Rattle.serial.specs.declared.Reply.{Reply}
+use Rattle.serial.specs.declared.Serial.{Serial}
+use Rattle.unit.specs.Unit.{pullsHsk, pullsNibble}
+use Rattle.whole.specs.Back.{responseFor, takenAt, storedAt, lengthOf, received, Answered}
+use Rattle.whole.proofs.Back.{response-completes, not-over-before, data-received}
+use Rattle.delivery.specs.Heard.{Fits, f-next, f-placed, f-holds, f-waits, Sees}
+use Rattle.delivery.specs.Promised.{Promised, dataFor}
+use Rattle.delivery.proofs.Heard.{Pair, rests, takes, sends, pair}
+use Rattle.delivery.proofs.Part.{Stepped}
+
+-- How long HSK may have been seen high, by where the sender is.
+abbrev pub Quiet : Sender → ℕ → Type 0
+Quiet Next q = q ≤ 1
+Quiet (Placed n) q = q ≤ 2
+Quiet (Kept n) q = q ≡ 0
+
+-- The data and the bytes of a promised response.
+abbrev pub dataOf : {c : Command} {d : List ℕ} {r : Reply} {s : Serial} {input : List ℕ} → Promised c d r s input → List ℕ
+dataOf {r = r} p = dataFor (p .given) (p .memory) r
+
+abbrev pub bytesOf : {c : Command} {d : List ℕ} {r : Reply} {s : Serial} {input : List ℕ} → Promised c d r s input → List ℕ
+bytesOf {r = r} p = responseFor (dataOf p) (replyStatus r)
+
+-- A promise to a unit whose state and input are the same.
+abbrev pub carried : {c : Command} {d : List ℕ} {r : Reply} {s s′ : Serial} {input input′ : List ℕ} → s′ ≡ s → input′ ≡ input → Promised c d r s input → Promised c d r s′ input′
+carried {r = r} e i p = record {
+  given = p .given;
+  memory = p .memory;
+  said = p .said;
+  stands = (λ k. dataFor (e k) (i k) r) ∙ p .stands;
+  long = ap (λ (x : Serial). replyLength (x .input) r) e ∙ p .long;
+  fits = p .fits;
+}
+
+-- A unit that responds to a command c while the controller's listener, what it has taken and how long it has seen HSK high are these,
+-- and the response buffer is what the frame found, with what was taken stored.
+pub data Talk (c : Command) (d : List ℕ) (stores : Bool) (found : List ℕ) (ear : Listener) (taken : Response) (quiet : ℕ) (buffer : List ℕ) (st : Station) : Type 0 where
+  talks :
+      (r : Reply) (j t : ℕ) (sender : Sender) (wait : Bool) → st .unit .phase ≡ Responding r j sender wait → (p : Promised c d r (st .unit .serial) (st .input))
+      → Fits (nibbleIn (bytesOf p) j) sender ear t → taken ≡ takenAt (bytesOf p) (c .«buffer_length») (j + t) → buffer ≡ storedAt (bytesOf p) (c .«buffer_length») stores (j + t) found
+      → j < lengthOf (dataOf p) → (wait ≡ true → (sender ≡ Next) × (quiet ≡ 0)) → Quiet sender quiet → st .unit .asking ≡ false
+      → Talk c d stores found ear taken quiet buffer st
+
+-- The number of the last nibble, and each nibble, by the promise.
+module _ {c : Command} {d : List ℕ} {r : Reply} {s : Serial} {input : List ℕ} (p : Promised c d r s input) where
+  pub last-is : lastNibble (s .input) r ≡ lengthOf (dataOf p) - 1
+  last-is = let l : lastNibble (s .input) r ≡ 5 + 2 * length (dataOf p) = ap (λ (x : ℕ). 5 + 2 * x) (p .long) in omega arith
+
+  pub bytes-are : responseBytes (contents input (s .input)) r ≡ bytesOf p
+  bytes-are = ap (λ (x : List ℕ). responseFor x (replyStatus r)) (p .stands)
+
+sees : {n t : ℕ} {sender : Sender} {ear : Listener} (seen : Lines) → Fits n sender ear t → seen .hsk ≡ (listenerHsk ear || senderHsk sender) → seen .nibble ≡ senderNibble sender → Sees sender ear (seen .hsk) (seen .nibble)
+sees seen f-next h q = h
+sees seen f-placed h q = (h, q)
+sees seen f-holds h q = h
+sees seen f-waits h q = tt
+
+fits-ready : {n t : ℕ} {sender : Sender} {ear : Listener} → Fits n sender ear (suc t) → isReady ear ≡ false
+fits-ready f-holds = refl
+fits-ready f-waits = refl
+
+quiet-zero : (sender : Sender) → Quiet sender 0
+quiet-zero Next = omega arith
+quiet-zero (Placed n) = omega arith
+quiet-zero (Kept n) = refl
+
+quiet-rests : {n t : ℕ} {sender : Sender} {ear : Listener} (q : ℕ) (low : Bool) (seen : ℕ) → Fits n sender ear t → Sees sender ear low seen → takenOf ear low ≡ false → sentOf sender low ≡ false → Quiet sender q → Quiet (sendOf sender low n) (quietAfter q low)
+quiet-rests q true seen f-next e a b h = absurd (true≢false e)
+quiet-rests q false seen f-next e a b h = omega arith
+quiet-rests q true seen f-placed e a b h = absurd (true≢false a)
+quiet-rests q false seen f-placed e a b h = absurd (false≢true (e .0))
+quiet-rests q true seen f-holds e a b h = refl
+quiet-rests q false seen f-holds e a b h = absurd (false≢true e)
+quiet-rests q true seen f-waits e a b h = refl
+quiet-rests q false seen f-waits e a b h = absurd (true≢false b)
+
+quiet-bound : (sender : Sender) (q : ℕ) → Quiet sender q → q ≤ 2
+quiet-bound Next q h = omega arith
+quiet-bound (Placed n) q h = h
+quiet-bound (Kept n) q h = omega arith
+
+quiet-kept : {n : ℕ} {sender : Sender} {ear : Listener} (q : ℕ) → Fits n sender ear 1 → Quiet sender q → q ≡ 0
+quiet-kept q f-holds h = h
+quiet-kept q f-waits h = h
+
+and-false : (a : Bool) → (a && false) ≡ false
+and-false true = refl
+and-false false = refl
+
+-- What a round of the controller and of the unit that responds comes to.
+pub data Talked (f : Frame) (d : List ℕ) (found : List ℕ) (m : Moved) (buffer : List ℕ) (st : Station) : Type 0 where
+  still :
+      (ear : Listener) (taken : Response) (quiet : ℕ) → m ≡ stays (Listening f ear taken quiet) → Talk (f .command) d (isSubmitted (f .kind)) found ear taken quiet buffer st
+      → Talked f d found m buffer st
+  done :
+      (r : Reply) (s : Serial) (p : Promised (f .command) d r s (st .input)) → m ≡ over f (Complete (replyStatus r) (length (dataOf p))) → buffer ≡ received (isSubmitted (f .kind)) (dataOf p) found
+      → st .unit .phase ≡ SittingOut false → st .unit .serial ≡ finished s r → st .unit .asking ≡ false
+      → Talked f d found m buffer st
+
+module _ (f : Frame) (d found : List ℕ) (timeout : ℕ) (eight : 8 ≤ timeout) (room : f .command .«buffer_length» ≤ length found) (st st′ : Station) (seen : Lines) (host busy : Bool) (step : Stepped st seen busy st′) where
+  abbrev limit : ℕ
+  limit = f .command .«buffer_length»
+
+  abbrev stores : Bool
+  stores = isSubmitted (f .kind)
+
+  -- The controller waits on.
+  waits-on : (ear : Listener) (taken : Response) (q : ℕ) → q ≤ 2 → (isOver taken && isReady ear) ≡ false → waited f ear taken timeout q ≡ stays (Listening f ear taken q)
+  waits-on ear taken q h e = rw (lt-leb timeout q (omega arith), e)
+
+  not-taken : (ear : Listener) (taken : Response) (quiet : ℕ) → takenOf ear (seen .hsk) ≡ false
+      → listeningStep f ear taken quiet timeout seen host ≡ waited f (hearOf ear (seen .hsk) host) taken timeout (quietAfter quiet (seen .hsk))
+  not-taken ear taken quiet e = rw e
+
+  buffer-kept : (ear : Listener) (taken : Response) (buffer : List ℕ) → takenOf ear (seen .hsk) ≡ false → listeningBuffer f ear taken seen buffer ≡ buffer
+  buffer-kept ear taken buffer e = rw e
+
+  not-asking : st .unit .asking ≡ false → st′ .unit .asking ≡ false
+  not-asking e = step .asking ∙ ap (λ (b : Bool). b && not (seen .hsk)) e
+
+  module _ (r : Reply) (j : ℕ) (sender : Sender) (wait : Bool) (e : st .unit .phase ≡ Responding r j sender wait) where
+    abbrev responded : Step
+    responded = respondingStep (st .unit .serial) r j sender wait (seen .hsk) (st .input)
+
+    phase-is : st′ .unit .phase ≡ responded .phase
+    phase-is = step .phase ∙ ap (λ (x : Phase). phaseStep x (st .unit .own) (st .unit .serial) seen busy (st .buffer) (st .input) .phase) e
+
+    serial-is : st′ .unit .serial ≡ responded .serial
+    serial-is = step .serial ∙ ap (λ (x : Phase). phaseStep x (st .unit .own) (st .unit .serial) seen busy (st .buffer) (st .input) .serial) e
+
+  abbrev after : Listener → Response → ℕ → Moved
+  after ear taken quiet = listeningStep f ear taken quiet timeout seen host
+
+  abbrev buffer-after : Listener → Response → List ℕ → List ℕ
+  buffer-after ear taken buffer = listeningBuffer f ear taken seen buffer
+
+  -- The round before the first nibble.
+  begins : (r : Reply) (j t : ℕ) (ear : Listener) (taken : Response) (quiet : ℕ) (buffer : List ℕ) (e : st .unit .phase ≡ Responding r j Next true) (p : Promised (f .command) d r (st .unit .serial) (st .input))
+      → Fits (nibbleIn (bytesOf p) j) Next ear t → taken ≡ takenAt (bytesOf p) limit (j + t) → buffer ≡ storedAt (bytesOf p) limit stores (j + t) found → j < lengthOf (dataOf p)
+      → quiet ≡ 0 → st .unit .asking ≡ false → seen .hsk ≡ (listenerHsk ear || senderHsk Next)
+      → Talked f d found (after ear taken quiet) (buffer-after ear taken buffer) st′
+  begins r j t ear taken quiet buffer e p f-next g b l z q h =
+      let serial : st′ .unit .serial ≡ st .unit .serial = serial-is r j Next true e in
+      let k : j + 0 < lengthOf (dataOf p) = omega arith in
+      let one : quietAfter quiet (seen .hsk) ≡ 1 = ap (λ (x : ℕ). quietAfter x (seen .hsk)) z ∙ ap (quietAfter 0) h in
+      let ready : hearOf Ready (seen .hsk) host ≡ Ready = ap (λ (x : Bool). hearOf Ready x host) h in
+      let going : isOver taken ≡ false = ap isOver g ∙ not-over-before (dataOf p) (replyStatus r) limit (j + 0) (p .fits) k in
+      still Ready taken 1
+      (not-taken Ready taken quiet h ∙ (λ i. waited f (ready i) taken timeout (one i)) ∙ waits-on Ready taken 1 (omega arith) (ap (λ (x : Bool). x && true) going))
+      (talks r j 0 Next false (phase-is r j Next true e) (carried serial (step .input) p) f-next g (buffer-kept Ready taken buffer h ∙ b) l (λ x. absurd (false≢true x)) (omega arith) (not-asking q))
+
+  -- A nibble that does not count as sent yet, not taken in this round.
+  module _ (r : Reply) (j t : ℕ) (sender : Sender) (ear : Listener) (taken : Response) (quiet : ℕ) (buffer : List ℕ) (e : st .unit .phase ≡ Responding r j sender false) (p : Promised (f .command) d r (st .unit .serial) (st .input)) (fits : Fits (nibbleIn (bytesOf p) j) sender ear t) (g : taken ≡ takenAt (bytesOf p) limit (j + t)) (b : buffer ≡ storedAt (bytesOf p) limit stores (j + t) found) (l : j < lengthOf (dataOf p)) (c : Quiet sender quiet) (q : st .unit .asking ≡ false) (view : Sees sender ear (seen .hsk) (seen .nibble)) where
+    abbrev n : ℕ
+    n = nibbleIn (bytesOf p) j
+
+    own-nibble : nibbleIn (responseBytes (contents (st .input) (st .unit .serial .input)) r) j ≡ n
+    own-nibble = ap (λ (x : List ℕ). nibbleIn x j) (bytes-are p)
+
+    -- The unit's round, where the nibble counts as sent and where not.
+    abbrev whenSent : Step
+    whenSent = cond (ltb j (lastNibble (st .unit .serial .input) r)) (moves (Responding r (j + 1) Next false) (st .unit .serial)) (moves (SittingOut false) (finished (st .unit .serial) r))
+
+    abbrev whenNot : Step
+    whenNot = moves (Responding r j (sendOf sender (seen .hsk) (nibbleIn (responseBytes (contents (st .input) (st .unit .serial .input)) r) j)) false) (st .unit .serial)
+
+    not-sent : sentOf sender (seen .hsk) ≡ false → (st′ .unit .phase ≡ Responding r j (sendOf sender (seen .hsk) n) false) × (st′ .unit .serial ≡ st .unit .serial)
+    not-sent s = (
+      phase-is r j sender false e ∙ ap (λ (t : Bool). cond t whenSent whenNot .phase) s ∙ ap (λ (x : ℕ). Responding r j (sendOf sender (seen .hsk) x) false) own-nibble,
+      serial-is r j sender false e ∙ ap (λ (t : Bool). cond t whenSent whenNot .serial) s,
+    )
+
+    rests-on : takenOf ear (seen .hsk) ≡ false → sentOf sender (seen .hsk) ≡ false → Fits n (sendOf sender (seen .hsk) n) (hearOf ear (seen .hsk) host) t
+        → Talked f d found (after ear taken quiet) (buffer-after ear taken buffer) st′
+    rests-on a s fits′ =
+        let q′ : Quiet (sendOf sender (seen .hsk) n) (quietAfter quiet (seen .hsk)) = quiet-rests quiet (seen .hsk) (seen .nibble) fits view a s c in
+        let u = not-sent s in
+        still (hearOf ear (seen .hsk) host) taken (quietAfter quiet (seen .hsk))
+        (not-taken ear taken quiet a ∙ waits-on (hearOf ear (seen .hsk) host) taken (quietAfter quiet (seen .hsk)) (quiet-bound (sendOf sender (seen .hsk) n) (quietAfter quiet (seen .hsk)) q′) (not-yet t fits′ g))
+        (talks r j t (sendOf sender (seen .hsk) n) false (u .0) (carried (u .1) (step .input) p) fits′ g (buffer-kept ear taken buffer a ∙ b) l (λ x. absurd (false≢true x)) q′ (not-asking q))
+      where
+        not-yet : (t : ℕ) {k : Sender} {x : Listener} → Fits n k x t → taken ≡ takenAt (bytesOf p) limit (j + t) → (isOver taken && isReady x) ≡ false
+        not-yet zero {k} {x} v w =
+            let m : j + 0 < lengthOf (dataOf p) = omega arith in
+            ap (λ (y : Bool). y && isReady x) (ap isOver w ∙ not-over-before (dataOf p) (replyStatus r) limit (j + 0) (p .fits) m)
+        not-yet (suc t) {k} {x} v w = ap (λ (y : Bool). isOver taken && y) (fits-ready v) ∙ and-false (isOver taken)
+
+    takes-it : ear ≡ Ready → seen .hsk ≡ true → seen .nibble ≡ n → t ≡ 0 → sentOf sender (seen .hsk) ≡ false → Fits n (sendOf sender (seen .hsk) n) Holding 1
+        → Talked f d found (after ear taken quiet) (buffer-after ear taken buffer) st′
+    takes-it ready low nib z s fits′ =
+        let u = not-sent s in
+        let k : j + t ≡ j = omega arith in
+        let k′ : suc j ≡ j + 1 = omega arith in
+        let gone : takenOf ear (seen .hsk) ≡ true = ap (λ (x : Listener). takenOf x (seen .hsk)) ready ∙ low in
+        let held : hearOf ear (seen .hsk) host ≡ Holding = ap (λ (x : Listener). hearOf x (seen .hsk) host) ready ∙ ap (λ (x : Bool). hearOf Ready x host) low in
+        let old : taken ≡ takenAt (bytesOf p) limit j = g ∙ ap (takenAt (bytesOf p) limit) k in
+        let more : takenWith taken (seen .nibble) limit ≡ takenAt (bytesOf p) limit (j + 1) =
+        (λ i. takenWith (old i) (nib i) limit) ∙ ap (takenAt (bytesOf p) limit) k′ in
+        let first : buffer-after ear taken buffer ≡ bufferWith taken (seen .nibble) stores buffer = rw gone in
+        let one : after ear taken quiet ≡ stays (Listening f (hearOf ear (seen .hsk) host) (takenWith taken (seen .nibble) limit) 0) = rw gone in
+        let kept : buffer-after ear taken buffer ≡ storedAt (bytesOf p) limit stores (j + 1) found =
+        first ∙ (λ i. bufferWith (old i) (nib i) stores ((b ∙ ap (λ (x : ℕ). storedAt (bytesOf p) limit stores x found) k) i)) ∙ ap (λ (x : ℕ). storedAt (bytesOf p) limit stores x found) k′ in
+        still Holding (takenWith taken (seen .nibble) limit) 0
+        (one ∙ ap (λ (x : Listener). stays (Listening f x (takenWith taken (seen .nibble) limit) 0)) held)
+        (talks r j 1 (sendOf sender (seen .hsk) n) false (u .0) (carried (u .1) (step .input) p) fits′ more kept l (λ x. absurd (false≢true x)) (quiet-zero (sendOf sender (seen .hsk) n)) (not-asking q))
+
+    -- A nibble counts as sent: the next one comes, or the response is done.
+    module _ (a : takenOf ear (seen .hsk) ≡ false) (s : sentOf sender (seen .hsk) ≡ true) (high : seen .hsk ≡ false) (ready : hearOf ear (seen .hsk) host ≡ Ready) (z : t ≡ 1) where
+      zero-quiet : quiet ≡ 0
+      zero-quiet = quiet-kept quiet (subst (Fits n sender ear) z fits) c
+
+      one-quiet : quietAfter quiet (seen .hsk) ≡ 1
+      one-quiet = ap (λ (x : ℕ). quietAfter x (seen .hsk)) zero-quiet ∙ ap (quietAfter 0) high
+
+      listened : after ear taken quiet ≡ waited f Ready taken timeout 1
+      listened = not-taken ear taken quiet a ∙ (λ i. waited f (ready i) taken timeout (one-quiet i))
+
+      sends-by : (more : Bool) → ltb j (lastNibble (st .unit .serial .input) r) ≡ more → Talked f d found (after ear taken quiet) (buffer-after ear taken buffer) st′
+      sends-by true m =
+          let last : lastNibble (st .unit .serial .input) r ≡ lengthOf (dataOf p) - 1 = last-is p in
+          let less : j < lastNibble (st .unit .serial .input) r = ltb-true j (lastNibble (st .unit .serial .input) r) m in
+          let k : j + t ≡ suc j + 0 = omega arith in
+          let k′ : j + 1 ≡ suc j = omega arith in
+          let next : suc j + 0 < lengthOf (dataOf p) = omega arith in
+          let on : isOver taken ≡ false = ap isOver g ∙ ap (λ (x : ℕ). isOver (takenAt (bytesOf p) limit x)) k ∙ not-over-before (dataOf p) (replyStatus r) limit (suc j + 0) (p .fits) next in
+          let phase : st′ .unit .phase ≡ Responding r (suc j) Next false =
+          phase-is r j sender false e ∙ ap (λ (x : Bool). cond x whenSent whenNot .phase) s
+          ∙ ap (λ (x : Bool). cond x (moves (Responding r (j + 1) Next false) (st .unit .serial)) (moves (SittingOut false) (finished (st .unit .serial) r)) .phase) m
+          ∙ ap (λ (x : ℕ). Responding r x Next false) k′ in
+          let serial : st′ .unit .serial ≡ st .unit .serial =
+          serial-is r j sender false e ∙ ap (λ (x : Bool). cond x whenSent whenNot .serial) s
+          ∙ ap (λ (x : Bool). cond x (moves (Responding r (j + 1) Next false) (st .unit .serial)) (moves (SittingOut false) (finished (st .unit .serial) r)) .serial) m in
+          still Ready taken 1 (listened ∙ waits-on Ready taken 1 (omega arith) (ap (λ (x : Bool). x && true) on))
+          (talks r (suc j) 0 Next false phase (carried serial (step .input) p) f-next (g ∙ ap (takenAt (bytesOf p) limit) k) (buffer-kept ear taken buffer a ∙ b ∙ ap (λ (x : ℕ). storedAt (bytesOf p) limit stores x found) k) (omega arith) (λ x. absurd (false≢true x)) (omega arith) (not-asking q))
+      sends-by false m =
+          let last : lastNibble (st .unit .serial .input) r ≡ lengthOf (dataOf p) - 1 = last-is p in
+          let least : lastNibble (st .unit .serial .input) r ≤ j = ltb-false j (lastNibble (st .unit .serial .input) r) m in
+          let k : j + t ≡ lengthOf (dataOf p) = omega arith in
+          let all : taken ≡ Complete (replyStatus r) (length (dataOf p)) = g ∙ ap (takenAt (bytesOf p) limit) k ∙ response-completes (dataOf p) (replyStatus r) limit (p .fits) in
+          let phase : st′ .unit .phase ≡ SittingOut false =
+          phase-is r j sender false e ∙ ap (λ (x : Bool). cond x whenSent whenNot .phase) s
+          ∙ ap (λ (x : Bool). cond x (moves (Responding r (j + 1) Next false) (st .unit .serial)) (moves (SittingOut false) (finished (st .unit .serial) r)) .phase) m in
+          let serial : st′ .unit .serial ≡ finished (st .unit .serial) r =
+          serial-is r j sender false e ∙ ap (λ (x : Bool). cond x whenSent whenNot .serial) s
+          ∙ ap (λ (x : Bool). cond x (moves (Responding r (j + 1) Next false) (st .unit .serial)) (moves (SittingOut false) (finished (st .unit .serial) r)) .serial) m in
+          let full : waited f Ready (Complete (replyStatus r) (length (dataOf p))) timeout 1 ≡ over f (Complete (replyStatus r) (length (dataOf p))) =
+          ap (λ (x : Bool). cond (x || true) (over f (Complete (replyStatus r) (length (dataOf p)))) (stays (Listening f Ready (Complete (replyStatus r) (length (dataOf p))) 1))) (lt-leb timeout 1 (omega arith)) in
+          done r (st .unit .serial) (carried refl (step .input) p) (listened ∙ ap (λ (x : Response). waited f Ready x timeout 1) all ∙ full)
+          (buffer-kept ear taken buffer a ∙ b ∙ ap (λ (x : ℕ). storedAt (bytesOf p) limit stores x found) k ∙ data-received (dataOf p) (replyStatus r) limit stores found (p .fits) room) phase serial (not-asking q)
+
+    talks-on : Talked f d found (after ear taken quiet) (buffer-after ear taken buffer) st′
+    talks-on = by (pair (seen .hsk) (seen .nibble) host fits view)
+      where
+        by : Pair n sender ear t (seen .hsk) (seen .nibble) host → Talked f d found (after ear taken quiet) (buffer-after ear taken buffer) st′
+        by (rests e1 e2 g1) = rests-on e1 e2 g1
+        by (takes e1 e2 e3 e4 e5 g1) = takes-it e1 e2 e3 e4 e5 g1
+        by (sends e1 e2 e3 e4 e5) = sends-by e1 e2 e3 e4 e5 (ltb j (lastNibble (st .unit .serial .input) r)) refl
+
+  -- The round of a unit that responds, and of the controller beside it.
+  pub talk-step : (ear : Listener) (taken : Response) (quiet : ℕ) (buffer : List ℕ) → Talk (f .command) d stores found ear taken quiet buffer st
+      → seen .hsk ≡ (listenerHsk ear || pullsHsk (st .unit .phase)) → seen .nibble ≡ pullsNibble (st .unit .phase)
+      → Talked f d found (after ear taken quiet) (buffer-after ear taken buffer) st′
+  talk-step ear taken quiet buffer (talks r j t sender true e p fits g b l w c q) h v =
+      let x = w refl in
+      begins r j t ear taken quiet buffer (e ∙ ap (λ (y : Sender). Responding r j y true) (x .0)) p (subst (λ (y : Sender). Fits (nibbleIn (bytesOf p) j) y ear t) (x .0) fits) g b l (x .1) q
+      (h ∙ ap (λ (y : Phase). listenerHsk ear || pullsHsk y) (e ∙ ap (λ (y : Sender). Responding r j y true) (x .0)))
+  talk-step ear taken quiet buffer (talks r j t sender false e p fits g b l w c q) h v =
+      talks-on r j t sender ear taken quiet buffer e p fits g b l c q (sees seen fits (h ∙ ap (λ (y : Phase). listenerHsk ear || pullsHsk y) e) (v ∙ ap pullsNibble e))

@@ -1,0 +1,10 @@
+-- Lists of which all members have a property, or exactly one has another.
+use mathlib.Core.List.{List, [], _∷_}
+
+pub data All {ℓ κ} {A : Type ℓ} (P : A → Type κ) : List A → Type (ℓ ⊔ κ) where
+  none : All P []
+  also : {x : A} {xs : List A} → P x → All P xs → All P (x ∷ xs)
+
+pub data One {ℓ κ} {A : Type ℓ} (P Q : A → Type κ) : List A → Type (ℓ ⊔ κ) where
+  this : {x : A} {xs : List A} → P x → All Q xs → One P Q (x ∷ xs)
+  that : {x : A} {xs : List A} → Q x → One P Q xs → One P Q (x ∷ xs)

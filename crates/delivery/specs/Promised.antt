@@ -1,0 +1,31 @@
+-- Document 01, "The serial peripheral": the one response of a unit to a whole command.
+use Prim.Native.Nat.{ℕ}
+use mathlib.Core.Path.{_≡_}
+use mathlib.Core.List.{List}
+use lib.ListN.{length}
+use Rattle.header.specs.declared.Command.{Command}
+use Rattle.queue.specs.Queue.{contents}
+use Rattle.reply.specs.Reply.{replyData, replyStatus, replyLength}
+use Rattle.serial.specs.declared.Reply.{Reply}
+use Rattle.serial.specs.declared.Serial.{Serial}
+use Rattle.verdict.specs.Verdict.{verdictOf}
+use Rattle.verdict.specs.declared.Verdict.{Verdict}
+use Rattle.whole.specs.Back.{Answered}
+use Rattle.whole.specs.Whole.{storedOf}
+
+-- What a unit answers to a command with data d, in the state s, its input queue's bytes standing in `input`.
+abbrev pub replyFor : Serial → Command → List ℕ → Reply
+replyFor s c d = verdictOf s c (length d) (storedOf d) .reply
+
+abbrev pub dataFor : Serial → List ℕ → Reply → List ℕ
+dataFor s input r = replyData (contents input (s .input)) r
+
+-- A reply r that stands, of a unit that is in the state s now: it was given in a state `given`, with the bytes `memory`, and the data
+-- that it had then is the data that it has now.
+pub record Promised (c : Command) (d : List ℕ) (r : Reply) (s : Serial) (input : List ℕ) : Type 0 where
+  pub given : Serial
+  pub memory : List ℕ
+  pub said : r ≡ replyFor given c d
+  pub stands : dataFor s input r ≡ dataFor given memory r
+  pub long : replyLength (s .input) r ≡ length (dataFor given memory r)
+  pub fits : Answered (dataFor given memory r) (replyStatus r) (c .«buffer_length»)
