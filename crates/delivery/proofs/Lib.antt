@@ -1,4 +1,9 @@
+pub mod Lists
 pub mod Heard
 pub mod Lines
 pub mod Part
 pub mod Talk
+pub mod Fits
+pub mod Stage
+pub mod Turned
+pub mod Listening

@@ -102,7 +102,7 @@ sees (Kept n) Ready seen e own = tt
 sees (Kept n) Holding seen e own = own refl
 sees (Kept n) Waiting seen e own = tt
 
-part-free : {P : Reply → Serial → List ℕ → Type 0} {c : Command} {d : List ℕ} {i : ℕ} {sender : Sender} {st : Station} → Part P c d i sender st → pullsNibble (st .unit .phase) ≡ 15
+pub part-free : {P : Reply → Serial → List ℕ → Type 0} {c : Command} {d : List ℕ} {i : ℕ} {sender : Sender} {st : Station} → Part P c d i sender st → pullsNibble (st .unit .phase) ≡ 15
 part-free (listens ear t f h a q) = heard-free h
 part-free (answers ear r f l a e k q) = ap pullsNibble e
 part-free (sits now a e k q) = ap pullsNibble e

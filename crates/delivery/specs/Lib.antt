@@ -1,3 +1,4 @@
 pub mod Lists
 pub mod Heard
 pub mod Promised
+pub mod World

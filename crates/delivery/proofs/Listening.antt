@@ -1,0 +1,151 @@
+-- The lines while the controller listens: the one unit that responds is seen by all.
+use Prim.Native.Nat.{ℕ, zero, suc, _+_, _/_, _<_, _≤_}
+use native.Mathlib.Omega.{arith}
+use mathlib.Core.Path.{_≡_, refl, sym, _∙_, ap, subst}
+use mathlib.Core.Bool.{Bool, true, false, cond, not, _&&_, _||_, or-false}
+use mathlib.Core.List.{List, [], _∷_}
+use lib.Dec.{lit<}
+use lib.ListN.{length}
+use Rattle.answer.specs.declared.Response.{Response}
+use Rattle.bus.specs.Bus.{levelsWith, stationStep, unitsAfter}
+use Rattle.bus.specs.declared.Station.{Station}
+use Rattle.frame.specs.Frame.{listeningStep, listeningBuffer, isSubmitted, stays, over}
+use Rattle.frame.specs.declared.Frame.{Frame}
+use Rattle.frame.specs.declared.Moved.{Moved}
+use Rattle.frame.specs.declared.Stage.the-variants.{Listening}
+use Rattle.answer.specs.declared.Response.the-variants.{Complete}
+use Rattle.header.specs.declared.Command.{Command}
+use Rattle.line.specs.Line.{wired, wiredNibble, listenerHsk, senderNibble}
+use Rattle.line.specs.declared.Lines.{Lines}
+use Rattle.line.specs.declared.Listener.{Listener}
+use Rattle.line.specs.declared.Sender.{Sender}
+use Rattle.message.specs.Nibbles.{nibbleIn}
+use Rattle.phase.specs.Phase.{phaseStep}
+use Rattle.phase.specs.declared.Phase.{Phase}
+use Rattle.phase.specs.declared.Phase.the-variants.{SittingOut}
+use Rattle.reply.specs.Reply.{replyStatus}
+use Rattle.serial.specs.Serial.{finished}
+use Rattle.serial.specs.declared.Reply.{Reply}
+use Rattle.serial.specs.declared.Serial.{Serial}
+use Rattle.unit.specs.Unit.{pullsOf, pullsHsk, pullsNibble}
+use Rattle.whole.specs.Back.{received}
+use Rattle.delivery.specs.Heard.{Fits, f-next, f-placed, f-holds, f-waits}
+use Rattle.delivery.specs.Lists.{All, none, also, One, this, that}
+use Rattle.delivery.specs.Promised.{Promised}
+use Rattle.delivery.proofs.Lines.{wired-free, free-wired, bav-kept, nibble-kept}
+use Rattle.delivery.proofs.Lists.{all-map, all-step, one-all, one-step}
+use Rattle.delivery.proofs.Part.{Stepped, low-step}
+use Rattle.delivery.proofs.Stage.{Sound, sound-low, nibble-below}
+use Rattle.delivery.proofs.Talk.{Talk, talks, Talked, still, done, talk-step, dataOf, bytesOf}
+use Rattle.delivery.proofs.Turned.{Sits}
+
+-- What the controller pulls while it listens.
+abbrev pub hearing : Listener → Lines
+hearing ear = record { bav = true; hsk = listenerHsk ear; nibble = 15 }
+
+sits-hsk : {st : Station} → Sits st × Sound st → pullsHsk (st .unit .phase) ≡ false
+sits-hsk p = ap pullsHsk (p .0 .0)
+
+sits-nibble : {st : Station} → Sits st × Sound st → pullsNibble (st .unit .phase) ≡ 15
+sits-nibble p = ap pullsNibble (p .0 .0)
+
+hsk-same : (l : Lines) {ss : List Station} → All (λ (st : Station). Sits st × Sound st) ss → levelsWith l ss .hsk ≡ l .hsk
+hsk-same l none = refl
+hsk-same l (also {x = st} p a) = hsk-same (wired l (pullsOf (st .unit))) a ∙ ap (λ (b : Bool). l .hsk || b) (sits-hsk p) ∙ or-false (l .hsk)
+
+one-map {ℓ κ} : {A : Type ℓ} {P Q P′ : A → Type κ} → ((x : A) → P x → P′ x) → {xs : List A} → One P Q xs → One P′ Q xs
+one-map f (this {x = x} p a) = this (f x p) a
+one-map f (that q o) = that q (one-map f o)
+
+-- The one unit, and what is seen of it.
+abbrev pub Seen : Lines → Bool → Station → Type 0
+Seen seen low st = (seen .hsk ≡ (low || pullsHsk (st .unit .phase))) × (seen .nibble ≡ pullsNibble (st .unit .phase))
+
+pub one-seen : {P : Station → Type 0} (l : Lines) → l .nibble ≡ 15 → ((st : Station) → P st → pullsNibble (st .unit .phase) < 16) → {ss : List Station}
+    → One P (λ (st : Station). Sits st × Sound st) ss → One (λ (st : Station). P st × Seen (levelsWith l ss) (l .hsk) st) (λ (st : Station). Sits st × Sound st) ss
+one-seen l e small (this {x = st} p a) =
+    let w : wiredNibble (l .nibble) (pullsNibble (st .unit .phase)) ≡ pullsNibble (st .unit .phase) =
+    ap (λ (x : ℕ). wiredNibble x (pullsNibble (st .unit .phase))) e ∙ free-wired (pullsNibble (st .unit .phase)) (small st p) in
+    this (p, (hsk-same (wired l (pullsOf (st .unit))) a, nibble-kept (wired l (pullsOf (st .unit))) (rw w (small st p)) (all-map (λ x q. sits-nibble q) a) ∙ w)) a
+one-seen l e small (that {x = st} {xs = ss} q o) =
+    let l′ = wired l (pullsOf (st .unit)) in
+    let h : l′ .hsk ≡ l .hsk = ap (λ (b : Bool). l .hsk || b) (sits-hsk q) ∙ or-false (l .hsk) in
+    let n : l′ .nibble ≡ 15 = (λ i. wiredNibble (e i) (sits-nibble q i)) in
+    that q (one-map (λ x p. (p .0, (p .1 .0 ∙ ap (λ (b : Bool). b || pullsHsk (x .unit .phase)) h, p .1 .1))) (one-seen l′ n small o))
+
+fits-nibble : {n t : ℕ} {sender : Sender} {ear : Listener} → n < 16 → Fits n sender ear t → senderNibble sender < 16
+fits-nibble h f-next = lit< tt
+fits-nibble h f-placed = h
+fits-nibble h f-holds = h
+fits-nibble h f-waits = h
+
+talk-nibble : {c : Command} {d : List ℕ} {stores : Bool} {found : List ℕ} {ear : Listener} {taken : Response} {quiet : ℕ} {buffer : List ℕ} {st : Station} → Talk c d stores found ear taken quiet buffer st → pullsNibble (st .unit .phase) < 16
+talk-nibble (talks r j t sender wait e p fits g b l w c q) = subst (λ (x : ℕ). x < 16) (sym (ap pullsNibble e)) (fits-nibble (nibble-below (bytesOf p) j) fits)
+
+-- A unit that sits out goes on to.
+sits-step : (seen : Lines) → seen .bav ≡ true → seen .nibble < 16 → (st : Station) (busy : Bool) → Sits st × Sound st → Sits (stationStep st seen busy) × Sound (stationStep st seen busy)
+sits-step seen low n st busy p =
+    let step = low-step st seen busy n (p .1 .room) low in (
+      (
+        step .phase ∙ ap (λ (x : Phase). phaseStep x (st .unit .own) (st .unit .serial) seen busy (st .buffer) (st .input) .phase) (p .0 .0),
+        step .asking ∙ ap (λ (b : Bool). b && not (seen .hsk)) (p .0 .1),
+      ),
+      sound-low step (p .1),
+    )
+
+-- A unit whose response has arrived whole in a round that comes to m.
+pub data Spoke (f : Frame) (d found : List ℕ) (m : Moved) (buffer : List ℕ) (st : Station) : Type 0 where
+  spoke :
+      (r : Reply) (s : Serial) (p : Promised (f .command) d r s (st .input)) → m ≡ over f (Complete (replyStatus r) (length (dataOf p))) → buffer ≡ received (isSubmitted (f .kind)) (dataOf p) found
+      → st .unit .serial ≡ finished s r → Sits st → Spoke f d found m buffer st
+
+-- What a round comes to while one unit responds.
+pub data Heard′ (f : Frame) (d found : List ℕ) (m : Moved) (buffer : List ℕ) (ss : List Station) : Type 0 where
+  goes-on :
+      (ear : Listener) (taken : Response) (quiet : ℕ) → m ≡ stays (Listening f ear taken quiet)
+      → One (λ (st : Station). Talk (f .command) d (isSubmitted (f .kind)) found ear taken quiet buffer st × Sound st) (λ (st : Station). Sits st × Sound st) ss
+      → Heard′ f d found m buffer ss
+  comes-to-its-end : One (λ (st : Station). Spoke f d found m buffer st × Sound st) (λ (st : Station). Sits st × Sound st) ss → Heard′ f d found m buffer ss
+
+parted : {f : Frame} {d found : List ℕ} {m : Moved} {buffer : List ℕ} {ss : List Station} → One (λ (st : Station). Talked f d found m buffer st × Sound st) (λ (st : Station). Sits st × Sound st) ss → Heard′ f d found m buffer ss
+parted (this (still ear taken quiet e t, s) a) = goes-on ear taken quiet e (this (t, s) a)
+parted (this (done r s p e b phase serial q, x) a) = comes-to-its-end (this (spoke r s p e b serial (phase, q), x) a)
+parted (that q o) = behind q (parted o)
+  where
+    behind : {f : Frame} {d found : List ℕ} {m : Moved} {buffer : List ℕ} {st : Station} {ss : List Station} → Sits st × Sound st → Heard′ f d found m buffer ss → Heard′ f d found m buffer (st ∷ ss)
+    behind q (goes-on ear taken quiet e o) = goes-on ear taken quiet e (that q o)
+    behind q (comes-to-its-end o) = comes-to-its-end (that q o)
+
+module _ (f : Frame) (d found : List ℕ) (timeout : ℕ) (eight : 8 ≤ timeout) (room : f .command .«buffer_length» ≤ length found) (host : Bool) (hosts : ℕ) (ear : Listener) (taken : Response) (quiet : ℕ) (buffer : List ℕ) (ss : List Station) (o : One (λ (st : Station). Talk (f .command) d (isSubmitted (f .kind)) found ear taken quiet buffer st × Sound st) (λ (st : Station). Sits st × Sound st) ss) where
+  abbrev seen : Lines
+  seen = levelsWith (hearing ear) ss
+
+  known : One (λ (st : Station). (Talk (f .command) d (isSubmitted (f .kind)) found ear taken quiet buffer st × Sound st) × Seen seen (listenerHsk ear) st) (λ (st : Station). Sits st × Sound st) ss
+  known = one-seen (hearing ear) refl (λ st p. talk-nibble (p .0)) o
+
+  bav : seen .bav ≡ true
+  bav = bav-kept (hearing ear) ss refl
+
+  small : {s : List Station} → One (λ (st : Station). (Talk (f .command) d (isSubmitted (f .kind)) found ear taken quiet buffer st × Sound st) × Seen seen (listenerHsk ear) st) (λ (st : Station). Sits st × Sound st) s → seen .nibble < 16
+  small (this p a) = subst (λ (x : ℕ). x < 16) (sym (p .1 .1)) (talk-nibble (p .0 .0))
+  small (that q o) = small o
+
+  pub heard-nibble : seen .nibble < 16
+  heard-nibble = small known
+
+  pub units-heard : Heard′ f d found (listeningStep f ear taken quiet timeout seen host) (listeningBuffer f ear taken seen buffer) (unitsAfter seen hosts ss)
+  units-heard =
+      parted (one-step seen (λ st busy p.
+      let step = low-step st seen busy heard-nibble (p .0 .1 .room) bav in
+      (talk-step f d found timeout eight room st (stationStep st seen busy) seen host busy step ear taken quiet buffer (p .0 .0) (p .1 .0) (p .1 .1), sound-low step (p .0 .1))) (sits-step seen bav heard-nibble) hosts known)
+
+-- What a round comes to while nobody responds.
+module _ (ear : Listener) (hosts : ℕ) (ss : List Station) (a : All (λ (st : Station). Sits st × Sound st) ss) where
+  pub still-nibble : levelsWith (hearing ear) ss .nibble ≡ 15
+  still-nibble = nibble-kept (hearing ear) (lit< tt) (all-map (λ x q. sits-nibble q) a)
+
+  pub still-hsk : levelsWith (hearing ear) ss .hsk ≡ listenerHsk ear
+  still-hsk = hsk-same (hearing ear) a
+
+  pub units-sit : All (λ (st : Station). Sits st × Sound st) (unitsAfter (levelsWith (hearing ear) ss) hosts ss)
+  units-sit = all-step (levelsWith (hearing ear) ss) (sits-step (levelsWith (hearing ear) ss) (bav-kept (hearing ear) ss refl) (subst (λ (x : ℕ). x < 16) (sym still-nibble) (lit< tt))) hosts a

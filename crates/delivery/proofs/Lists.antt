@@ -1,0 +1,30 @@
+-- Lists of units, of which all, or exactly one, have a property.
+use Prim.Native.Nat.{ℕ, _/_}
+use mathlib.Core.Path.{_≡_}
+use mathlib.Core.Bool.{Bool}
+use mathlib.Core.List.{List, [], _∷_}
+use Rattle.bus.specs.Bus.{stationStep, unitsAfter, isOdd}
+use Rattle.bus.specs.declared.Station.{Station}
+use Rattle.line.specs.declared.Lines.{Lines}
+use Rattle.delivery.specs.Lists.{All, none, also, One, this, that}
+
+pub all-map {ℓ κ μ} : {A : Type ℓ} {P : A → Type κ} {Q : A → Type μ} → ((x : A) → P x → Q x) → {xs : List A} → All P xs → All Q xs
+all-map f none = none
+all-map f (also {x = x} p a) = also (f x p) (all-map f a)
+
+pub all-zip {ℓ κ μ} : {A : Type ℓ} {P : A → Type κ} {Q : A → Type μ} {xs : List A} → All P xs → All Q xs → All (λ (x : A). P x × Q x) xs
+all-zip none none = none
+all-zip (also p a) (also q b) = also (p, q) (all-zip a b)
+
+pub one-all {ℓ κ μ} : {A : Type ℓ} {P Q : A → Type κ} {S : A → Type μ} → ((x : A) → P x → S x) → ((x : A) → Q x → S x) → {xs : List A} → One P Q xs → All S xs
+one-all f g (this {x = x} p a) = also (f x p) (all-map g a)
+one-all f g (that {x = x} q o) = also (g x q) (one-all f g o)
+
+-- A round of every unit.
+pub all-step : {P Q : Station → Type 0} (seen : Lines) → ((st : Station) (busy : Bool) → P st → Q (stationStep st seen busy)) → (hosts : ℕ) {ss : List Station} → All P ss → All Q (unitsAfter seen hosts ss)
+all-step seen f hosts none = none
+all-step seen f hosts (also {x = st} p a) = also (f st (isOdd hosts) p) (all-step seen f (hosts / 2) a)
+
+pub one-step : {P Q P′ Q′ : Station → Type 0} (seen : Lines) → ((st : Station) (busy : Bool) → P st → P′ (stationStep st seen busy)) → ((st : Station) (busy : Bool) → Q st → Q′ (stationStep st seen busy)) → (hosts : ℕ) {ss : List Station} → One P Q ss → One P′ Q′ (unitsAfter seen hosts ss)
+one-step seen f g hosts (this {x = st} p a) = this (f st (isOdd hosts) p) (all-step seen g (hosts / 2) a)
+one-step seen f g hosts (that {x = st} q o) = that (g st (isOdd hosts) q) (one-step seen f g (hosts / 2) o)

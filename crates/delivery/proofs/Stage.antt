@@ -1,0 +1,169 @@
+-- A frame round by round: where the controller is, where every unit is, and that each round leads from one such stage to the next.
+use Prim.Native.Nat.{ℕ, zero, suc, _+_, _-_, _*_, _/_, _%_, _<_, _≤_}
+use native.Mathlib.Omega.{arith}
+use mathlib.Core.Path.{_≡_, refl, sym, _∙_, ap, subst}
+use mathlib.Core.Bool.{Bool, true, false, cond, not, _&&_, _||_, or-false, true≢false, false≢true}
+use mathlib.Core.List.{List, [], _∷_}
+use borrow.Author.Tests.{lt-leb, le-ltb, lt-ltb, ltb-true, ltb-false}
+use lib.Dec.{ltb, leb, eqb, lit<}
+use lib.ListN.{length, getD, set, length-set}
+use Rattle.answer.specs.Answer.{nothingTaken}
+use Rattle.answer.specs.declared.Response.{Response}
+use Rattle.bus.specs.Bus.{levelsWith, stationStep, unitsAfter, isOdd}
+use Rattle.bus.specs.declared.Station.{Station}
+use Rattle.field.specs.Field.{Below, byteFrom}
+use Rattle.field.proofs.Laws.{nibble-at, digits-below}
+use Rattle.frame.specs.declared.Frame.{Frame}
+use Rattle.header.specs.declared.Command.{Command}
+use Rattle.line.specs.Line.{takenOf, sendOf, sentOf, listenerHsk, senderHsk, senderNibble}
+use Rattle.line.specs.declared.Lines.{Lines}
+use Rattle.line.specs.declared.Listener.{Listener}
+use Rattle.line.specs.declared.Listener.the-variants.{Ready}
+use Rattle.line.specs.declared.Sender.{Sender}
+use Rattle.line.specs.declared.Sender.the-variants.{Next, Placed, Kept}
+use Rattle.message.specs.Nibbles.{nibbleIn}
+use Rattle.phase.specs.Phase.{phaseStep, phaseBuffer, takingBuffer, byteBuffer, bufferWith, isStored, withByte, answered, storedData}
+use Rattle.phase.specs.declared.Partial.{Partial}
+use Rattle.phase.specs.declared.Progress.the-variants.{Taking, Answered}
+use Rattle.phase.specs.declared.Phase.{Phase}
+use Rattle.phase.specs.declared.Phase.the-variants.{Idle, Selecting, Receiving, Responding, SittingOut}
+use Rattle.reply.specs.Reply.{replyLength, isSilent}
+use Rattle.serial.specs.Serial.{applied}
+use Rattle.serial.specs.declared.Reply.{Reply}
+use Rattle.serial.specs.declared.Serial.{Serial}
+use Rattle.unit.specs.Unit.{pullsOf, pullsHsk, pullsNibble}
+use Rattle.verdict.specs.Verdict.{verdictOf}
+use Rattle.verdict.specs.declared.Verdict.{Verdict}
+use Rattle.whole.specs.Whole.{bytesFor, headerFor, withData, storedOf, Sent}
+use Rattle.whole.proofs.Whole.{whole-data, length-bytes}
+use Rattle.delivery.specs.Heard.{Fits, f-next, f-placed, f-holds, f-waits, Heard, h-none}
+use Rattle.delivery.specs.Lists.{All, none, also, One, this, that}
+use Rattle.delivery.specs.Promised.{Promised, dataFor, replyFor}
+use Rattle.delivery.proofs.Fits.{Good, good-verdict}
+use Rattle.delivery.proofs.Lines.{hsk-kept, bav-kept, hsk-high, bav-high, hsk-own, nibble-kept}
+use Rattle.delivery.proofs.Lists.{all-map, all-zip, one-all, all-step, one-step}
+use Rattle.delivery.proofs.Part.{Stepped, low-step, Part, listens, answers, sits, addressed, replyTo, Shows, part-high, part-free, part-rests, part-sent, part-over, Turned, speaks, silent}
+
+-- The promise of a reply, at the round in which it is fixed.
+pub promised : (c : Command) (d : List ℕ) (s t : Serial) (input input′ b : List ℕ) → Below 256 input → t ≡ answered s (headerFor c d) (withData d b) .serial → input′ ≡ input → Promised c d (replyTo s c d b) t input′
+promised c d s t input input′ b below e i =
+    let z = storedData (length d) (withData d b) in
+    let v = verdictOf s c (length d) z in
+    let good = good-verdict s c input below (length d) z in
+    record {
+      given = s;
+      memory = input;
+      said = ap (λ (x : List ℕ). verdictOf s c (length d) x .reply) (whole-data d b);
+      stands = (λ k. dataFor (e k) (i k) (v .reply)) ∙ good .stands z;
+      long = ap (λ (x : Serial). replyLength (x .input) (v .reply)) e ∙ good .long z;
+      fits = good .fits;
+    }
+
+-- The memory that a unit's calls are lent: room for a command, and bytes.
+pub record Sound (st : Station) : Type 0 where
+  pub room : 256 ≤ length (st .buffer)
+  pub bytes : Below 256 (st .input)
+
+-- No round changes how much memory there is.
+cond-length : (t : Bool) (a b : List ℕ) (n : ℕ) → length a ≡ n → length b ≡ n → length (cond t a b) ≡ n
+cond-length true a b n e g = e
+cond-length false a b n e g = g
+
+put-length : (n place x : ℕ) (b : List ℕ) → length (bufferWith n place x b) ≡ length b
+put-length n place x b = cond-length (isStored n place) (set b (place - 9) x) b (length b) (length-set b (place - 9) x) refl
+
+taking-length : (ear : Listener) (p : Partial) (seen : Lines) (b : List ℕ) → length (takingBuffer ear p seen b) ≡ length b
+taking-length ear p seen b =
+    cond-length (takenOf ear (seen .hsk)) (cond (p .half) (byteBuffer p (byteFrom (p .low) (seen .nibble)) b) b) b (length b)
+    (cond-length (p .half) (byteBuffer p (byteFrom (p .low) (seen .nibble)) b) b (length b) (put-length (withByte (p .header) (p .place) (byteFrom (p .low) (seen .nibble)) .«data_length») (p .place) (byteFrom (p .low) (seen .nibble)) b) refl) refl
+
+phase-length : (x : Phase) (seen : Lines) (b : List ℕ) → length (phaseBuffer x seen b) ≡ length b
+phase-length Idle seen b = refl
+phase-length (Selecting ear half low) seen b = refl
+phase-length (Receiving ear (Taking p)) seen b = taking-length ear p seen b
+phase-length (Receiving ear (Answered r)) seen b = refl
+phase-length (Responding reply i sender wait) seen b = refl
+phase-length (SittingOut last) seen b = refl
+
+pub sound-low : {st st′ : Station} {seen : Lines} {busy : Bool} → Stepped st seen busy st′ → Sound st → Sound st′
+sound-low {st} {st′} {seen} e s = record {
+  room = let l : length (st′ .buffer) ≡ length (st .buffer) = ap length (e .buffer) ∙ phase-length (st .unit .phase) seen (st .buffer) in let r = s .room in omega arith;
+  bytes = subst (Below 256) (sym (e .input)) (s .bytes);
+}
+
+-- The nibbles of a command.
+pub nibble-below : (bytes : List ℕ) (i : ℕ) → nibbleIn bytes i < 16
+nibble-below bytes i = subst (λ (x : ℕ). x < 16) (sym (nibble-at bytes i)) (digits-below 16 2 (getD bytes (i / 2) 255) (lit< tt) (i % 2))
+
+-- A sender whose nibble is n.
+pub data Sends (n : ℕ) : Sender → Type 0 where
+  s-next : Sends n Next
+  s-placed : Sends n (Placed n)
+  s-kept : Sends n (Kept n)
+
+sends-below : {n : ℕ} {sender : Sender} → n < 16 → Sends n sender → senderNibble sender < 16
+sends-below h s-next = lit< tt
+sends-below h s-placed = h
+sends-below h s-kept = h
+
+sends-on : {n : ℕ} {sender : Sender} (low : Bool) → Sends n sender → sentOf sender low ≡ false → Sends n (sendOf sender low n)
+sends-on low s-next e = s-placed
+sends-on low s-placed e = s-kept
+sends-on true s-kept e = s-kept
+sends-on false s-kept e = absurd (true≢false e)
+
+-- What the controller pulls while it sends.
+abbrev pub sending : Sender → Lines
+sending sender = record { bav = true; hsk = senderHsk sender; nibble = senderNibble sender }
+
+shows : {P : Reply → Serial → List ℕ → Type 0} {c : Command} {d : List ℕ} {i n : ℕ} (sender : Sender) (ss : List Station) → n < 16 → Sends n sender → All (λ (st : Station). Part P c d i sender st × Sound st) ss → Shows sender (levelsWith (sending sender) ss)
+shows Next ss h s a = hsk-high (sending Next) refl (all-map (λ st p. part-high (p .0)) a)
+shows (Placed m) ss h s a = (hsk-kept (sending (Placed m)) ss refl, nibble-kept (sending (Placed m)) (sends-below h s) (all-map (λ st p. part-free (p .0)) a))
+shows (Kept m) ss h s a = tt
+
+module _ (c : Command) (d : List ℕ) (ok : Sent c d) (i : ℕ) (sender : Sender) (ss : List Station) (hosts : ℕ) (s : Sends (nibbleIn (bytesFor c d) i) sender) (a : All (λ (st : Station). Part (Promised c d) c d i sender st × Sound st) ss) where
+  abbrev seen : Lines
+  seen = levelsWith (sending sender) ss
+
+  abbrev n : ℕ
+  n = nibbleIn (bytesFor c d) i
+
+  sent-bav : seen .bav ≡ true
+  sent-bav = bav-kept (sending sender) ss refl
+
+  pub sent-nibble : seen .nibble < 16
+  sent-nibble =
+      let b : senderNibble sender < 16 = sends-below (nibble-below (bytesFor c d) i) s in
+      let e : seen .nibble ≡ senderNibble sender = nibble-kept (sending sender) b (all-map (λ st p. part-free (p .0)) a) in
+      subst (λ (x : ℕ). x < 16) (sym e) b
+
+  stepped : (st : Station) (busy : Bool) → Sound st → Stepped st seen busy (stationStep st seen busy)
+  stepped st busy x = low-step st seen busy sent-nibble (x .room) sent-bav
+
+  known : All (λ (st : Station). (Part (Promised c d) c d i sender st × Sound st) × (pullsHsk (st .unit .phase) ≡ true → seen .hsk ≡ true)) ss
+  known = all-zip a (hsk-own (sending sender) ss)
+
+  pub units-rest : sentOf sender (seen .hsk) ≡ false → i < 2 * length (bytesFor c d)
+      → All (λ (st : Station). Part (Promised c d) c d i (sendOf sender (seen .hsk) n) st × Sound st) (unitsAfter seen hosts ss)
+  units-rest e l =
+      all-step seen (λ st busy p. (
+        part-rests (Promised c d) c d i sender st (stationStep st seen busy) seen busy (stepped st busy (p .0 .1)) ok (λ b g. promised c d (st .unit .serial) (stationStep st seen busy .unit .serial) (st .input) (stationStep st seen busy .input) b (p .0 .1 .bytes) g refl) (shows sender ss (nibble-below (bytesFor c d) i) s a) (p .1) e l (p .0 .0),
+        sound-low (stepped st busy (p .0 .1)) (p .0 .1),
+      )) hosts known
+
+  pub units-sent : sentOf sender (seen .hsk) ≡ true → suc i < 2 * length (bytesFor c d)
+      → All (λ (st : Station). Part (Promised c d) c d (suc i) Next st × Sound st) (unitsAfter seen hosts ss)
+  units-sent e l =
+      all-step seen (λ st busy p. (
+        part-sent (Promised c d) c d i sender st (stationStep st seen busy) seen busy (stepped st busy (p .0 .1)) (shows sender ss (nibble-below (bytesFor c d) i) s a) (p .1) e l (p .0 .0),
+        sound-low (stepped st busy (p .0 .1)) (p .0 .1),
+      )) hosts known
+
+  pub units-over : sentOf sender (seen .hsk) ≡ true → suc i ≡ 2 * length (bytesFor c d)
+      → All (λ (st : Station). Turned (Promised c d) c st × Sound st) (unitsAfter seen hosts ss)
+  units-over e l =
+      let nine : length (bytesFor c d) ≡ 9 + length d = length-bytes c d in
+      all-step seen (λ st busy p. (
+        part-over (Promised c d) c d i sender st (stationStep st seen busy) seen busy (stepped st busy (p .0 .1)) (shows sender ss (nibble-below (bytesFor c d) i) s a) (p .1) e l (omega arith) (p .0 .0),
+        sound-low (stepped st busy (p .0 .1)) (p .0 .1),
+      )) hosts known

@@ -1,0 +1,81 @@
+-- When the command is whole, at most one unit responds: the one whose code it carries. To code 0 nobody does.
+use Prim.Native.Nat.{ℕ, zero, suc, _+_, _*_, _<_, _≤_}
+use native.Mathlib.Omega.{arith}
+use mathlib.Core.Path.{_≡_, refl, sym, _∙_, ap, subst}
+use mathlib.Core.Bool.{Bool, true, false, cond, _||_, true≢false, false≢true}
+use mathlib.Core.List.{List, [], _∷_}
+use borrow.Author.Tests.{eq-eqb, eqb-true}
+use lib.Dec.{ltb, eqb}
+use lib.ListN.{length}
+use Rattle.answer.specs.Answer.{nothingTaken}
+use Rattle.bus.specs.declared.Station.{Station}
+use Rattle.header.specs.declared.Command.{Command}
+use Rattle.line.specs.declared.Listener.the-variants.{Ready}
+use Rattle.line.specs.declared.Sender.the-variants.{Next}
+use Rattle.phase.specs.declared.Phase.the-variants.{SittingOut}
+use Rattle.reply.specs.Reply.{isSilent}
+use Rattle.serial.specs.declared.Effect.the-variants.{Keeps, Resets}
+use Rattle.serial.specs.declared.Reply.{Reply}
+use Rattle.serial.specs.declared.Reply.the-variants.{Silent}
+use Rattle.serial.specs.declared.Serial.{Serial}
+use Rattle.verdict.specs.Verdict.{says, verdictOf, supported, status, commandBy}
+use Rattle.verdict.specs.declared.Verdict.{Verdict}
+use Rattle.whole.specs.Whole.{storedOf}
+use Rattle.whole.specs.Back.{lengthOf}
+use Rattle.delivery.specs.Heard.{f-next}
+use Rattle.delivery.specs.Lists.{All, none, also, One, this, that}
+use Rattle.delivery.specs.Promised.{Promised, replyFor}
+use Rattle.delivery.specs.World.{Different, nobody, another}
+use Rattle.delivery.proofs.Lists.{all-map}
+use Rattle.delivery.proofs.Part.{Turned, speaks, silent, addressed}
+use Rattle.delivery.proofs.Stage.{Sound}
+use Rattle.delivery.proofs.Talk.{Talk, talks}
+
+-- A unit that sits out.
+abbrev pub Sits : Station → Type 0
+Sits st = (st .unit .phase ≡ SittingOut false) × (st .unit .asking ≡ false)
+
+-- To code 0 there is silence.
+silent-by : (t u : Bool) (x : Verdict) → isSilent (cond t (says Silent Keeps) (cond u (says Silent Resets) (cond true (says Silent Keeps) x)) .reply) ≡ true
+silent-by true u x = refl
+silent-by false true x = refl
+silent-by false false x = refl
+
+pub zero-silent : (s : Serial) (c : Command) (d : List ℕ) → c .device ≡ 0 → isSilent (replyFor s c d) ≡ true
+zero-silent s c d e =
+    let z : eqb (c .device) 0 ≡ true = eq-eqb (c .device) 0 e in
+    let x = cond (supported (c .command)) (cond (ltb 256 (length d)) (status 0x08) (commandBy (s .opening) s c (length d) (storedOf d))) (status 0x0D) in
+    ap (λ (t : Bool). isSilent (cond (eqb (c .command) 0xFE) (says Silent Keeps) (cond (eqb (c .command) 0xFF) (says Silent Resets) (cond t (says Silent Keeps) x)) .reply)) z
+    ∙ silent-by (eqb (c .command) 0xFE) (eqb (c .command) 0xFF) x
+
+-- A unit that responds has the command's code.
+code-by : (t : Bool) (c : Command) (own : ℕ) (r : Reply) → eqb (c .device) own ≡ t → addressed c own ≡ true → (c .device ≡ 0 → isSilent r ≡ true) → isSilent r ≡ false → c .device ≡ own
+code-by true c own r e a z q = eqb-true (c .device) own e
+code-by false c own r e a z q =
+    let zero : eqb (c .device) 0 ≡ true = sym (ap (λ (t : Bool). t || eqb (c .device) 0) e) ∙ a in
+    absurd (true≢false (sym (z (eqb-true (c .device) 0 zero)) ∙ q))
+
+spoken-code : {c : Command} {d : List ℕ} {r : Reply} {s : Serial} {input : List ℕ} (own : ℕ) → Promised c d r s input → isSilent r ≡ false → addressed c own ≡ true → c .device ≡ own
+spoken-code {c} {d} {r} own p z a = code-by (eqb (c .device) own) c own r refl a (λ e. ap isSilent (p .said) ∙ zero-silent (p .given) c d e) z
+
+-- Nobody beside the unit with the command's code responds.
+others-sit : {c : Command} {d : List ℕ} (own : ℕ) → c .device ≡ own → {ss : List Station} → All (λ (x : Station). x .unit .own ≡ own → ⊥) ss
+    → All (λ (st : Station). Turned (Promised c d) c st × Sound st) ss → All (λ (st : Station). Sits st × Sound st) ss
+others-sit own e none none = none
+others-sit own e (also {x = st} h hs) (also (speaks r z a phase p q, s) ts) = absurd (h (sym (spoken-code (st .unit .own) p z a) ∙ e))
+others-sit own e (also h hs) (also (silent phase q, s) ts) = also ((phase, q), s) (others-sit own e hs ts)
+
+-- Who responds.
+pub data Answering (c : Command) (d : List ℕ) (stores : Bool) (found : List ℕ) (ss : List Station) : Type 0 where
+  somebody : One (λ (st : Station). Talk c d stores found Ready nothingTaken 0 found st × Sound st) (λ (st : Station). Sits st × Sound st) ss → Answering c d stores found ss
+  nobody-does : All (λ (st : Station). Sits st × Sound st) ss → Answering c d stores found ss
+
+joined : {c : Command} {d : List ℕ} {stores : Bool} {found : List ℕ} {st : Station} {ss : List Station} → Sits st × Sound st → Answering c d stores found ss → Answering c d stores found (st ∷ ss)
+joined s (somebody o) = somebody (that s o)
+joined s (nobody-does a) = nobody-does (also s a)
+
+pub answering : (c : Command) (d : List ℕ) (stores : Bool) (found : List ℕ) {ss : List Station} → Different ss → All (λ (st : Station). Turned (Promised c d) c st × Sound st) ss → Answering c d stores found ss
+answering c d stores found nobody none = nobody-does none
+answering c d stores found (another h hs) (also {x = st} (speaks r z a phase p q, s) ts) =
+    somebody (this (talks r 0 0 Next true phase p f-next refl refl (omega arith) (λ _. (refl, refl)) (omega arith) q, s) (others-sit (st .unit .own) (spoken-code (st .unit .own) p z a) h ts))
+answering c d stores found (another h hs) (also (silent phase q, s) ts) = joined ((phase, q), s) (answering c d stores found hs ts)

@@ -1,0 +1,42 @@
+-- Document 01, "Lines and rounds": demand 2's bus, of the same steps that the code's promises cite: one controller and any list of units,
+-- each with the memory that its calls are lent. In a round each party steps once and sees the levels left by all pulls of the round
+-- before.
+use Prim.Native.Nat.{ℕ}
+use mathlib.Core.Bool.{Bool}
+use mathlib.Core.Path.{_≡_}
+use mathlib.Core.List.{List, [], _∷_}
+use Rattle.delivery.specs.Lists.{All}
+use Rattle.bus.specs.Bus.{levelsWith, unitsAfter}
+use Rattle.bus.specs.declared.Station.{Station}
+use Rattle.controller.specs.Calls.{controllerStepped, bufferAfter}
+use Rattle.controller.specs.declared.Controller.{Controller}
+use Rattle.frame.specs.Frame.{pullsOf}
+use Rattle.line.specs.declared.Lines.{Lines}
+
+-- The controller, its units, the command data and the response buffer that its steps are lent.
+pub record World : Type 0 where
+  pub controller : Controller
+  pub units : List Station
+  pub lent : List ℕ
+  pub response : List ℕ
+
+-- Who is busy in a round: the controller's host, and the host of unit i by bit i.
+pub record Busy : Type 0 where
+  pub here : Bool
+  pub there : ℕ
+
+abbrev pub levels : World → Lines
+levels w = levelsWith (pullsOf (w .controller .stage)) (w .units)
+
+abbrev pub round : World → Busy → World
+round w busy = record {
+  controller = controllerStepped (w .controller) (levels w) (busy .here) (w .lent) (w .response);
+  units = unitsAfter (levels w) (busy .there) (w .units);
+  lent = w .lent;
+  response = bufferAfter (w .controller) (levels w) (busy .here) (w .lent) (w .response);
+}
+
+-- Different codes.
+pub data Different : List Station → Type 0 where
+  nobody : Different []
+  another : {st : Station} {ss : List Station} → All (λ (x : Station). x .unit .own ≡ st .unit .own → ⊥) ss → Different ss → Different (st ∷ ss)
