@@ -7,3 +7,4 @@ pub mod Fits
 pub mod Stage
 pub mod Turned
 pub mod Listening
+pub mod Frame

@@ -106,7 +106,7 @@ sends-below h s-next = lit< tt
 sends-below h s-placed = h
 sends-below h s-kept = h
 
-sends-on : {n : ℕ} {sender : Sender} (low : Bool) → Sends n sender → sentOf sender low ≡ false → Sends n (sendOf sender low n)
+pub sends-on : {n : ℕ} {sender : Sender} (low : Bool) → Sends n sender → sentOf sender low ≡ false → Sends n (sendOf sender low n)
 sends-on low s-next e = s-placed
 sends-on low s-placed e = s-kept
 sends-on true s-kept e = s-kept

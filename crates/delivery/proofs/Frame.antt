@@ -1,0 +1,302 @@
+-- A frame from the round in which it begins: each round leads from one stage to the next, or ends the frame as the whole-message
+-- definition says.
+use Prim.Native.Nat.{ℕ, zero, suc, _+_, _-_, _*_, _/_, _<_, _≤_}
+use native.Mathlib.Omega.{arith}
+use mathlib.Core.Path.{_≡_, refl, sym, _∙_, ap, subst}
+use mathlib.Core.Bool.{Bool, true, false, cond, not, _&&_, _||_, true≢false, false≢true}
+use mathlib.Core.List.{List, [], _∷_}
+use borrow.Author.Tests.{lt-leb, le-leb, le-ltb, lt-ltb, ltb-true, ltb-false}
+use lib.Dec.{ltb, leb, eqb, lit<}
+use lib.ListN.{length, set, length-set}
+use Rattle.answer.specs.Answer.{nothingTaken, takenWith, bufferWith, byteBuffer, bodyBuffer, isData, isOver, statusOf, countOf}
+use Rattle.answer.specs.declared.Partial.{Partial}
+use Rattle.answer.specs.declared.Response.{Response}
+use Rattle.answer.specs.declared.Response.the-variants.{Taking, Complete, TooLarge}
+use Rattle.bus.specs.Bus.{levelsWith, stationStep, unitsAfter, unitAfter, isOdd}
+use Rattle.bus.specs.declared.Station.{Station}
+use Rattle.controller.specs.Calls.{stepping, ifLent, controllerStepped, bufferAfter}
+use Rattle.controller.specs.Controller.{controllerOf, isIdle, ringAfter, eventAfter, frameOf, controllerStep, eventIn}
+use Rattle.controller.specs.declared.Controller.{Controller}
+use Rattle.field.specs.Field.{byteFrom}
+use Rattle.frame.specs.Frame.{begun, dataOf, lastNibble, frameStep, frameBuffer, listeningStep, listeningBuffer, isSubmitted, stays, over, waited, lentAt, lentTo, nextNibble, sendingStep, nibbleOf, quietAfter}
+use Rattle.frame.specs.declared.Frame.{Frame}
+use Rattle.frame.specs.declared.Lent.the-variants.{Fits as AsLent}
+use Rattle.frame.specs.declared.Moved.{Moved}
+use Rattle.frame.specs.declared.Stage.{Stage}
+use Rattle.frame.specs.declared.Stage.the-variants.{Sending, Listening, Resting}
+use Rattle.header.specs.declared.Command.{Command}
+use Rattle.line.specs.Line.{hearOf, takenOf, sendOf, sentOf, isReady}
+use Rattle.line.specs.declared.Lines.{Lines}
+use Rattle.line.specs.declared.Listener.{Listener}
+use Rattle.line.specs.declared.Listener.the-variants.{Ready}
+use Rattle.line.specs.declared.Sender.{Sender}
+use Rattle.line.specs.declared.Sender.the-variants.{Next}
+use Rattle.message.specs.Answer.{Answer, gives, refused, kept}
+use Rattle.message.specs.Nibbles.{nibbleIn}
+use Rattle.phase.specs.Phase.{phaseStep}
+use Rattle.phase.specs.declared.Phase.{Phase}
+use Rattle.phase.specs.declared.Phase.the-variants.{Idle, Selecting}
+use Rattle.ring.specs.declared.Ring.{Ring}
+use Rattle.unit.specs.Unit.{pullsHsk, pullsNibble, lowStep, highStep}
+use Rattle.whole.specs.Whole.{bytesFor, Sent}
+use Rattle.whole.proofs.Whole.{length-bytes}
+use Rattle.delivery.specs.Heard.{f-next, Heard, h-none}
+use Rattle.delivery.specs.Lists.{All, none, also, One, this, that}
+use Rattle.delivery.specs.Promised.{Promised}
+use Rattle.delivery.specs.World.{World, Busy, levels, round, Different, nobody, another}
+use Rattle.delivery.proofs.Lines.{hsk-high, bav-kept, nibble-kept}
+use Rattle.delivery.proofs.Lists.{all-map, all-zip, all-step}
+use Rattle.delivery.proofs.Listening.{hearing, Spoke, Heard′, goes-on, comes-to-its-end, heard-nibble, units-heard, still-nibble, still-hsk, units-sit}
+use Rattle.delivery.proofs.Part.{Stepped, low-step, Part, listens}
+use Rattle.delivery.proofs.Stage.{Sound, sound-low, Sends, s-next, sends-on, sending, sent-nibble, units-rest, units-sent, units-over}
+use Rattle.delivery.proofs.Talk.{Talk}
+use Rattle.delivery.proofs.Turned.{Sits, Answering, somebody, nobody-does, answering}
+
+-- A unit that no frame has reached yet.
+pub data Fresh (st : Station) : Type 0 where
+  idles : st .unit .phase ≡ Idle → Fresh st
+  selects : st .unit .phase ≡ Selecting Ready false 0 → Fresh st
+
+fresh-hsk : {st : Station} → Fresh st → pullsHsk (st .unit .phase) ≡ false
+fresh-hsk (idles e) = ap pullsHsk e
+fresh-hsk (selects e) = ap pullsHsk e
+
+fresh-nibble : {st : Station} → Fresh st → pullsNibble (st .unit .phase) ≡ 15
+fresh-nibble (idles e) = ap pullsNibble e
+fresh-nibble (selects e) = ap pullsNibble e
+
+-- With BAV low and HSK high it selects, or goes on to.
+fresh-selects : {st st′ : Station} {seen : Lines} {busy : Bool} → Stepped st seen busy st′ → seen .hsk ≡ false → Fresh st → st′ .unit .phase ≡ Selecting Ready false 0
+fresh-selects {st} {st′} {seen} {busy} s h (idles e) =
+    s .phase ∙ ap (λ (x : Phase). phaseStep x (st .unit .own) (st .unit .serial) seen busy (st .buffer) (st .input) .phase) e ∙ rw h
+fresh-selects {st} {st′} {seen} {busy} s h (selects e) =
+    s .phase ∙ ap (λ (x : Phase). phaseStep x (st .unit .own) (st .unit .serial) seen busy (st .buffer) (st .input) .phase) e ∙ rw h
+
+-- What the types and the calls say of a frame: its command and data, and that what is lent is long enough.
+pub record Framed (f : Frame) (lent found : List ℕ) (timeout : ℕ) : Type 0 where
+  pub sent : Sent (f .command) (dataOf f lent)
+  pub announced : f .«data_length» ≡ length (dataOf f lent)
+  pub room : f .command .«buffer_length» ≤ length found
+  pub fits : lentTo f (length lent) (length found) ≡ AsLent
+  pub eight : 8 ≤ timeout
+
+abbrev pub world : ℕ → Stage → Ring → List Station → List ℕ → List ℕ → World
+world timeout stage ring units lent response = record { controller = controllerOf timeout stage ring; units = units; lent = lent; response = response }
+
+-- A step of the controller in a frame that is not refused.
+control : (c : Controller) (seen : Lines) (host : Bool) (lent response : List ℕ) → seen .nibble < 16 → lentAt (c .stage) (length lent) (length response) ≡ AsLent → isIdle (c .stage) ≡ false
+    → controllerStepped c seen host lent response ≡ controllerOf (c .timeout) (frameOf c seen host lent .stage) (ringAfter (c .ring) (frameOf c seen host lent .end))
+control c seen host lent response n e i = let a : ltb 15 (seen .nibble) ≡ false = le-ltb 15 (seen .nibble) (omega arith) in rw (a, e, i)
+
+control-buffer : (c : Controller) (seen : Lines) (host : Bool) (lent response : List ℕ) → seen .nibble < 16 → lentAt (c .stage) (length lent) (length response) ≡ AsLent
+    → bufferAfter c seen host lent response ≡ frameBuffer (c .stage) seen response
+control-buffer c seen host lent response n e = let a : ltb 15 (seen .nibble) ≡ false = le-ltb 15 (seen .nibble) (omega arith) in rw (a, e)
+
+-- A unit keeps its code.
+own-kept : (st : Station) (seen : Lines) (busy : Bool) → stationStep st seen busy .unit .own ≡ st .unit .own
+own-kept st seen busy = by (ltb 15 (seen .nibble)) (ltb (length (st .buffer)) 256) (seen .bav)
+  where
+    by : (a b c : Bool) → unitAfter (cond a (refused 5) (cond b (refused 11) (gives (cond c (lowStep (st .unit) (seen .hsk) (phaseStep (st .unit .phase) (st .unit .own) (st .unit .serial) seen busy (st .buffer) (st .input))) (highStep (st .unit) (seen .hsk)))))) (st .unit) .own ≡ st .unit .own
+    by true b c = refl
+    by false true c = refl
+    by false false true = refl
+    by false false false = refl
+
+apart-kept : (code : ℕ) (seen : Lines) (hosts : ℕ) {ss : List Station} → All (λ (x : Station). x .unit .own ≡ code → ⊥) ss → All (λ (x : Station). x .unit .own ≡ code → ⊥) (unitsAfter seen hosts ss)
+apart-kept code seen hosts a = all-step seen (λ st busy p e. p (sym (own-kept st seen busy) ∙ e)) hosts a
+
+pub different-kept : (seen : Lines) (hosts : ℕ) {ss : List Station} → Different ss → Different (unitsAfter seen hosts ss)
+different-kept seen hosts nobody = nobody
+different-kept seen hosts (another {st = st} a d) =
+    another (all-map (λ x p e. p (e ∙ own-kept st seen (isOdd hosts))) (apart-kept (st .unit .own) seen (hosts / 2) a)) (different-kept seen (hosts / 2) d)
+
+-- The stages of a frame f that has found the response buffer `found`.
+pub data InFrame (f : Frame) (found : List ℕ) : World → Type 0 where
+  begins :
+      {timeout : ℕ} {ring : Ring} {units : List Station} {lent : List ℕ} → Framed f lent found timeout → Different units → All (λ (st : Station). Fresh st × Sound st) units
+      → InFrame f found (world timeout (begun f) ring units lent found)
+  sends :
+      (i : ℕ) (sender : Sender) {timeout : ℕ} {ring : Ring} {units : List Station} {lent : List ℕ} → Framed f lent found timeout → Different units
+      → Sends (nibbleIn (bytesFor (f .command) (dataOf f lent)) i) sender → i < 2 * length (bytesFor (f .command) (dataOf f lent))
+      → All (λ (st : Station). Part (Promised (f .command) (dataOf f lent)) (f .command) (dataOf f lent) i sender st × Sound st) units
+      → InFrame f found (world timeout (Sending f i sender false) ring units lent found)
+  hears :
+      (ear : Listener) (taken : Response) (quiet : ℕ) {timeout : ℕ} {ring : Ring} {units : List Station} {lent response : List ℕ} → Framed f lent found timeout → Different units → length response ≡ length found
+      → One (λ (st : Station). Talk (f .command) (dataOf f lent) (isSubmitted (f .kind)) found ear taken quiet response st × Sound st) (λ (st : Station). Sits st × Sound st) units
+      → InFrame f found (world timeout (Listening f ear taken quiet) ring units lent response)
+  waits :
+      (quiet : ℕ) {timeout : ℕ} {ring : Ring} {units : List Station} {lent : List ℕ} → Framed f lent found timeout → Different units → All (λ (st : Station). Sits st × Sound st) units
+      → InFrame f found (world timeout (Listening f Ready nothingTaken quiet) ring units lent found)
+
+-- What a round of it comes to.
+abbrev pub movedIn : World → Busy → Moved
+movedIn w busy = frameOf (w .controller) (levels w) (busy .here) (w .lent)
+
+pub data Goes (f : Frame) (found : List ℕ) (w : World) (busy : Busy) : Type 0 where
+  on : InFrame f found (round w busy) → Goes f found w busy
+  answered :
+      Different (round w busy .units)
+      → One (λ (st : Station). Spoke f (dataOf f (w .lent)) found (movedIn w busy) (round w busy .response) st × Sound st) (λ (st : Station). Sits st × Sound st) (round w busy .units)
+      → Goes f found w busy
+  unanswered :
+      movedIn w busy ≡ over f nothingTaken → round w busy .response ≡ found → Different (round w busy .units) → All (λ (st : Station). Sits st × Sound st) (round w busy .units)
+      → Goes f found w busy
+
+-- No step of the controller changes the length of the response buffer.
+cond-length : (t : Bool) (a b : List ℕ) (n : ℕ) → length a ≡ n → length b ≡ n → length (cond t a b) ≡ n
+cond-length true a b n e g = e
+cond-length false a b n e g = g
+
+put-length : (p : Partial) (x : ℕ) (stores : Bool) (b : List ℕ) → length (byteBuffer p x stores b) ≡ length b
+put-length p x stores b =
+    cond-length (ltb (p .place) 2) b (bodyBuffer p x stores b) (length b) refl
+    (cond-length stores (cond (isData p) (set b (p .place - 2) x) b) b (length b) (cond-length (isData p) (set b (p .place - 2) x) b (length b) (length-set b (p .place - 2) x) refl) refl)
+
+taken-length : (r : Response) (nibble : ℕ) (stores : Bool) (b : List ℕ) → length (bufferWith r nibble stores b) ≡ length b
+taken-length (Taking p) nibble stores b = cond-length (p .half) (byteBuffer p (byteFrom (p .low) nibble) stores b) b (length b) (put-length p (byteFrom (p .low) nibble) stores b) refl
+taken-length (Complete s k) nibble stores b = refl
+taken-length TooLarge nibble stores b = refl
+
+heard-length : (f : Frame) (ear : Listener) (taken : Response) (seen : Lines) (b : List ℕ) → length (listeningBuffer f ear taken seen b) ≡ length b
+heard-length f ear taken seen b = cond-length (takenOf ear (seen .hsk)) (bufferWith taken (seen .nibble) (isSubmitted (f .kind)) b) b (length b) (taken-length taken (seen .nibble) (isSubmitted (f .kind)) b) refl
+
+module _ (f : Frame) (found : List ℕ) (timeout : ℕ) (ring : Ring) (units : List Station) (lent : List ℕ) (framed : Framed f lent found timeout) (different : Different units) (busy : Busy) where
+  abbrev c : Command
+  c = f .command
+
+  abbrev d : List ℕ
+  d = dataOf f lent
+
+  abbrev total : ℕ
+  total = 2 * length (bytesFor c d)
+
+  -- The world after a round, from what the controller's step comes to.
+  after : (stage stage′ : Stage) (response response′ : List ℕ) → let w = world timeout stage ring units lent response in levels w .nibble < 16 → lentAt stage (length lent) (length response) ≡ AsLent → isIdle stage ≡ false
+      → movedIn w busy ≡ stays stage′ → frameBuffer stage (levels w) response ≡ response′
+      → round w busy ≡ world timeout stage′ ring (unitsAfter (levels w) (busy .there) units) lent response′
+  after stage stage′ response response′ n l i m b =
+      let w = world timeout stage ring units lent response in
+      let c1 = control (w .controller) (levels w) (busy .here) lent response n l i ∙ ap (λ (x : Moved). controllerOf timeout (x .stage) (ringAfter ring (x .end))) m in
+      let b1 = control-buffer (w .controller) (levels w) (busy .here) lent response n l ∙ b in
+      λ k. record { controller = c1 k; units = unitsAfter (levels w) (busy .there) units; lent = lent; response = b1 k }
+
+  -- The frame begins: every unit selects.
+  begin-round : All (λ (st : Station). Fresh st × Sound st) units → Goes f found (world timeout (begun f) ring units lent found) busy
+  begin-round a =
+      let seen = levelsWith (sending Next) units in
+      let n : seen .nibble ≡ 15 = nibble-kept (sending Next) (lit< tt) (all-map (λ st p. fresh-nibble (p .0)) a) in
+      let small : seen .nibble < 16 = subst (λ (x : ℕ). x < 16) (sym n) (lit< tt) in
+      let high : seen .hsk ≡ false = hsk-high (sending Next) refl (all-map (λ st p. fresh-hsk (p .0)) a) in
+      let low : seen .bav ≡ true = bav-kept (sending Next) units refl in
+      let long : length (bytesFor c d) ≡ 9 + length d = length-bytes c d in
+      on (subst (InFrame f found) (sym (after (begun f) (Sending f 0 Next false) found found small (framed .fits) refl refl refl))
+      (sends 0 Next framed (different-kept seen (busy .there) different) s-next (omega arith)
+      (all-step seen (λ st host p.
+      let step = low-step st seen host small (p .1 .room) low in
+      let ok = sound-low step (p .1) in (
+        listens Ready 0 f-next (subst (λ (x : Phase). Heard (bytesFor c d) Ready 0 x (stationStep st seen host .buffer)) (sym (fresh-selects step high (p .0))) (h-none (ok .room))) (λ l. absurd (omega arith)) (λ l. absurd (omega arith)),
+        ok,
+      )) (busy .there) a)))
+
+  -- A round while the command is sent.
+  module _ (i : ℕ) (sender : Sender) (s : Sends (nibbleIn (bytesFor c d) i) sender) (less : i < total) (a : All (λ (st : Station). Part (Promised c d) c d i sender st × Sound st) units) where
+    abbrev w : World
+    w = world timeout (Sending f i sender false) ring units lent found
+
+    abbrev seen : Lines
+    seen = levelsWith (sending sender) units
+
+    small : seen .nibble < 16
+    small = sent-nibble c d (framed .sent) i sender units (busy .there) s a
+
+    abbrev whenNot : Stage
+    whenNot = Sending f i (sendOf sender (seen .hsk) (nibbleIn (bytesFor c d) i)) false
+
+    last-is : lastNibble f ≡ total - 1
+    last-is = let l : length (bytesFor c d) ≡ 9 + length d = length-bytes c d in let n = framed .announced in omega arith
+
+    send-round : (t u : Bool) → sentOf sender (seen .hsk) ≡ t → ltb i (lastNibble f) ≡ u → Goes f found w busy
+    send-round false u e g =
+        let m : movedIn w busy ≡ stays whenNot = ap (λ (x : Bool). stays (cond x (nextNibble f i) whenNot)) e in
+        on (subst (InFrame f found) (sym (after (Sending f i sender false) whenNot found found small (framed .fits) refl m refl))
+        (sends i (sendOf sender (seen .hsk) (nibbleIn (bytesFor c d) i)) framed (different-kept seen (busy .there) different) (sends-on (seen .hsk) s e) less (units-rest c d (framed .sent) i sender units (busy .there) s a e less)))
+    send-round true true e g =
+        let more : i < lastNibble f = ltb-true i (lastNibble f) g in
+        let l = last-is in
+        let next : i + 1 ≡ suc i = omega arith in
+        let m : movedIn w busy ≡ stays (Sending f (suc i) Next false) =
+        ap (λ (x : Bool). stays (cond x (nextNibble f i) whenNot)) e ∙ ap (λ (x : Bool). stays (cond x (Sending f (i + 1) Next false) (Listening f Ready nothingTaken 0))) g ∙ ap (λ (x : ℕ). stays (Sending f x Next false)) next in
+        on (subst (InFrame f found) (sym (after (Sending f i sender false) (Sending f (suc i) Next false) found found small (framed .fits) refl m refl))
+        (sends (suc i) Next framed (different-kept seen (busy .there) different) s-next (omega arith) (units-sent c d (framed .sent) i sender units (busy .there) s a e (omega arith))))
+    send-round true false e g =
+        let least : lastNibble f ≤ i = ltb-false i (lastNibble f) g in
+        let l = last-is in
+        let m : movedIn w busy ≡ stays (Listening f Ready nothingTaken 0) =
+        ap (λ (x : Bool). stays (cond x (nextNibble f i) whenNot)) e ∙ ap (λ (x : Bool). stays (cond x (Sending f (i + 1) Next false) (Listening f Ready nothingTaken 0))) g in
+        let d′ = different-kept seen (busy .there) different in
+        let eq = after (Sending f i sender false) (Listening f Ready nothingTaken 0) found found small (framed .fits) refl m refl in
+        turn eq d′ (answering c d (isSubmitted (f .kind)) found d′ (units-over c d (framed .sent) i sender units (busy .there) s a e (omega arith)))
+      where
+        turn : round w busy ≡ world timeout (Listening f Ready nothingTaken 0) ring (unitsAfter seen (busy .there) units) lent found → Different (unitsAfter seen (busy .there) units)
+            → Answering c d (isSubmitted (f .kind)) found (unitsAfter seen (busy .there) units) → Goes f found w busy
+        turn eq d′ (somebody o) = on (subst (InFrame f found) (sym eq) (hears Ready nothingTaken 0 framed d′ refl o))
+        turn eq d′ (nobody-does b) = on (subst (InFrame f found) (sym eq) (waits 0 framed d′ b))
+
+  -- A round while one unit responds.
+  module _ (ear : Listener) (taken : Response) (quiet : ℕ) (response : List ℕ) (long : length response ≡ length found) (o : One (λ (st : Station). Talk c d (isSubmitted (f .kind)) found ear taken quiet response st × Sound st) (λ (st : Station). Sits st × Sound st) units) where
+    abbrev v : World
+    v = world timeout (Listening f ear taken quiet) ring units lent response
+
+    as-lent : lentTo f (length lent) (length response) ≡ AsLent
+    as-lent = ap (λ (x : ℕ). lentTo f (length lent) x) long ∙ framed .fits
+
+    heard-small : levels v .nibble < 16
+    heard-small = heard-nibble f d found timeout (framed .eight) (framed .room) (busy .here) (busy .there) ear taken quiet response units o
+
+    hear-by : Heard′ f d found (movedIn v busy) (listeningBuffer f ear taken (levels v) response) (unitsAfter (levels v) (busy .there) units) → Goes f found v busy
+    hear-by (goes-on ear′ taken′ quiet′ e o′) =
+        on (subst (InFrame f found) (sym (after (Listening f ear taken quiet) (Listening f ear′ taken′ quiet′) response (listeningBuffer f ear taken (levels v) response) heard-small as-lent refl e refl))
+        (hears ear′ taken′ quiet′ framed (different-kept (levels v) (busy .there) different) (heard-length f ear taken (levels v) response ∙ long) o′))
+    hear-by (comes-to-its-end o′) =
+        let b : round v busy .response ≡ listeningBuffer f ear taken (levels v) response = control-buffer (v .controller) (levels v) (busy .here) lent response heard-small as-lent in
+        answered (different-kept (levels v) (busy .there) different)
+        (subst (λ (x : List ℕ). One (λ (st : Station). Spoke f d found (movedIn v busy) x st × Sound st) (λ (st : Station). Sits st × Sound st) (unitsAfter (levels v) (busy .there) units)) (sym b) o′)
+
+    hear-round : Goes f found v busy
+    hear-round = hear-by (units-heard f d found timeout (framed .eight) (framed .room) (busy .here) (busy .there) ear taken quiet response units o)
+
+  -- A round while nobody responds.
+  module _ (quiet : ℕ) (a : All (λ (st : Station). Sits st × Sound st) units) where
+    abbrev u : World
+    u = world timeout (Listening f Ready nothingTaken quiet) ring units lent found
+
+    high : levels u .hsk ≡ false
+    high = still-hsk Ready (busy .there) units a
+
+    silent-small : levels u .nibble < 16
+    silent-small = subst (λ (x : ℕ). x < 16) (sym (still-nibble Ready (busy .there) units a)) (lit< tt)
+
+    same-buffer : frameBuffer (Listening f Ready nothingTaken quiet) (levels u) found ≡ found
+    same-buffer = ap (λ (x : Bool). cond x (bufferWith nothingTaken (levels u .nibble) (isSubmitted (f .kind)) found) found) high
+
+    waited-on : movedIn u busy ≡ cond (leb timeout (quiet + 1) || false) (over f nothingTaken) (stays (Listening f Ready nothingTaken (quiet + 1)))
+    waited-on = rw high
+
+    wait-round : (t : Bool) → leb timeout (quiet + 1) ≡ t → Goes f found u busy
+    wait-round true e =
+        unanswered (waited-on ∙ ap (λ (x : Bool). cond (x || false) (over f nothingTaken) (stays (Listening f Ready nothingTaken (quiet + 1)))) e)
+        (control-buffer (u .controller) (levels u) (busy .here) lent found silent-small (framed .fits) ∙ same-buffer) (different-kept (levels u) (busy .there) different) (units-sit Ready (busy .there) units a)
+    wait-round false e =
+        let m : movedIn u busy ≡ stays (Listening f Ready nothingTaken (quiet + 1)) = waited-on ∙ ap (λ (x : Bool). cond (x || false) (over f nothingTaken) (stays (Listening f Ready nothingTaken (quiet + 1)))) e in
+        on (subst (InFrame f found) (sym (after (Listening f Ready nothingTaken quiet) (Listening f Ready nothingTaken (quiet + 1)) found found silent-small (framed .fits) refl m same-buffer))
+        (waits (quiet + 1) framed (different-kept (levels u) (busy .there) different) (units-sit Ready (busy .there) units a)))
+
+-- Every round of a frame.
+pub frame-round : (f : Frame) (found : List ℕ) {w : World} → InFrame f found w → (busy : Busy) → Goes f found w busy
+frame-round f found (begins {timeout = timeout} {ring = ring} {units = units} {lent = lent} framed different a) busy = begin-round f found timeout ring units lent framed different busy a
+frame-round f found (sends i sender {timeout = timeout} {ring = ring} {units = units} {lent = lent} framed different s less a) busy =
+    send-round f found timeout ring units lent framed different busy i sender s less a (sentOf sender (levelsWith (sending sender) units .hsk)) (ltb i (lastNibble f)) refl refl
+frame-round f found (hears ear taken quiet {timeout = timeout} {ring = ring} {units = units} {lent = lent} {response = response} framed different long o) busy =
+    hear-round f found timeout ring units lent framed different busy ear taken quiet response long o
+frame-round f found (waits quiet {timeout = timeout} {ring = ring} {units = units} {lent = lent} framed different a) busy =
+    wait-round f found timeout ring units lent framed different busy quiet a (leb timeout (quiet + 1)) refl
