@@ -28,13 +28,14 @@ use Rattle.serial.specs.declared.Serial.{Serial}
 use Rattle.verdict.specs.Verdict.{says, status, modeOf, acceptedOf, openBy, readBy, writeBy, openedBy, pollBy, closedBy, commandBy, supported, verdictOf}
 use Rattle.verdict.specs.declared.Verdict.{Verdict}
 use Rattle.whole.specs.Back.{Answered}
-use Rattle.delivery.specs.Promised.{dataFor}
+use Rattle.delivery.specs.Promised.{dataFor, Enough}
 
 module _ (s : Serial) (c : Command) (input : List ℕ) where
   -- A verdict whose response is one, and stands after its effect on data e.
   pub record Good (v : Verdict) : Type 0 where
     pub stands : (e : List ℕ) → dataFor (applied s (v .effect) e) input (v .reply) ≡ dataFor s input (v .reply)
     pub long : (e : List ℕ) → replyLength (applied s (v .effect) e .input) (v .reply) ≡ length (dataFor s input (v .reply))
+    pub enough : (e : List ℕ) → Enough (v .reply) (applied s (v .effect) e .input)
     pub fits : Answered (dataFor s input (v .reply)) (replyStatus (v .reply)) (c .«buffer_length»)
 
   -- No data.
@@ -42,13 +43,13 @@ module _ (s : Serial) (c : Command) (input : List ℕ) where
   bare number h = record { bytes = λ i. lit< tt; number = h; short = omega arith; fits = omega arith }
 
   good-status : (number : ℕ) (effect : Effect) → number < 256 → Good (says (Status number) effect)
-  good-status number effect h = record { stands = λ e. refl; long = λ e. refl; fits = bare number h }
+  good-status number effect h = record { stands = λ e. refl; long = λ e. refl; enough = λ e. tt; fits = bare number h }
 
   good-silent : (effect : Effect) → Good (says Silent effect)
-  good-silent effect = record { stands = λ e. refl; long = λ e. refl; fits = bare 0xFF (lit< tt) }
+  good-silent effect = record { stands = λ e. refl; long = λ e. refl; enough = λ e. tt; fits = bare 0xFF (lit< tt) }
 
   good-polled : Good (says Polled Keeps)
-  good-polled = record { stands = λ e. refl; long = λ e. refl; fits = bare 0x00 (lit< tt) }
+  good-polled = record { stands = λ e. refl; long = λ e. refl; enough = λ e. tt; fits = bare 0x00 (lit< tt) }
 
   -- An open's four bytes.
   four-below : (a : ℕ) → Below 256 (a % 256 ∷ a / 256 % 256 ∷ 0 ∷ 0 ∷ [])
@@ -59,7 +60,7 @@ module _ (s : Serial) (c : Command) (input : List ℕ) where
   four-below a (suc (suc (suc (suc i)))) = lit< tt
 
   good-opened : (a : ℕ) (effect : Effect) → 4 ≤ c .«buffer_length» → Good (says (Opened a) effect)
-  good-opened a effect h = record { stands = λ e. refl; long = λ e. refl; fits = record { bytes = four-below a; number = lit< tt; short = omega arith; fits = h } }
+  good-opened a effect h = record { stands = λ e. refl; long = λ e. refl; enough = λ e. tt; fits = record { bytes = four-below a; number = lit< tt; short = omega arith; fits = h } }
 
   -- Either way of a test.
   good-cond : (t : Bool) (v w : Verdict) → (t ≡ true → Good v) → (t ≡ false → Good w) → Good (cond t v w)
@@ -82,8 +83,8 @@ module _ (s : Serial) (c : Command) (input : List ℕ) where
     from-below at (suc n) zero = below (at % 256)
     from-below at (suc n) (suc i) = from-below (suc at) n i
 
-    good-read : (k : ℕ) → k ≤ c .«buffer_length» → Good (says (Bytes k) Keeps)
-    good-read k h =
+    good-read : (k : ℕ) → k ≤ c .«buffer_length» → k ≤ held (s .input) → Good (says (Bytes k) Keeps)
+    good-read k h few =
         let q = contents input (s .input) in
         let l : length (take k q) ≡ min k (held (s .input)) = length-take k q ∙ ap (min k) (length-contents input (s .input)) in
         let a : min k (held (s .input)) ≤ k = min-le-left k (held (s .input)) in
@@ -92,17 +93,19 @@ module _ (s : Serial) (c : Command) (input : List ℕ) where
         record {
           stands = λ e. refl;
           long = λ e. sym l;
+          enough = λ e. few;
           fits = record { bytes = below-take k q (from-below (s .input .head) (held (s .input))); number = lit< tt; short = omega arith; fits = omega arith };
         }
 
-    good-bytes : (queued accepted : ℕ) → Good (says (Bytes (min queued (min (c .«buffer_length») accepted))) Keeps)
-    good-bytes queued accepted =
-        good-read (min queued (min (c .«buffer_length») accepted)) (le-trans (min-le-right queued (min (c .«buffer_length») accepted)) (min-le-left (c .«buffer_length») accepted))
+    good-bytes : (accepted : ℕ) → Good (says (Bytes (min (held (s .input)) (min (c .«buffer_length») accepted))) Keeps)
+    good-bytes accepted =
+        let queued = held (s .input) in
+        good-read (min queued (min (c .«buffer_length») accepted)) (le-trans (min-le-right queued (min (c .«buffer_length») accepted)) (min-le-left (c .«buffer_length») accepted)) (min-le-left queued (min (c .«buffer_length») accepted))
 
-    good-by-mode : (m : Mode) (accepted queued : ℕ) → Good (readBy m accepted (c .«buffer_length») queued)
-    good-by-mode Input accepted queued = good-bytes queued accepted
-    good-by-mode Output accepted queued = good-status 0x0F Keeps (lit< tt)
-    good-by-mode Update accepted queued = good-bytes queued accepted
+    good-by-mode : (m : Mode) (accepted : ℕ) → Good (readBy m accepted (c .«buffer_length») (held (s .input)))
+    good-by-mode Input accepted = good-bytes accepted
+    good-by-mode Output accepted = good-status 0x0F Keeps (lit< tt)
+    good-by-mode Update accepted = good-bytes accepted
 
     good-write : (m : Mode) (n room : ℕ) → Good (writeBy m n room)
     good-write Input n room = good-status 0x0E Keeps (lit< tt)
@@ -115,7 +118,7 @@ module _ (s : Serial) (c : Command) (input : List ℕ) where
     good-in : (m : Mode) (accepted n : ℕ) → Good (openedBy m accepted s c n)
     good-in m accepted n =
         good-cond (eqb (c .command) 0x01) _ _ (λ _. good-status 0x00 Closes (lit< tt)) (λ _.
-        good-cond (eqb (c .command) 0x03) _ _ (λ _. good-by-mode m accepted (held (s .input))) (λ _.
+        good-cond (eqb (c .command) 0x03) _ _ (λ _. good-by-mode m accepted) (λ _.
         good-cond (eqb (c .command) 0x04) _ _ (λ _. good-write m n (room (s .output))) (λ _.
         good-cond (eqb (c .command) 0x08) _ _ (λ _. good-status 0x00 Enables (lit< tt)) (λ _. good-status 0x00 Disables (lit< tt)))))
 

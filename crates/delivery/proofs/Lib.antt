@@ -8,3 +8,4 @@ pub mod Stage
 pub mod Turned
 pub mod Listening
 pub mod Frame
+pub mod Calls

@@ -38,7 +38,7 @@ use Rattle.whole.specs.Whole.{bytesFor, headerFor, withData, storedOf, Sent}
 use Rattle.whole.proofs.Whole.{whole-data, length-bytes}
 use Rattle.delivery.specs.Heard.{Fits, f-next, f-placed, f-holds, f-waits, Heard, h-none}
 use Rattle.delivery.specs.Lists.{All, none, also, One, this, that}
-use Rattle.delivery.specs.Promised.{Promised, dataFor, replyFor}
+use Rattle.delivery.specs.Promised.{Promised, dataFor, replyFor, Enough}
 use Rattle.delivery.proofs.Fits.{Good, good-verdict}
 use Rattle.delivery.proofs.Lines.{hsk-kept, bav-kept, hsk-high, bav-high, hsk-own, nibble-kept}
 use Rattle.delivery.proofs.Lists.{all-map, all-zip, one-all, all-step, one-step}
@@ -56,12 +56,14 @@ promised c d s t input input′ b below e i =
       said = ap (λ (x : List ℕ). verdictOf s c (length d) x .reply) (whole-data d b);
       stands = (λ k. dataFor (e k) (i k) (v .reply)) ∙ good .stands z;
       long = ap (λ (x : Serial). replyLength (x .input) (v .reply)) e ∙ good .long z;
+      enough = subst (λ (x : Serial). Enough (v .reply) (x .input)) (sym e) (good .enough z);
       fits = good .fits;
     }
 
--- The memory that a unit's calls are lent: room for a command, and bytes.
+-- The memory that a unit's calls are lent: room for a command, and 256 bytes for its input.
 pub record Sound (st : Station) : Type 0 where
   pub room : 256 ≤ length (st .buffer)
+  pub memory : length (st .input) ≡ 256
   pub bytes : Below 256 (st .input)
 
 -- No round changes how much memory there is.
@@ -88,6 +90,7 @@ phase-length (SittingOut last) seen b = refl
 pub sound-low : {st st′ : Station} {seen : Lines} {busy : Bool} → Stepped st seen busy st′ → Sound st → Sound st′
 sound-low {st} {st′} {seen} e s = record {
   room = let l : length (st′ .buffer) ≡ length (st .buffer) = ap length (e .buffer) ∙ phase-length (st .unit .phase) seen (st .buffer) in let r = s .room in omega arith;
+  memory = ap length (e .input) ∙ s .memory;
   bytes = subst (Below 256) (sym (e .input)) (s .bytes);
 }
 

@@ -37,7 +37,7 @@ use Rattle.unit.specs.Unit.{pullsHsk, pullsNibble}
 use Rattle.whole.specs.Back.{responseFor, takenAt, storedAt, lengthOf, received, Answered}
 use Rattle.whole.proofs.Back.{response-completes, not-over-before, data-received}
 use Rattle.delivery.specs.Heard.{Fits, f-next, f-placed, f-holds, f-waits, Sees}
-use Rattle.delivery.specs.Promised.{Promised, dataFor}
+use Rattle.delivery.specs.Promised.{Promised, dataFor, Enough}
 use Rattle.delivery.proofs.Heard.{Pair, rests, takes, sends, pair}
 use Rattle.delivery.proofs.Part.{Stepped}
 
@@ -62,6 +62,7 @@ carried {r = r} e i p = record {
   said = p .said;
   stands = (λ k. dataFor (e k) (i k) r) ∙ p .stands;
   long = ap (λ (x : Serial). replyLength (x .input) r) e ∙ p .long;
+  enough = subst (λ (x : Serial). Enough r (x .input)) (sym e) (p .enough);
   fits = p .fits;
 }
 

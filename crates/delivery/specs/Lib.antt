@@ -2,3 +2,4 @@ pub mod Lists
 pub mod Heard
 pub mod Promised
 pub mod World
+pub mod Calls

@@ -1,12 +1,14 @@
 -- Document 01, "The serial peripheral": the one response of a unit to a whole command.
-use Prim.Native.Nat.{ℕ}
+use Prim.Native.Nat.{ℕ, _≤_}
 use mathlib.Core.Path.{_≡_}
 use mathlib.Core.List.{List}
 use lib.ListN.{length}
 use Rattle.header.specs.declared.Command.{Command}
-use Rattle.queue.specs.Queue.{contents}
+use Rattle.queue.specs.Queue.{contents, held}
+use Rattle.queue.specs.declared.Queue.{Queue}
 use Rattle.reply.specs.Reply.{replyData, replyStatus, replyLength}
 use Rattle.serial.specs.declared.Reply.{Reply}
+use Rattle.serial.specs.declared.Reply.the-variants.{Silent, Status, Opened, Bytes, Polled}
 use Rattle.serial.specs.declared.Serial.{Serial}
 use Rattle.verdict.specs.Verdict.{verdictOf}
 use Rattle.verdict.specs.declared.Verdict.{Verdict}
@@ -20,6 +22,14 @@ replyFor s c d = verdictOf s c (length d) (storedOf d) .reply
 abbrev pub dataFor : Serial → List ℕ → Reply → List ℕ
 dataFor s input r = replyData (contents input (s .input)) r
 
+-- A queue that holds all that a reply announces.
+abbrev pub Enough : Reply → Queue → Type 0
+Enough Silent q = Unit
+Enough (Status number) q = Unit
+Enough (Opened accepted) q = Unit
+Enough (Bytes n) q = n ≤ held q
+Enough Polled q = Unit
+
 -- A reply r that stands, of a unit that is in the state s now: it was given in a state `given`, with the bytes `memory`, and the data
 -- that it had then is the data that it has now.
 pub record Promised (c : Command) (d : List ℕ) (r : Reply) (s : Serial) (input : List ℕ) : Type 0 where
@@ -28,4 +38,5 @@ pub record Promised (c : Command) (d : List ℕ) (r : Reply) (s : Serial) (input
   pub said : r ≡ replyFor given c d
   pub stands : dataFor s input r ≡ dataFor given memory r
   pub long : replyLength (s .input) r ≡ length (dataFor given memory r)
+  pub enough : Enough r (s .input)
   pub fits : Answered (dataFor given memory r) (replyStatus r) (c .«buffer_length»)
