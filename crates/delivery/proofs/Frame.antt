@@ -57,16 +57,16 @@ pub data Fresh (st : Station) : Type 0 where
   idles : st .unit .phase ≡ Idle → Fresh st
   selects : st .unit .phase ≡ Selecting Ready false 0 → Fresh st
 
-fresh-hsk : {st : Station} → Fresh st → pullsHsk (st .unit .phase) ≡ false
+pub fresh-hsk : {st : Station} → Fresh st → pullsHsk (st .unit .phase) ≡ false
 fresh-hsk (idles e) = ap pullsHsk e
 fresh-hsk (selects e) = ap pullsHsk e
 
-fresh-nibble : {st : Station} → Fresh st → pullsNibble (st .unit .phase) ≡ 15
+pub fresh-nibble : {st : Station} → Fresh st → pullsNibble (st .unit .phase) ≡ 15
 fresh-nibble (idles e) = ap pullsNibble e
 fresh-nibble (selects e) = ap pullsNibble e
 
 -- With BAV low and HSK high it selects, or goes on to.
-fresh-selects : {st st′ : Station} {seen : Lines} {busy : Bool} → Stepped st seen busy st′ → seen .hsk ≡ false → Fresh st → st′ .unit .phase ≡ Selecting Ready false 0
+pub fresh-selects : {st st′ : Station} {seen : Lines} {busy : Bool} → Stepped st seen busy st′ → seen .hsk ≡ false → Fresh st → st′ .unit .phase ≡ Selecting Ready false 0
 fresh-selects {st} {st′} {seen} {busy} s h (idles e) =
     s .phase ∙ ap (λ (x : Phase). phaseStep x (st .unit .own) (st .unit .serial) seen busy (st .buffer) (st .input) .phase) e ∙ rw h
 fresh-selects {st} {st′} {seen} {busy} s h (selects e) =
@@ -132,15 +132,21 @@ pub data InFrame (f : Frame) (found : List ℕ) : World → Type 0 where
 abbrev pub movedIn : World → Busy → Moved
 movedIn w busy = frameOf (w .controller) (levels w) (busy .here) (w .lent)
 
+abbrev pub Finishes : World → Busy → Type 0
+Finishes w busy = round w busy .controller ≡ controllerOf (w .controller .timeout) (movedIn w busy .stage) (ringAfter (w .controller .ring) (movedIn w busy .end))
+
 pub data Goes (f : Frame) (found : List ℕ) (w : World) (busy : Busy) : Type 0 where
-  on : InFrame f found (round w busy) → Goes f found w busy
+  on : round w busy .controller .ring ≡ w .controller .ring → InFrame f found (round w busy) → Goes f found w busy
   answered :
-      Different (round w busy .units)
+      Finishes w busy → Different (round w busy .units)
       → One (λ (st : Station). Spoke f (dataOf f (w .lent)) found (movedIn w busy) (round w busy .response) st × Sound st) (λ (st : Station). Sits st × Sound st) (round w busy .units)
       → Goes f found w busy
   unanswered :
-      movedIn w busy ≡ over f nothingTaken → round w busy .response ≡ found → Different (round w busy .units) → All (λ (st : Station). Sits st × Sound st) (round w busy .units)
+      Finishes w busy → movedIn w busy ≡ over f nothingTaken → round w busy .response ≡ found → Different (round w busy .units) → All (λ (st : Station). Sits st × Sound st) (round w busy .units)
       → Goes f found w busy
+
+go-on : {f : Frame} {found : List ℕ} {w v : World} {busy : Busy} → round w busy ≡ v → v .controller .ring ≡ w .controller .ring → InFrame f found v → Goes f found w busy
+go-on {f} {found} eq r y = on (ap (λ (x : World). x .controller .ring) eq ∙ r) (subst (InFrame f found) (sym eq) y)
 
 -- No step of the controller changes the length of the response buffer.
 cond-length : (t : Bool) (a b : List ℕ) (n : ℕ) → length a ≡ n → length b ≡ n → length (cond t a b) ≡ n
@@ -189,14 +195,13 @@ module _ (f : Frame) (found : List ℕ) (timeout : ℕ) (ring : Ring) (units : L
       let high : seen .hsk ≡ false = hsk-high (sending Next) refl (all-map (λ st p. fresh-hsk (p .0)) a) in
       let low : seen .bav ≡ true = bav-kept (sending Next) units refl in
       let long : length (bytesFor c d) ≡ 9 + length d = length-bytes c d in
-      on (subst (InFrame f found) (sym (after (begun f) (Sending f 0 Next false) found found small (framed .fits) refl refl refl))
-      (sends 0 Next framed (different-kept seen (busy .there) different) s-next (omega arith)
+      go-on (after (begun f) (Sending f 0 Next false) found found small (framed .fits) refl refl refl) refl (sends 0 Next framed (different-kept seen (busy .there) different) s-next (omega arith)
       (all-step seen (λ st host p.
       let step = low-step st seen host small (p .1 .room) low in
       let ok = sound-low step (p .1) in (
         listens Ready 0 f-next (subst (λ (x : Phase). Heard (bytesFor c d) Ready 0 x (stationStep st seen host .buffer)) (sym (fresh-selects step high (p .0))) (h-none (ok .room))) (λ l. absurd (omega arith)) (λ l. absurd (omega arith)),
         ok,
-      )) (busy .there) a)))
+      )) (busy .there) a))
 
   -- A round while the command is sent.
   module _ (i : ℕ) (sender : Sender) (s : Sends (nibbleIn (bytesFor c d) i) sender) (less : i < total) (a : All (λ (st : Station). Part (Promised c d) c d i sender st × Sound st) units) where
@@ -218,16 +223,14 @@ module _ (f : Frame) (found : List ℕ) (timeout : ℕ) (ring : Ring) (units : L
     send-round : (t u : Bool) → sentOf sender (seen .hsk) ≡ t → ltb i (lastNibble f) ≡ u → Goes f found w busy
     send-round false u e g =
         let m : movedIn w busy ≡ stays whenNot = ap (λ (x : Bool). stays (cond x (nextNibble f i) whenNot)) e in
-        on (subst (InFrame f found) (sym (after (Sending f i sender false) whenNot found found small (framed .fits) refl m refl))
-        (sends i (sendOf sender (seen .hsk) (nibbleIn (bytesFor c d) i)) framed (different-kept seen (busy .there) different) (sends-on (seen .hsk) s e) less (units-rest c d (framed .sent) i sender units (busy .there) s a e less)))
+        go-on (after (Sending f i sender false) whenNot found found small (framed .fits) refl m refl) refl (sends i (sendOf sender (seen .hsk) (nibbleIn (bytesFor c d) i)) framed (different-kept seen (busy .there) different) (sends-on (seen .hsk) s e) less (units-rest c d (framed .sent) i sender units (busy .there) s a e less))
     send-round true true e g =
         let more : i < lastNibble f = ltb-true i (lastNibble f) g in
         let l = last-is in
         let next : i + 1 ≡ suc i = omega arith in
         let m : movedIn w busy ≡ stays (Sending f (suc i) Next false) =
         ap (λ (x : Bool). stays (cond x (nextNibble f i) whenNot)) e ∙ ap (λ (x : Bool). stays (cond x (Sending f (i + 1) Next false) (Listening f Ready nothingTaken 0))) g ∙ ap (λ (x : ℕ). stays (Sending f x Next false)) next in
-        on (subst (InFrame f found) (sym (after (Sending f i sender false) (Sending f (suc i) Next false) found found small (framed .fits) refl m refl))
-        (sends (suc i) Next framed (different-kept seen (busy .there) different) s-next (omega arith) (units-sent c d (framed .sent) i sender units (busy .there) s a e (omega arith))))
+        go-on (after (Sending f i sender false) (Sending f (suc i) Next false) found found small (framed .fits) refl m refl) refl (sends (suc i) Next framed (different-kept seen (busy .there) different) s-next (omega arith) (units-sent c d (framed .sent) i sender units (busy .there) s a e (omega arith)))
     send-round true false e g =
         let least : lastNibble f ≤ i = ltb-false i (lastNibble f) g in
         let l = last-is in
@@ -239,8 +242,8 @@ module _ (f : Frame) (found : List ℕ) (timeout : ℕ) (ring : Ring) (units : L
       where
         turn : round w busy ≡ world timeout (Listening f Ready nothingTaken 0) ring (unitsAfter seen (busy .there) units) lent found → Different (unitsAfter seen (busy .there) units)
             → Answering c d (isSubmitted (f .kind)) found (unitsAfter seen (busy .there) units) → Goes f found w busy
-        turn eq d′ (somebody o) = on (subst (InFrame f found) (sym eq) (hears Ready nothingTaken 0 framed d′ refl o))
-        turn eq d′ (nobody-does b) = on (subst (InFrame f found) (sym eq) (waits 0 framed d′ b))
+        turn eq d′ (somebody o) = go-on eq refl (hears Ready nothingTaken 0 framed d′ refl o)
+        turn eq d′ (nobody-does b) = go-on eq refl (waits 0 framed d′ b)
 
   -- A round while one unit responds.
   module _ (ear : Listener) (taken : Response) (quiet : ℕ) (response : List ℕ) (long : length response ≡ length found) (o : One (λ (st : Station). Talk c d (isSubmitted (f .kind)) found ear taken quiet response st × Sound st) (λ (st : Station). Sits st × Sound st) units) where
@@ -255,11 +258,10 @@ module _ (f : Frame) (found : List ℕ) (timeout : ℕ) (ring : Ring) (units : L
 
     hear-by : Heard′ f d found (movedIn v busy) (listeningBuffer f ear taken (levels v) response) (unitsAfter (levels v) (busy .there) units) → Goes f found v busy
     hear-by (goes-on ear′ taken′ quiet′ e o′) =
-        on (subst (InFrame f found) (sym (after (Listening f ear taken quiet) (Listening f ear′ taken′ quiet′) response (listeningBuffer f ear taken (levels v) response) heard-small as-lent refl e refl))
-        (hears ear′ taken′ quiet′ framed (different-kept (levels v) (busy .there) different) (heard-length f ear taken (levels v) response ∙ long) o′))
+        go-on (after (Listening f ear taken quiet) (Listening f ear′ taken′ quiet′) response (listeningBuffer f ear taken (levels v) response) heard-small as-lent refl e refl) refl (hears ear′ taken′ quiet′ framed (different-kept (levels v) (busy .there) different) (heard-length f ear taken (levels v) response ∙ long) o′)
     hear-by (comes-to-its-end o′) =
         let b : round v busy .response ≡ listeningBuffer f ear taken (levels v) response = control-buffer (v .controller) (levels v) (busy .here) lent response heard-small as-lent in
-        answered (different-kept (levels v) (busy .there) different)
+        answered (control (v .controller) (levels v) (busy .here) lent response heard-small as-lent refl) (different-kept (levels v) (busy .there) different)
         (subst (λ (x : List ℕ). One (λ (st : Station). Spoke f d found (movedIn v busy) x st × Sound st) (λ (st : Station). Sits st × Sound st) (unitsAfter (levels v) (busy .there) units)) (sym b) o′)
 
     hear-round : Goes f found v busy
@@ -284,12 +286,11 @@ module _ (f : Frame) (found : List ℕ) (timeout : ℕ) (ring : Ring) (units : L
 
     wait-round : (t : Bool) → leb timeout (quiet + 1) ≡ t → Goes f found u busy
     wait-round true e =
-        unanswered (waited-on ∙ ap (λ (x : Bool). cond (x || false) (over f nothingTaken) (stays (Listening f Ready nothingTaken (quiet + 1)))) e)
+        unanswered (control (u .controller) (levels u) (busy .here) lent found silent-small (framed .fits) refl) (waited-on ∙ ap (λ (x : Bool). cond (x || false) (over f nothingTaken) (stays (Listening f Ready nothingTaken (quiet + 1)))) e)
         (control-buffer (u .controller) (levels u) (busy .here) lent found silent-small (framed .fits) ∙ same-buffer) (different-kept (levels u) (busy .there) different) (units-sit Ready (busy .there) units a)
     wait-round false e =
         let m : movedIn u busy ≡ stays (Listening f Ready nothingTaken (quiet + 1)) = waited-on ∙ ap (λ (x : Bool). cond (x || false) (over f nothingTaken) (stays (Listening f Ready nothingTaken (quiet + 1)))) e in
-        on (subst (InFrame f found) (sym (after (Listening f Ready nothingTaken quiet) (Listening f Ready nothingTaken (quiet + 1)) found found silent-small (framed .fits) refl m same-buffer))
-        (waits (quiet + 1) framed (different-kept (levels u) (busy .there) different) (units-sit Ready (busy .there) units a)))
+        go-on (after (Listening f Ready nothingTaken quiet) (Listening f Ready nothingTaken (quiet + 1)) found found silent-small (framed .fits) refl m same-buffer) refl (waits (quiet + 1) framed (different-kept (levels u) (busy .there) different) (units-sit Ready (busy .there) units a))
 
 -- Every round of a frame.
 pub frame-round : (f : Frame) (found : List ℕ) {w : World} → InFrame f found w → (busy : Busy) → Goes f found w busy

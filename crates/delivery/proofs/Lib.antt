@@ -9,3 +9,4 @@ pub mod Turned
 pub mod Listening
 pub mod Frame
 pub mod Calls
+pub mod Rest

@@ -36,3 +36,20 @@ abbrev pub calledAt : ℕ → HostCall → List Station → List Station
 calledAt i call [] = []
 calledAt zero call (st ∷ ss) = calledBy call st ∷ ss
 calledAt (suc i) call (st ∷ ss) = st ∷ calledAt i call ss
+
+-- A call at any party, with what the types say of its values.
+pub data Call : Type 0 where
+  host : ℕ → HostCall → Call
+  submits : (k : Command) (d response : List ℕ) → InRange k → Below 256 d → Call
+  acknowledges : ℕ → Call
+
+-- A command that is accepted brings its own data and response buffer, which are kept for its frame.
+abbrev pub called : World → Call → World
+called w (host i call) = record { controller = w .controller; units = calledAt i call (w .units); lent = w .lent; response = w .response }
+called w (submits k d response r b) = record {
+  controller = controllerSubmitted (w .controller) k (length d) (length response);
+  units = w .units;
+  lent = kept (submitting (w .controller) k (length d) (length response)) d (w .lent);
+  response = kept (submitting (w .controller) k (length d) (length response)) response (w .response);
+}
+called w (acknowledges code) = record { controller = controllerAcknowledged (w .controller) code; units = w .units; lent = w .lent; response = w .response }
