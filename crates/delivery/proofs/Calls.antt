@@ -61,9 +61,10 @@ stands-longer Silent q q′ input input′ bs e c h = (refl, (refl, tt))
 stands-longer (Status number) q q′ input input′ bs e c h = (refl, (refl, tt))
 stands-longer (Opened accepted) q q′ input input′ bs e c h = (refl, (refl, tt))
 stands-longer (Bytes n) q q′ input input′ bs e c h =
-    let l : length (contents input q) ≡ held q = length-contents input q in
-    ( ap (take n) c ∙ take-append-le n (contents input q) bs (omega arith)
-    , (min-eq-left (omega arith) ∙ sym (min-eq-left e), omega arith) )
+    let l : length (contents input q) ≡ held q = length-contents input q in (
+      ap (take n) c ∙ take-append-le n (contents input q) bs (omega arith),
+      (min-eq-left (omega arith) ∙ sym (min-eq-left e), omega arith),
+    )
 stands-longer Polled q q′ input input′ bs e c h = (refl, (refl, tt))
 
 -- The same input queue.

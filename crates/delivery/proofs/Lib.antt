@@ -10,3 +10,4 @@ pub mod Listening
 pub mod Frame
 pub mod Calls
 pub mod Rest
+pub mod Run

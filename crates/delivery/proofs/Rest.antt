@@ -117,7 +117,7 @@ module _ (ring : Ring) (a : Codes ring) where
   codes-removed : (code : ℕ) → Codes (ringOf (removed code (live ring)))
   codes-removed code = codes-of (removed code (live ring)) (let h = cut-below (placeOf code (live ring)) (live ring) in let l = live-below ring in omega arith) (all-cut (placeOf code (live ring)) a)
 
-  codes-marked : (m : Bool) (code : ℕ) → code < 256 → Codes (ringOf (withMark m code (live ring)))
+  pub codes-marked : (m : Bool) (code : ℕ) → code < 256 → Codes (ringOf (withMark m code (live ring)))
   codes-marked m code h =
       codes-of (withMark m code (live ring)) (let n : length (withMark m code (live ring)) ≡ length (live ring) = length-set (live ring) (placeOf code (live ring)) (entryOf code m) in let l = live-below ring in omega arith)
       (all-set (placeOf code (live ring)) (entryOf code m) a h)
@@ -173,6 +173,7 @@ turn-framed e lent found timeout h eight = by (e .marked)
   where
     empty : {c : Command} → InRange c → Sent c []
     empty r = record { fields = r; bytes = λ i. lit< tt; short = omega arith }
+
     by : (t : Bool) → Framed (cond t nullFrame (pollOf (e .code))) lent found timeout
     by true = record { sent = empty (record { device = lit< tt; command = lit< tt; unit = lit< tt; number = lit< tt; buffer = lit< tt }); announced = refl; room = omega arith; fits = refl; eight = eight }
     by false = record { sent = empty (record { device = h; command = lit< tt; unit = lit< tt; number = lit< tt; buffer = lit< tt }); announced = refl; room = omega arith; fits = refl; eight = eight }
@@ -184,14 +185,14 @@ pub data AtRest : Stage → Type 0 where
 
 pub data On : World → Type 0 where
   rests :
-    {timeout : ℕ} {stage : Stage} {ring : Ring} {units : List Station} {lent response : List ℕ} → AtRest stage → 8 ≤ timeout → Codes ring → Different units → All (λ (st : Station). Fresh st × Sound st) units
-    → On (world timeout stage ring units lent response)
+      {timeout : ℕ} {stage : Stage} {ring : Ring} {units : List Station} {lent response : List ℕ} → AtRest stage → 8 ≤ timeout → Codes ring → Different units → All (λ (st : Station). Fresh st × Sound st) units
+      → On (world timeout stage ring units lent response)
   submitted :
-    (f : Frame) {timeout : ℕ} {ring : Ring} {units : List Station} {lent response : List ℕ} → Framed f lent response timeout → Codes ring → Different units → All (λ (st : Station). Fresh st × Sound st) units
-    → On (world timeout (Waiting f) ring units lent response)
+      (f : Frame) {timeout : ℕ} {ring : Ring} {units : List Station} {lent response : List ℕ} → Framed f lent response timeout → Codes ring → Different units → All (λ (st : Station). Fresh st × Sound st) units
+      → On (world timeout (Waiting f) ring units lent response)
   ended :
-    {timeout : ℕ} {ring : Ring} {units : List Station} {lent response : List ℕ} → 8 ≤ timeout → Codes ring → Different units → All (λ (st : Station). Sits st × Sound st) units
-    → On (world timeout (Resting true) ring units lent response)
+      {timeout : ℕ} {ring : Ring} {units : List Station} {lent response : List ℕ} → 8 ≤ timeout → Codes ring → Different units → All (λ (st : Station). Sits st × Sound st) units
+      → On (world timeout (Resting true) ring units lent response)
   runs : (f : Frame) (found : List ℕ) {w : World} → InFrame f found w → Codes (w .controller .ring) → On w
 
 module _ (timeout : ℕ) (ring : Ring) (units : List Station) (lent response : List ℕ) (busy : Busy) (codes : Codes ring) (different : Different units) where

@@ -41,7 +41,7 @@ calledAt (suc i) call (st ∷ ss) = st ∷ calledAt i call ss
 pub data Call : Type 0 where
   host : ℕ → HostCall → Call
   submits : (k : Command) (d response : List ℕ) → InRange k → Below 256 d → Call
-  acknowledges : ℕ → Call
+  acknowledges : (code : ℕ) → code < 256 → Call
 
 -- A command that is accepted brings its own data and response buffer, which are kept for its frame.
 abbrev pub called : World → Call → World
@@ -52,4 +52,4 @@ called w (submits k d response r b) = record {
   lent = kept (submitting (w .controller) k (length d) (length response)) d (w .lent);
   response = kept (submitting (w .controller) k (length d) (length response)) response (w .response);
 }
-called w (acknowledges code) = record { controller = controllerAcknowledged (w .controller) code; units = w .units; lent = w .lent; response = w .response }
+called w (acknowledges code h) = record { controller = controllerAcknowledged (w .controller) code; units = w .units; lent = w .lent; response = w .response }
