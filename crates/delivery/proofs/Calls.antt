@@ -27,6 +27,7 @@ use Rattle.serial.specs.declared.Reply.{Reply}
 use Rattle.serial.specs.declared.Reply.the-variants.{Silent, Status, Opened, Bytes, Polled}
 use Rattle.serial.specs.declared.Serial.{Serial}
 use Rattle.unit.specs.declared.Unit.{Unit}
+use Rattle.delivery.specs.Stages.{Fresh, Part, Sits, Sound, Talk, addressed, answers, idles, listens, selects, sits, talks}
 use Rattle.delivery.specs.Calls.{HostCall, feeds, takes, raises, calledBy, calledAt, unitTaken}
 use Rattle.delivery.specs.Lists.{All, none, also, One, this, that}
 use Rattle.delivery.specs.Promised.{Promised, dataFor, Enough}
@@ -36,11 +37,6 @@ use Rattle.line.specs.declared.Sender.{Sender}
 use Rattle.phase.specs.declared.Phase.{Phase}
 use Rattle.whole.specs.Whole.{bytesFor}
 use Rattle.delivery.specs.Heard.{Heard}
-use Rattle.delivery.proofs.Frame.{Fresh, idles, selects}
-use Rattle.delivery.proofs.Part.{Part, listens, answers, sits, addressed}
-use Rattle.delivery.proofs.Stage.{Sound}
-use Rattle.delivery.proofs.Talk.{Talk, talks}
-use Rattle.delivery.proofs.Turned.{Sits}
 
 -- What a host call leaves as it is, and that the input queue at most grows at its back.
 pub record Called (st after : Station) : Type 0 where
@@ -163,7 +159,7 @@ part-called {c} k (sits now a e n q) = sits now (ap (addressed c) (k .own) ∙ a
 
 pub talk-called : {c : Command} {d : List ℕ} {stores : Bool} {found : List ℕ} {ear : Listener} {taken : Response} {quiet : ℕ} {buffer : List ℕ} {st after : Station} → Called st after
     → Talk c d stores found ear taken quiet buffer st → Talk c d stores found ear taken quiet buffer after
-talk-called k (talks r j t sender wait e p f g b l w c q) = talks r j t sender wait (k .phase ∙ e) (promise-called k p) f g b l w c (k .asking ∙ q)
+talk-called {c} k (talks r j t sender wait e p f g b l w z q own) = talks r j t sender wait (k .phase ∙ e) (promise-called k p) f g b l w z (k .asking ∙ q) (ap (addressed c) (k .own) ∙ own)
 
 pub sits-called : {st after : Station} → Called st after → Sits st → Sits after
 sits-called k s = (k .phase ∙ s .0, k .asking ∙ s .1)

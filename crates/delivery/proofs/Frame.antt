@@ -40,22 +40,17 @@ use Rattle.ring.specs.declared.Ring.{Ring}
 use Rattle.unit.specs.Unit.{pullsHsk, pullsNibble, lowStep, highStep}
 use Rattle.whole.specs.Whole.{bytesFor, Sent}
 use Rattle.whole.proofs.Whole.{length-bytes}
+use Rattle.delivery.specs.Stages.{Finishes, Framed, Fresh, Goes, InFrame, Part, Sends, Sits, Sound, Spoke, Talk, answered, begins, hears, idles, listens, movedIn, on, s-next, selects, sends, unanswered, waits, world}
 use Rattle.delivery.specs.Heard.{f-next, Heard, h-none}
 use Rattle.delivery.specs.Lists.{All, none, also, One, this, that}
 use Rattle.delivery.specs.Promised.{Promised}
 use Rattle.delivery.specs.World.{World, Busy, levels, round, Different, nobody, another}
 use Rattle.delivery.proofs.Lines.{hsk-high, bav-kept, nibble-kept}
 use Rattle.delivery.proofs.Lists.{all-map, all-zip, all-step}
-use Rattle.delivery.proofs.Listening.{hearing, Spoke, Heard′, goes-on, comes-to-its-end, heard-nibble, units-heard, still-nibble, still-hsk, units-sit}
-use Rattle.delivery.proofs.Part.{Stepped, low-step, Part, listens}
-use Rattle.delivery.proofs.Stage.{Sound, sound-low, Sends, s-next, sends-on, sending, sent-nibble, units-rest, units-sent, units-over}
-use Rattle.delivery.proofs.Talk.{Talk}
-use Rattle.delivery.proofs.Turned.{Sits, Answering, somebody, nobody-does, answering}
-
--- A unit that no frame has reached yet.
-pub data Fresh (st : Station) : Type 0 where
-  idles : st .unit .phase ≡ Idle → Fresh st
-  selects : st .unit .phase ≡ Selecting Ready false 0 → Fresh st
+use Rattle.delivery.proofs.Listening.{hearing, Heard′, goes-on, comes-to-its-end, heard-nibble, units-heard, still-nibble, still-hsk, units-sit}
+use Rattle.delivery.proofs.Part.{Stepped, low-step}
+use Rattle.delivery.proofs.Stage.{sound-low, sends-on, sending, sent-nibble, units-rest, units-sent, units-over}
+use Rattle.delivery.proofs.Turned.{Answering, somebody, nobody-does, answering}
 
 pub fresh-hsk : {st : Station} → Fresh st → pullsHsk (st .unit .phase) ≡ false
 fresh-hsk (idles e) = ap pullsHsk e
@@ -71,17 +66,6 @@ fresh-selects {st} {st′} {seen} {busy} s h (idles e) =
     s .phase ∙ ap (λ (x : Phase). phaseStep x (st .unit .own) (st .unit .serial) seen busy (st .buffer) (st .input) .phase) e ∙ rw h
 fresh-selects {st} {st′} {seen} {busy} s h (selects e) =
     s .phase ∙ ap (λ (x : Phase). phaseStep x (st .unit .own) (st .unit .serial) seen busy (st .buffer) (st .input) .phase) e ∙ rw h
-
--- What the types and the calls say of a frame: its command and data, and that what is lent is long enough.
-pub record Framed (f : Frame) (lent found : List ℕ) (timeout : ℕ) : Type 0 where
-  pub sent : Sent (f .command) (dataOf f lent)
-  pub announced : f .«data_length» ≡ length (dataOf f lent)
-  pub room : f .command .«buffer_length» ≤ length found
-  pub fits : lentTo f (length lent) (length found) ≡ AsLent
-  pub eight : 8 ≤ timeout
-
-abbrev pub world : ℕ → Stage → Ring → List Station → List ℕ → List ℕ → World
-world timeout stage ring units lent response = record { controller = controllerOf timeout stage ring; units = units; lent = lent; response = response }
 
 -- A step of the controller in a frame that is not refused.
 control : (c : Controller) (seen : Lines) (host : Bool) (lent response : List ℕ) → seen .nibble < 16 → lentAt (c .stage) (length lent) (length response) ≡ AsLent → isIdle (c .stage) ≡ false
@@ -109,41 +93,6 @@ pub different-kept : (seen : Lines) (hosts : ℕ) {ss : List Station} → Differ
 different-kept seen hosts nobody = nobody
 different-kept seen hosts (another {st = st} a d) =
     another (all-map (λ x p e. p (e ∙ own-kept st seen (isOdd hosts))) (apart-kept (st .unit .own) seen (hosts / 2) a)) (different-kept seen (hosts / 2) d)
-
--- The stages of a frame f that has found the response buffer `found`.
-pub data InFrame (f : Frame) (found : List ℕ) : World → Type 0 where
-  begins :
-      {timeout : ℕ} {ring : Ring} {units : List Station} {lent : List ℕ} → Framed f lent found timeout → Different units → All (λ (st : Station). Fresh st × Sound st) units
-      → InFrame f found (world timeout (begun f) ring units lent found)
-  sends :
-      (i : ℕ) (sender : Sender) {timeout : ℕ} {ring : Ring} {units : List Station} {lent : List ℕ} → Framed f lent found timeout → Different units
-      → Sends (nibbleIn (bytesFor (f .command) (dataOf f lent)) i) sender → i < 2 * length (bytesFor (f .command) (dataOf f lent))
-      → All (λ (st : Station). Part (Promised (f .command) (dataOf f lent)) (f .command) (dataOf f lent) i sender st × Sound st) units
-      → InFrame f found (world timeout (Sending f i sender false) ring units lent found)
-  hears :
-      (ear : Listener) (taken : Response) (quiet : ℕ) {timeout : ℕ} {ring : Ring} {units : List Station} {lent response : List ℕ} → Framed f lent found timeout → Different units → length response ≡ length found
-      → One (λ (st : Station). Talk (f .command) (dataOf f lent) (isSubmitted (f .kind)) found ear taken quiet response st × Sound st) (λ (st : Station). Sits st × Sound st) units
-      → InFrame f found (world timeout (Listening f ear taken quiet) ring units lent response)
-  waits :
-      (quiet : ℕ) {timeout : ℕ} {ring : Ring} {units : List Station} {lent : List ℕ} → Framed f lent found timeout → Different units → All (λ (st : Station). Sits st × Sound st) units
-      → InFrame f found (world timeout (Listening f Ready nothingTaken quiet) ring units lent found)
-
--- What a round of it comes to.
-abbrev pub movedIn : World → Busy → Moved
-movedIn w busy = frameOf (w .controller) (levels w) (busy .here) (w .lent)
-
-abbrev pub Finishes : World → Busy → Type 0
-Finishes w busy = round w busy .controller ≡ controllerOf (w .controller .timeout) (movedIn w busy .stage) (ringAfter (w .controller .ring) (movedIn w busy .end))
-
-pub data Goes (f : Frame) (found : List ℕ) (w : World) (busy : Busy) : Type 0 where
-  on : round w busy .controller .ring ≡ w .controller .ring → InFrame f found (round w busy) → Goes f found w busy
-  answered :
-      Finishes w busy → Different (round w busy .units)
-      → One (λ (st : Station). Spoke f (dataOf f (w .lent)) found (movedIn w busy) (round w busy .response) st × Sound st) (λ (st : Station). Sits st × Sound st) (round w busy .units)
-      → Goes f found w busy
-  unanswered :
-      Finishes w busy → movedIn w busy ≡ over f nothingTaken → round w busy .response ≡ found → Different (round w busy .units) → All (λ (st : Station). Sits st × Sound st) (round w busy .units)
-      → Goes f found w busy
 
 go-on : {f : Frame} {found : List ℕ} {w v : World} {busy : Busy} → round w busy ≡ v → v .controller .ring ≡ w .controller .ring → InFrame f found v → Goes f found w busy
 go-on {f} {found} eq r y = on (ap (λ (x : World). x .controller .ring) eq ∙ r) (subst (InFrame f found) (sym eq) y)

@@ -29,15 +29,15 @@ use Rattle.serial.specs.declared.Reply.{Reply}
 use Rattle.serial.specs.declared.Serial.{Serial}
 use Rattle.unit.specs.Unit.{pullsOf, pullsHsk, pullsNibble}
 use Rattle.whole.specs.Back.{received}
+use Rattle.delivery.specs.Stages.{Sits, Sound, Spoke, Talk, answerBytes, answerData, spoke, talks}
 use Rattle.delivery.specs.Heard.{Fits, f-next, f-placed, f-holds, f-waits}
 use Rattle.delivery.specs.Lists.{All, none, also, One, this, that}
 use Rattle.delivery.specs.Promised.{Promised}
 use Rattle.delivery.proofs.Lines.{wired-free, free-wired, bav-kept, nibble-kept}
 use Rattle.delivery.proofs.Lists.{all-map, all-step, one-all, one-step}
 use Rattle.delivery.proofs.Part.{Stepped, low-step}
-use Rattle.delivery.proofs.Stage.{Sound, sound-low, nibble-below}
-use Rattle.delivery.proofs.Talk.{Talk, talks, Talked, still, done, talk-step, dataOf, bytesOf}
-use Rattle.delivery.proofs.Turned.{Sits}
+use Rattle.delivery.proofs.Stage.{sound-low, nibble-below}
+use Rattle.delivery.proofs.Talk.{Talked, still, done, talk-step}
 
 -- What the controller pulls while it listens.
 abbrev pub hearing : Listener → Lines
@@ -80,7 +80,7 @@ fits-nibble h f-holds = h
 fits-nibble h f-waits = h
 
 talk-nibble : {c : Command} {d : List ℕ} {stores : Bool} {found : List ℕ} {ear : Listener} {taken : Response} {quiet : ℕ} {buffer : List ℕ} {st : Station} → Talk c d stores found ear taken quiet buffer st → pullsNibble (st .unit .phase) < 16
-talk-nibble (talks r j t sender wait e p fits g b l w c q) = subst (λ (x : ℕ). x < 16) (sym (ap pullsNibble e)) (fits-nibble (nibble-below (bytesOf p) j) fits)
+talk-nibble (talks r j t sender wait e p fits g b l w c q own) = subst (λ (x : ℕ). x < 16) (sym (ap pullsNibble e)) (fits-nibble (nibble-below (answerBytes p) j) fits)
 
 -- A unit that sits out goes on to.
 sits-step : (seen : Lines) → seen .bav ≡ true → seen .nibble < 16 → (st : Station) (busy : Bool) → Sits st × Sound st → Sits (stationStep st seen busy) × Sound (stationStep st seen busy)
@@ -92,12 +92,6 @@ sits-step seen low n st busy p =
       ),
       sound-low step (p .1),
     )
-
--- A unit whose response has arrived whole in a round that comes to m.
-pub data Spoke (f : Frame) (d found : List ℕ) (m : Moved) (buffer : List ℕ) (st : Station) : Type 0 where
-  spoke :
-      (r : Reply) (s : Serial) (p : Promised (f .command) d r s (st .input)) → m ≡ over f (Complete (replyStatus r) (length (dataOf p))) → buffer ≡ received (isSubmitted (f .kind)) (dataOf p) found
-      → st .unit .serial ≡ finished s r → Sits st → Spoke f d found m buffer st
 
 -- What a round comes to while one unit responds.
 pub data Heard′ (f : Frame) (d found : List ℕ) (m : Moved) (buffer : List ℕ) (ss : List Station) : Type 0 where

@@ -27,6 +27,7 @@ use Rattle.serial.specs.declared.Serial.{Serial}
 use Rattle.unit.specs.Unit.{pullsHsk, pullsNibble}
 use Rattle.whole.specs.Whole.{bytesFor, headerFor, withData, Sent}
 use Rattle.whole.proofs.Whole.{length-bytes}
+use Rattle.delivery.specs.Stages.{Part, addressed, answers, listens, sits}
 use Rattle.delivery.specs.Heard.{Fits, f-next, f-placed, f-holds, f-waits, Sees, Heard, h-none, h-first, h-byte, h-half}
 use Rattle.delivery.proofs.Heard.{Pair, rests, takes, sends, pair, Round, Waits, waits, heard-waits, Takes, takes-it, Fixed, heard-takes, heard-last, heard-other}
 
@@ -54,27 +55,9 @@ low-step st seen busy n room low =
       output = rw (a, b, low);
     }
 
--- Own code or code 0.
-abbrev pub addressed : Command → ℕ → Bool
-addressed c own = eqb (c .device) own || eqb (c .device) 0
-
 -- The reply that is fixed with the last nibble, where the lent buffer was b.
 abbrev pub replyTo : Serial → Command → List ℕ → List ℕ → Reply
 replyTo s c d b = verdictOn s (headerFor c d) (withData d b) .reply
-
--- A unit listens, has answered the whole command, or sits out. P is what is to be known of a reply, of the unit's state and input.
-pub data Part (P : Reply → Serial → List ℕ → Type 0) (c : Command) (d : List ℕ) (i : ℕ) (sender : Sender) (st : Station) : Type 0 where
-  listens :
-      (ear : Listener) (t : ℕ) → Fits (nibbleIn (bytesFor c d) i) sender ear t → Heard (bytesFor c d) ear (i + t) (st .unit .phase) (st .buffer)
-      → (2 ≤ i + t → addressed c (st .unit .own) ≡ true) → (1 ≤ i + t → st .unit .asking ≡ false)
-      → Part P c d i sender st
-  answers :
-      (ear : Listener) (r : Reply) → Fits (nibbleIn (bytesFor c d) i) sender ear 1 → suc i ≡ 2 * length (bytesFor c d) → addressed c (st .unit .own) ≡ true
-      → st .unit .phase ≡ Receiving ear (Answered r) → P r (st .unit .serial) (st .input) → st .unit .asking ≡ false
-      → Part P c d i sender st
-  sits :
-      (now : Bool) → addressed c (st .unit .own) ≡ false → st .unit .phase ≡ SittingOut now → (now ≡ true → (n : ℕ) × (sender ≡ Kept n)) → st .unit .asking ≡ false
-      → Part P c d i sender st
 
 -- What HSK and the data lines show beside a sender.
 abbrev pub Shows : Sender → Lines → Type 0

@@ -11,7 +11,6 @@ use Rattle.answer.specs.Answer.{nothingTaken, statusOf}
 use Rattle.answer.specs.declared.Response.{Response}
 use Rattle.answer.specs.declared.Response.the-variants.{Complete}
 use Rattle.reply.specs.Reply.{replyStatus}
-use Rattle.delivery.proofs.Talk.{dataOf as dataIn}
 use Rattle.application.specs.Calls.{Done, done, submitting, isShutOut, withCommand, controllerSubmitted, acknowledging, withoutMark, controllerAcknowledged}
 use Rattle.bus.specs.Bus.{levelsWith, stationStep, unitsAfter}
 use Rattle.bus.specs.declared.Station.{Station}
@@ -39,20 +38,15 @@ use Rattle.ring.proofs.Laws.{live-ring, live-below, length-cut, cut-past}
 use Rattle.turn.specs.Turn.{turnOf, ringWith, ringBy, ringEnded}
 use Rattle.unit.specs.Unit.{pullsHsk, pullsNibble}
 use Rattle.whole.specs.Whole.{Sent}
+use Rattle.delivery.specs.Stages.{AtRest, Codes, Finishes, Framed, Fresh, Goes, InFrame, On, Sits, Sound, Spoke, answerData, answered, begins, ended, hears, idles, is-free, is-resting, movedIn, on, rests, runs, selects, sends, spoke, submitted, unanswered, waits, world}
 use Rattle.delivery.specs.Calls.{HostCall, Call, host, submits, acknowledges, calledAt, calledBy, called}
 use Rattle.delivery.specs.Lists.{All, none, also, One, this, that}
 use Rattle.delivery.specs.World.{World, Busy, levels, round, Different, nobody, another}
 use Rattle.delivery.proofs.Lists.{all-map, all-step, one-all}
 use Rattle.delivery.proofs.Lines.{hsk-high, bav-high, nibble-kept}
-use Rattle.delivery.proofs.Listening.{Spoke, spoke}
 use Rattle.delivery.proofs.Part.{Stepped, low-step}
-use Rattle.delivery.proofs.Stage.{Sound, sound-low}
-use Rattle.delivery.proofs.Turned.{Sits}
-use Rattle.delivery.proofs.Frame.{Fresh, idles, selects, fresh-hsk, fresh-nibble, fresh-selects, Framed, world, InFrame, begins, sends, hears, waits, Goes, on, answered, unanswered, movedIn, Finishes, frame-round, different-kept}
-
--- Codes of a ring are bytes.
-abbrev pub Codes : Ring → Type 0
-Codes ring = All (λ (e : Entry). e .code < 256) (live ring)
+use Rattle.delivery.proofs.Stage.{sound-low}
+use Rattle.delivery.proofs.Frame.{fresh-hsk, fresh-nibble, fresh-selects, frame-round, different-kept}
 
 codes-of : (l : List Entry) → length l ≤ 16 → All (λ (e : Entry). e .code < 256) l → Codes (ringOf l)
 codes-of l h a = subst (All (λ (e : Entry). e .code < 256)) (sym (live-ring l h)) a
@@ -178,23 +172,6 @@ turn-framed e lent found timeout h eight = by (e .marked)
     by true = record { sent = empty (record { device = lit< tt; command = lit< tt; unit = lit< tt; number = lit< tt; buffer = lit< tt }); announced = refl; room = omega arith; fits = refl; eight = eight }
     by false = record { sent = empty (record { device = h; command = lit< tt; unit = lit< tt; number = lit< tt; buffer = lit< tt }); announced = refl; room = omega arith; fits = refl; eight = eight }
 
--- A world of a run: between frames, in the first round of a rest, or in a frame.
-pub data AtRest : Stage → Type 0 where
-  is-free : AtRest Free
-  is-resting : AtRest (Resting false)
-
-pub data On : World → Type 0 where
-  rests :
-      {timeout : ℕ} {stage : Stage} {ring : Ring} {units : List Station} {lent response : List ℕ} → AtRest stage → 8 ≤ timeout → Codes ring → Different units → All (λ (st : Station). Fresh st × Sound st) units
-      → On (world timeout stage ring units lent response)
-  submitted :
-      (f : Frame) {timeout : ℕ} {ring : Ring} {units : List Station} {lent response : List ℕ} → Framed f lent response timeout → Codes ring → Different units → All (λ (st : Station). Fresh st × Sound st) units
-      → On (world timeout (Waiting f) ring units lent response)
-  ended :
-      {timeout : ℕ} {ring : Ring} {units : List Station} {lent response : List ℕ} → 8 ≤ timeout → Codes ring → Different units → All (λ (st : Station). Sits st × Sound st) units
-      → On (world timeout (Resting true) ring units lent response)
-  runs : (f : Frame) (found : List ℕ) {w : World} → InFrame f found w → Codes (w .controller .ring) → On w
-
 module _ (timeout : ℕ) (ring : Ring) (units : List Station) (lent response : List ℕ) (busy : Busy) (codes : Codes ring) (different : Different units) where
   abbrev unitsNext : List Station
   unitsNext = unitsAfter (levelsWith released units) (busy .there) units
@@ -261,7 +238,7 @@ frame-device (hears ear taken quiet framed d l o) = framed .sent .fields .device
 frame-device (waits quiet framed d a) = framed .sent .fields .device
 
 spoke-moved : {f : Frame} {d found : List ℕ} {m : Moved} {buffer : List ℕ} {ss : List Station} → One (λ (st : Station). Spoke f d found m buffer st × Sound st) (λ (st : Station). Sits st × Sound st) ss → (r : Response) × (m ≡ over f r)
-spoke-moved (this (spoke r s p e b serial x, y) a) = (Complete (replyStatus r) (length (dataIn p)), e)
+spoke-moved (this (spoke r s p e b serial x, y) a) = (Complete (replyStatus r) (length (answerData p)), e)
 spoke-moved (that q o) = spoke-moved o
 
 spoke-sits : {f : Frame} {d found : List ℕ} {m : Moved} {buffer : List ℕ} (st : Station) → Spoke f d found m buffer st × Sound st → Sits st × Sound st

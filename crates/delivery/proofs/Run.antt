@@ -22,15 +22,13 @@ use Rattle.header.specs.declared.Command.{Command}
 use Rattle.message.specs.Answer.{Answer, gives, refused, kept}
 use Rattle.ring.specs.Ring.{live, isMarked, ringOf, withMark}
 use Rattle.ring.specs.declared.Ring.{Ring}
+use Rattle.delivery.specs.Stages.{AtRest, Codes, Framed, Fresh, InFrame, On, Sits, Sound, begins, ended, hears, is-free, is-resting, rests, runs, sends, submitted, waits, world}
 use Rattle.delivery.specs.Calls.{HostCall, Call, host, submits, acknowledges, calledAt, calledBy, called}
 use Rattle.delivery.specs.Lists.{All, none, also, One, this, that}
 use Rattle.delivery.specs.World.{World, Busy, levels, round, Different, nobody, another}
 use Rattle.delivery.proofs.Calls.{Called, all-called, one-called, part-called, talk-called, sits-called, fresh-called, called as unit-called}
-use Rattle.delivery.proofs.Frame.{Fresh, Framed, world, InFrame, begins, sends, hears, waits}
 use Rattle.delivery.proofs.Lists.{all-map, one-all}
-use Rattle.delivery.proofs.Rest.{Codes, codes-marked, AtRest, is-free, is-resting, On, rests, submitted, ended, runs, on-round}
-use Rattle.delivery.proofs.Stage.{Sound}
-use Rattle.delivery.proofs.Turned.{Sits}
+use Rattle.delivery.proofs.Rest.{codes-marked, on-round}
 
 -- Codes stay as they are: of units with sound memory.
 own-called : (call : HostCall) (st : Station) → Sound st → calledBy call st .unit .own ≡ st .unit .own

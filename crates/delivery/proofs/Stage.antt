@@ -36,13 +36,14 @@ use Rattle.verdict.specs.Verdict.{verdictOf}
 use Rattle.verdict.specs.declared.Verdict.{Verdict}
 use Rattle.whole.specs.Whole.{bytesFor, headerFor, withData, storedOf, Sent}
 use Rattle.whole.proofs.Whole.{whole-data, length-bytes}
+use Rattle.delivery.specs.Stages.{Part, Sends, Sound, addressed, answers, listens, s-kept, s-next, s-placed, sits}
 use Rattle.delivery.specs.Heard.{Fits, f-next, f-placed, f-holds, f-waits, Heard, h-none}
 use Rattle.delivery.specs.Lists.{All, none, also, One, this, that}
 use Rattle.delivery.specs.Promised.{Promised, dataFor, replyFor, Enough}
 use Rattle.delivery.proofs.Fits.{Good, good-verdict}
 use Rattle.delivery.proofs.Lines.{hsk-kept, bav-kept, hsk-high, bav-high, hsk-own, nibble-kept}
 use Rattle.delivery.proofs.Lists.{all-map, all-zip, one-all, all-step, one-step}
-use Rattle.delivery.proofs.Part.{Stepped, low-step, Part, listens, answers, sits, addressed, replyTo, Shows, part-high, part-free, part-rests, part-sent, part-over, Turned, speaks, silent}
+use Rattle.delivery.proofs.Part.{Stepped, low-step, replyTo, Shows, part-high, part-free, part-rests, part-sent, part-over, Turned, speaks, silent}
 
 -- The promise of a reply, at the round in which it is fixed.
 pub promised : (c : Command) (d : List ℕ) (s t : Serial) (input input′ b : List ℕ) → Below 256 input → t ≡ answered s (headerFor c d) (withData d b) .serial → input′ ≡ input → Promised c d (replyTo s c d b) t input′
@@ -59,12 +60,6 @@ promised c d s t input input′ b below e i =
       enough = subst (λ (x : Serial). Enough (v .reply) (x .input)) (sym e) (good .enough z);
       fits = good .fits;
     }
-
--- The memory that a unit's calls are lent: room for a command, and 256 bytes for its input.
-pub record Sound (st : Station) : Type 0 where
-  pub room : 256 ≤ length (st .buffer)
-  pub memory : length (st .input) ≡ 256
-  pub bytes : Below 256 (st .input)
 
 -- No round changes how much memory there is.
 cond-length : (t : Bool) (a b : List ℕ) (n : ℕ) → length a ≡ n → length b ≡ n → length (cond t a b) ≡ n
@@ -97,12 +92,6 @@ sound-low {st} {st′} {seen} e s = record {
 -- The nibbles of a command.
 pub nibble-below : (bytes : List ℕ) (i : ℕ) → nibbleIn bytes i < 16
 nibble-below bytes i = subst (λ (x : ℕ). x < 16) (sym (nibble-at bytes i)) (digits-below 16 2 (getD bytes (i / 2) 255) (lit< tt) (i % 2))
-
--- A sender whose nibble is n.
-pub data Sends (n : ℕ) : Sender → Type 0 where
-  s-next : Sends n Next
-  s-placed : Sends n (Placed n)
-  s-kept : Sends n (Kept n)
 
 sends-below : {n : ℕ} {sender : Sender} → n < 16 → Sends n sender → senderNibble sender < 16
 sends-below h s-next = lit< tt

@@ -36,23 +36,11 @@ use Rattle.serial.specs.declared.Serial.{Serial}
 use Rattle.unit.specs.Unit.{pullsHsk, pullsNibble}
 use Rattle.whole.specs.Back.{responseFor, takenAt, storedAt, lengthOf, received, Answered}
 use Rattle.whole.proofs.Back.{response-completes, not-over-before, data-received}
+use Rattle.delivery.specs.Stages.{addressed, Quiet, Talk, answerBytes, answerData, talks}
 use Rattle.delivery.specs.Heard.{Fits, f-next, f-placed, f-holds, f-waits, Sees}
 use Rattle.delivery.specs.Promised.{Promised, dataFor, Enough}
 use Rattle.delivery.proofs.Heard.{Pair, rests, takes, sends, pair}
 use Rattle.delivery.proofs.Part.{Stepped}
-
--- How long HSK may have been seen high, by where the sender is.
-abbrev pub Quiet : Sender → ℕ → Type 0
-Quiet Next q = q ≤ 1
-Quiet (Placed n) q = q ≤ 2
-Quiet (Kept n) q = q ≡ 0
-
--- The data and the bytes of a promised response.
-abbrev pub dataOf : {c : Command} {d : List ℕ} {r : Reply} {s : Serial} {input : List ℕ} → Promised c d r s input → List ℕ
-dataOf {r = r} p = dataFor (p .given) (p .memory) r
-
-abbrev pub bytesOf : {c : Command} {d : List ℕ} {r : Reply} {s : Serial} {input : List ℕ} → Promised c d r s input → List ℕ
-bytesOf {r = r} p = responseFor (dataOf p) (replyStatus r)
 
 -- A promise to a unit whose state and input are the same.
 abbrev pub carried : {c : Command} {d : List ℕ} {r : Reply} {s s′ : Serial} {input input′ : List ℕ} → s′ ≡ s → input′ ≡ input → Promised c d r s input → Promised c d r s′ input′
@@ -66,21 +54,12 @@ carried {r = r} e i p = record {
   fits = p .fits;
 }
 
--- A unit that responds to a command c while the controller's listener, what it has taken and how long it has seen HSK high are these,
--- and the response buffer is what the frame found, with what was taken stored.
-pub data Talk (c : Command) (d : List ℕ) (stores : Bool) (found : List ℕ) (ear : Listener) (taken : Response) (quiet : ℕ) (buffer : List ℕ) (st : Station) : Type 0 where
-  talks :
-      (r : Reply) (j t : ℕ) (sender : Sender) (wait : Bool) → st .unit .phase ≡ Responding r j sender wait → (p : Promised c d r (st .unit .serial) (st .input))
-      → Fits (nibbleIn (bytesOf p) j) sender ear t → taken ≡ takenAt (bytesOf p) (c .«buffer_length») (j + t) → buffer ≡ storedAt (bytesOf p) (c .«buffer_length») stores (j + t) found
-      → j < lengthOf (dataOf p) → (wait ≡ true → (sender ≡ Next) × (quiet ≡ 0)) → Quiet sender quiet → st .unit .asking ≡ false
-      → Talk c d stores found ear taken quiet buffer st
-
 -- The number of the last nibble, and each nibble, by the promise.
 module _ {c : Command} {d : List ℕ} {r : Reply} {s : Serial} {input : List ℕ} (p : Promised c d r s input) where
-  pub last-is : lastNibble (s .input) r ≡ lengthOf (dataOf p) - 1
-  last-is = let l : lastNibble (s .input) r ≡ 5 + 2 * length (dataOf p) = ap (λ (x : ℕ). 5 + 2 * x) (p .long) in omega arith
+  pub last-is : lastNibble (s .input) r ≡ lengthOf (answerData p) - 1
+  last-is = let l : lastNibble (s .input) r ≡ 5 + 2 * length (answerData p) = ap (λ (x : ℕ). 5 + 2 * x) (p .long) in omega arith
 
-  pub bytes-are : responseBytes (contents input (s .input)) r ≡ bytesOf p
+  pub bytes-are : responseBytes (contents input (s .input)) r ≡ answerBytes p
   bytes-are = ap (λ (x : List ℕ). responseFor x (replyStatus r)) (p .stands)
 
 sees : {n t : ℕ} {sender : Sender} {ear : Listener} (seen : Lines) → Fits n sender ear t → seen .hsk ≡ (listenerHsk ear || senderHsk sender) → seen .nibble ≡ senderNibble sender → Sees sender ear (seen .hsk) (seen .nibble)
@@ -127,7 +106,7 @@ pub data Talked (f : Frame) (d : List ℕ) (found : List ℕ) (m : Moved) (buffe
       (ear : Listener) (taken : Response) (quiet : ℕ) → m ≡ stays (Listening f ear taken quiet) → Talk (f .command) d (isSubmitted (f .kind)) found ear taken quiet buffer st
       → Talked f d found m buffer st
   done :
-      (r : Reply) (s : Serial) (p : Promised (f .command) d r s (st .input)) → m ≡ over f (Complete (replyStatus r) (length (dataOf p))) → buffer ≡ received (isSubmitted (f .kind)) (dataOf p) found
+      (r : Reply) (s : Serial) (p : Promised (f .command) d r s (st .input)) → m ≡ over f (Complete (replyStatus r) (length (answerData p))) → buffer ≡ received (isSubmitted (f .kind)) (answerData p) found
       → st .unit .phase ≡ SittingOut false → st .unit .serial ≡ finished s r → st .unit .asking ≡ false
       → Talked f d found m buffer st
 
@@ -152,6 +131,9 @@ module _ (f : Frame) (d found : List ℕ) (timeout : ℕ) (eight : 8 ≤ timeout
   not-asking : st .unit .asking ≡ false → st′ .unit .asking ≡ false
   not-asking e = step .asking ∙ ap (λ (b : Bool). b && not (seen .hsk)) e
 
+  same-own : addressed (f .command) (st .unit .own) ≡ true → addressed (f .command) (st′ .unit .own) ≡ true
+  same-own e = ap (addressed (f .command)) (step .own) ∙ e
+
   module _ (r : Reply) (j : ℕ) (sender : Sender) (wait : Bool) (e : st .unit .phase ≡ Responding r j sender wait) where
     abbrev responded : Step
     responded = respondingStep (st .unit .serial) r j sender wait (seen .hsk) (st .input)
@@ -170,23 +152,23 @@ module _ (f : Frame) (d found : List ℕ) (timeout : ℕ) (eight : 8 ≤ timeout
 
   -- The round before the first nibble.
   begins : (r : Reply) (j t : ℕ) (ear : Listener) (taken : Response) (quiet : ℕ) (buffer : List ℕ) (e : st .unit .phase ≡ Responding r j Next true) (p : Promised (f .command) d r (st .unit .serial) (st .input))
-      → Fits (nibbleIn (bytesOf p) j) Next ear t → taken ≡ takenAt (bytesOf p) limit (j + t) → buffer ≡ storedAt (bytesOf p) limit stores (j + t) found → j < lengthOf (dataOf p)
-      → quiet ≡ 0 → st .unit .asking ≡ false → seen .hsk ≡ (listenerHsk ear || senderHsk Next)
+      → Fits (nibbleIn (answerBytes p) j) Next ear t → taken ≡ takenAt (answerBytes p) limit (j + t) → buffer ≡ storedAt (answerBytes p) limit stores (j + t) found → j < lengthOf (answerData p)
+      → quiet ≡ 0 → st .unit .asking ≡ false → addressed (f .command) (st .unit .own) ≡ true → seen .hsk ≡ (listenerHsk ear || senderHsk Next)
       → Talked f d found (after ear taken quiet) (buffer-after ear taken buffer) st′
-  begins r j t ear taken quiet buffer e p f-next g b l z q h =
+  begins r j t ear taken quiet buffer e p f-next g b l z q own h =
       let serial : st′ .unit .serial ≡ st .unit .serial = serial-is r j Next true e in
-      let k : j + 0 < lengthOf (dataOf p) = omega arith in
+      let k : j + 0 < lengthOf (answerData p) = omega arith in
       let one : quietAfter quiet (seen .hsk) ≡ 1 = ap (λ (x : ℕ). quietAfter x (seen .hsk)) z ∙ ap (quietAfter 0) h in
       let ready : hearOf Ready (seen .hsk) host ≡ Ready = ap (λ (x : Bool). hearOf Ready x host) h in
-      let going : isOver taken ≡ false = ap isOver g ∙ not-over-before (dataOf p) (replyStatus r) limit (j + 0) (p .fits) k in
+      let going : isOver taken ≡ false = ap isOver g ∙ not-over-before (answerData p) (replyStatus r) limit (j + 0) (p .fits) k in
       still Ready taken 1
       (not-taken Ready taken quiet h ∙ (λ i. waited f (ready i) taken timeout (one i)) ∙ waits-on Ready taken 1 (omega arith) (ap (λ (x : Bool). x && true) going))
-      (talks r j 0 Next false (phase-is r j Next true e) (carried serial (step .input) p) f-next g (buffer-kept Ready taken buffer h ∙ b) l (λ x. absurd (false≢true x)) (omega arith) (not-asking q))
+      (talks r j 0 Next false (phase-is r j Next true e) (carried serial (step .input) p) f-next g (buffer-kept Ready taken buffer h ∙ b) l (λ x. absurd (false≢true x)) (omega arith) (not-asking q) (same-own own))
 
   -- A nibble that does not count as sent yet, not taken in this round.
-  module _ (r : Reply) (j t : ℕ) (sender : Sender) (ear : Listener) (taken : Response) (quiet : ℕ) (buffer : List ℕ) (e : st .unit .phase ≡ Responding r j sender false) (p : Promised (f .command) d r (st .unit .serial) (st .input)) (fits : Fits (nibbleIn (bytesOf p) j) sender ear t) (g : taken ≡ takenAt (bytesOf p) limit (j + t)) (b : buffer ≡ storedAt (bytesOf p) limit stores (j + t) found) (l : j < lengthOf (dataOf p)) (c : Quiet sender quiet) (q : st .unit .asking ≡ false) (view : Sees sender ear (seen .hsk) (seen .nibble)) where
+  module _ (r : Reply) (j t : ℕ) (sender : Sender) (ear : Listener) (taken : Response) (quiet : ℕ) (buffer : List ℕ) (e : st .unit .phase ≡ Responding r j sender false) (p : Promised (f .command) d r (st .unit .serial) (st .input)) (fits : Fits (nibbleIn (answerBytes p) j) sender ear t) (g : taken ≡ takenAt (answerBytes p) limit (j + t)) (b : buffer ≡ storedAt (answerBytes p) limit stores (j + t) found) (l : j < lengthOf (answerData p)) (c : Quiet sender quiet) (q : st .unit .asking ≡ false) (own : addressed (f .command) (st .unit .own) ≡ true) (view : Sees sender ear (seen .hsk) (seen .nibble)) where
     abbrev n : ℕ
-    n = nibbleIn (bytesOf p) j
+    n = nibbleIn (answerBytes p) j
 
     own-nibble : nibbleIn (responseBytes (contents (st .input) (st .unit .serial .input)) r) j ≡ n
     own-nibble = ap (λ (x : List ℕ). nibbleIn x j) (bytes-are p)
@@ -211,12 +193,12 @@ module _ (f : Frame) (d found : List ℕ) (timeout : ℕ) (eight : 8 ≤ timeout
         let u = not-sent s in
         still (hearOf ear (seen .hsk) host) taken (quietAfter quiet (seen .hsk))
         (not-taken ear taken quiet a ∙ waits-on (hearOf ear (seen .hsk) host) taken (quietAfter quiet (seen .hsk)) (quiet-bound (sendOf sender (seen .hsk) n) (quietAfter quiet (seen .hsk)) q′) (not-yet t fits′ g))
-        (talks r j t (sendOf sender (seen .hsk) n) false (u .0) (carried (u .1) (step .input) p) fits′ g (buffer-kept ear taken buffer a ∙ b) l (λ x. absurd (false≢true x)) q′ (not-asking q))
+        (talks r j t (sendOf sender (seen .hsk) n) false (u .0) (carried (u .1) (step .input) p) fits′ g (buffer-kept ear taken buffer a ∙ b) l (λ x. absurd (false≢true x)) q′ (not-asking q) (same-own own))
       where
-        not-yet : (t : ℕ) {k : Sender} {x : Listener} → Fits n k x t → taken ≡ takenAt (bytesOf p) limit (j + t) → (isOver taken && isReady x) ≡ false
+        not-yet : (t : ℕ) {k : Sender} {x : Listener} → Fits n k x t → taken ≡ takenAt (answerBytes p) limit (j + t) → (isOver taken && isReady x) ≡ false
         not-yet zero {k} {x} v w =
-            let m : j + 0 < lengthOf (dataOf p) = omega arith in
-            ap (λ (y : Bool). y && isReady x) (ap isOver w ∙ not-over-before (dataOf p) (replyStatus r) limit (j + 0) (p .fits) m)
+            let m : j + 0 < lengthOf (answerData p) = omega arith in
+            ap (λ (y : Bool). y && isReady x) (ap isOver w ∙ not-over-before (answerData p) (replyStatus r) limit (j + 0) (p .fits) m)
         not-yet (suc t) {k} {x} v w = ap (λ (y : Bool). isOver taken && y) (fits-ready v) ∙ and-false (isOver taken)
 
     takes-it : ear ≡ Ready → seen .hsk ≡ true → seen .nibble ≡ n → t ≡ 0 → sentOf sender (seen .hsk) ≡ false → Fits n (sendOf sender (seen .hsk) n) Holding 1
@@ -227,16 +209,16 @@ module _ (f : Frame) (d found : List ℕ) (timeout : ℕ) (eight : 8 ≤ timeout
         let k′ : suc j ≡ j + 1 = omega arith in
         let gone : takenOf ear (seen .hsk) ≡ true = ap (λ (x : Listener). takenOf x (seen .hsk)) ready ∙ low in
         let held : hearOf ear (seen .hsk) host ≡ Holding = ap (λ (x : Listener). hearOf x (seen .hsk) host) ready ∙ ap (λ (x : Bool). hearOf Ready x host) low in
-        let old : taken ≡ takenAt (bytesOf p) limit j = g ∙ ap (takenAt (bytesOf p) limit) k in
-        let more : takenWith taken (seen .nibble) limit ≡ takenAt (bytesOf p) limit (j + 1) =
-        (λ i. takenWith (old i) (nib i) limit) ∙ ap (takenAt (bytesOf p) limit) k′ in
+        let old : taken ≡ takenAt (answerBytes p) limit j = g ∙ ap (takenAt (answerBytes p) limit) k in
+        let more : takenWith taken (seen .nibble) limit ≡ takenAt (answerBytes p) limit (j + 1) =
+        (λ i. takenWith (old i) (nib i) limit) ∙ ap (takenAt (answerBytes p) limit) k′ in
         let first : buffer-after ear taken buffer ≡ bufferWith taken (seen .nibble) stores buffer = rw gone in
         let one : after ear taken quiet ≡ stays (Listening f (hearOf ear (seen .hsk) host) (takenWith taken (seen .nibble) limit) 0) = rw gone in
-        let kept : buffer-after ear taken buffer ≡ storedAt (bytesOf p) limit stores (j + 1) found =
-        first ∙ (λ i. bufferWith (old i) (nib i) stores ((b ∙ ap (λ (x : ℕ). storedAt (bytesOf p) limit stores x found) k) i)) ∙ ap (λ (x : ℕ). storedAt (bytesOf p) limit stores x found) k′ in
+        let kept : buffer-after ear taken buffer ≡ storedAt (answerBytes p) limit stores (j + 1) found =
+        first ∙ (λ i. bufferWith (old i) (nib i) stores ((b ∙ ap (λ (x : ℕ). storedAt (answerBytes p) limit stores x found) k) i)) ∙ ap (λ (x : ℕ). storedAt (answerBytes p) limit stores x found) k′ in
         still Holding (takenWith taken (seen .nibble) limit) 0
         (one ∙ ap (λ (x : Listener). stays (Listening f x (takenWith taken (seen .nibble) limit) 0)) held)
-        (talks r j 1 (sendOf sender (seen .hsk) n) false (u .0) (carried (u .1) (step .input) p) fits′ more kept l (λ x. absurd (false≢true x)) (quiet-zero (sendOf sender (seen .hsk) n)) (not-asking q))
+        (talks r j 1 (sendOf sender (seen .hsk) n) false (u .0) (carried (u .1) (step .input) p) fits′ more kept l (λ x. absurd (false≢true x)) (quiet-zero (sendOf sender (seen .hsk) n)) (not-asking q) (same-own own))
 
     -- A nibble counts as sent: the next one comes, or the response is done.
     module _ (a : takenOf ear (seen .hsk) ≡ false) (s : sentOf sender (seen .hsk) ≡ true) (high : seen .hsk ≡ false) (ready : hearOf ear (seen .hsk) host ≡ Ready) (z : t ≡ 1) where
@@ -251,12 +233,12 @@ module _ (f : Frame) (d found : List ℕ) (timeout : ℕ) (eight : 8 ≤ timeout
 
       sends-by : (more : Bool) → ltb j (lastNibble (st .unit .serial .input) r) ≡ more → Talked f d found (after ear taken quiet) (buffer-after ear taken buffer) st′
       sends-by true m =
-          let last : lastNibble (st .unit .serial .input) r ≡ lengthOf (dataOf p) - 1 = last-is p in
+          let last : lastNibble (st .unit .serial .input) r ≡ lengthOf (answerData p) - 1 = last-is p in
           let less : j < lastNibble (st .unit .serial .input) r = ltb-true j (lastNibble (st .unit .serial .input) r) m in
           let k : j + t ≡ suc j + 0 = omega arith in
           let k′ : j + 1 ≡ suc j = omega arith in
-          let next : suc j + 0 < lengthOf (dataOf p) = omega arith in
-          let on : isOver taken ≡ false = ap isOver g ∙ ap (λ (x : ℕ). isOver (takenAt (bytesOf p) limit x)) k ∙ not-over-before (dataOf p) (replyStatus r) limit (suc j + 0) (p .fits) next in
+          let next : suc j + 0 < lengthOf (answerData p) = omega arith in
+          let on : isOver taken ≡ false = ap isOver g ∙ ap (λ (x : ℕ). isOver (takenAt (answerBytes p) limit x)) k ∙ not-over-before (answerData p) (replyStatus r) limit (suc j + 0) (p .fits) next in
           let phase : st′ .unit .phase ≡ Responding r (suc j) Next false =
           phase-is r j sender false e ∙ ap (λ (x : Bool). cond x whenSent whenNot .phase) s
           ∙ ap (λ (x : Bool). cond x (moves (Responding r (j + 1) Next false) (st .unit .serial)) (moves (SittingOut false) (finished (st .unit .serial) r)) .phase) m
@@ -265,22 +247,22 @@ module _ (f : Frame) (d found : List ℕ) (timeout : ℕ) (eight : 8 ≤ timeout
           serial-is r j sender false e ∙ ap (λ (x : Bool). cond x whenSent whenNot .serial) s
           ∙ ap (λ (x : Bool). cond x (moves (Responding r (j + 1) Next false) (st .unit .serial)) (moves (SittingOut false) (finished (st .unit .serial) r)) .serial) m in
           still Ready taken 1 (listened ∙ waits-on Ready taken 1 (omega arith) (ap (λ (x : Bool). x && true) on))
-          (talks r (suc j) 0 Next false phase (carried serial (step .input) p) f-next (g ∙ ap (takenAt (bytesOf p) limit) k) (buffer-kept ear taken buffer a ∙ b ∙ ap (λ (x : ℕ). storedAt (bytesOf p) limit stores x found) k) (omega arith) (λ x. absurd (false≢true x)) (omega arith) (not-asking q))
+          (talks r (suc j) 0 Next false phase (carried serial (step .input) p) f-next (g ∙ ap (takenAt (answerBytes p) limit) k) (buffer-kept ear taken buffer a ∙ b ∙ ap (λ (x : ℕ). storedAt (answerBytes p) limit stores x found) k) (omega arith) (λ x. absurd (false≢true x)) (omega arith) (not-asking q) (same-own own))
       sends-by false m =
-          let last : lastNibble (st .unit .serial .input) r ≡ lengthOf (dataOf p) - 1 = last-is p in
+          let last : lastNibble (st .unit .serial .input) r ≡ lengthOf (answerData p) - 1 = last-is p in
           let least : lastNibble (st .unit .serial .input) r ≤ j = ltb-false j (lastNibble (st .unit .serial .input) r) m in
-          let k : j + t ≡ lengthOf (dataOf p) = omega arith in
-          let all : taken ≡ Complete (replyStatus r) (length (dataOf p)) = g ∙ ap (takenAt (bytesOf p) limit) k ∙ response-completes (dataOf p) (replyStatus r) limit (p .fits) in
+          let k : j + t ≡ lengthOf (answerData p) = omega arith in
+          let all : taken ≡ Complete (replyStatus r) (length (answerData p)) = g ∙ ap (takenAt (answerBytes p) limit) k ∙ response-completes (answerData p) (replyStatus r) limit (p .fits) in
           let phase : st′ .unit .phase ≡ SittingOut false =
           phase-is r j sender false e ∙ ap (λ (x : Bool). cond x whenSent whenNot .phase) s
           ∙ ap (λ (x : Bool). cond x (moves (Responding r (j + 1) Next false) (st .unit .serial)) (moves (SittingOut false) (finished (st .unit .serial) r)) .phase) m in
           let serial : st′ .unit .serial ≡ finished (st .unit .serial) r =
           serial-is r j sender false e ∙ ap (λ (x : Bool). cond x whenSent whenNot .serial) s
           ∙ ap (λ (x : Bool). cond x (moves (Responding r (j + 1) Next false) (st .unit .serial)) (moves (SittingOut false) (finished (st .unit .serial) r)) .serial) m in
-          let full : waited f Ready (Complete (replyStatus r) (length (dataOf p))) timeout 1 ≡ over f (Complete (replyStatus r) (length (dataOf p))) =
-          ap (λ (x : Bool). cond (x || true) (over f (Complete (replyStatus r) (length (dataOf p)))) (stays (Listening f Ready (Complete (replyStatus r) (length (dataOf p))) 1))) (lt-leb timeout 1 (omega arith)) in
+          let full : waited f Ready (Complete (replyStatus r) (length (answerData p))) timeout 1 ≡ over f (Complete (replyStatus r) (length (answerData p))) =
+          ap (λ (x : Bool). cond (x || true) (over f (Complete (replyStatus r) (length (answerData p)))) (stays (Listening f Ready (Complete (replyStatus r) (length (answerData p))) 1))) (lt-leb timeout 1 (omega arith)) in
           done r (st .unit .serial) (carried refl (step .input) p) (listened ∙ ap (λ (x : Response). waited f Ready x timeout 1) all ∙ full)
-          (buffer-kept ear taken buffer a ∙ b ∙ ap (λ (x : ℕ). storedAt (bytesOf p) limit stores x found) k ∙ data-received (dataOf p) (replyStatus r) limit stores found (p .fits) room) phase serial (not-asking q)
+          (buffer-kept ear taken buffer a ∙ b ∙ ap (λ (x : ℕ). storedAt (answerBytes p) limit stores x found) k ∙ data-received (answerData p) (replyStatus r) limit stores found (p .fits) room) phase serial (not-asking q)
 
     talks-on : Talked f d found (after ear taken quiet) (buffer-after ear taken buffer) st′
     talks-on = by (pair (seen .hsk) (seen .nibble) host fits view)
@@ -294,9 +276,9 @@ module _ (f : Frame) (d found : List ℕ) (timeout : ℕ) (eight : 8 ≤ timeout
   pub talk-step : (ear : Listener) (taken : Response) (quiet : ℕ) (buffer : List ℕ) → Talk (f .command) d stores found ear taken quiet buffer st
       → seen .hsk ≡ (listenerHsk ear || pullsHsk (st .unit .phase)) → seen .nibble ≡ pullsNibble (st .unit .phase)
       → Talked f d found (after ear taken quiet) (buffer-after ear taken buffer) st′
-  talk-step ear taken quiet buffer (talks r j t sender true e p fits g b l w c q) h v =
+  talk-step ear taken quiet buffer (talks r j t sender true e p fits g b l w c q own) h v =
       let x = w refl in
-      begins r j t ear taken quiet buffer (e ∙ ap (λ (y : Sender). Responding r j y true) (x .0)) p (subst (λ (y : Sender). Fits (nibbleIn (bytesOf p) j) y ear t) (x .0) fits) g b l (x .1) q
+      begins r j t ear taken quiet buffer (e ∙ ap (λ (y : Sender). Responding r j y true) (x .0)) p (subst (λ (y : Sender). Fits (nibbleIn (answerBytes p) j) y ear t) (x .0) fits) g b l (x .1) q own
       (h ∙ ap (λ (y : Phase). listenerHsk ear || pullsHsk y) (e ∙ ap (λ (y : Sender). Responding r j y true) (x .0)))
-  talk-step ear taken quiet buffer (talks r j t sender false e p fits g b l w c q) h v =
-      talks-on r j t sender ear taken quiet buffer e p fits g b l c q (sees seen fits (h ∙ ap (λ (y : Phase). listenerHsk ear || pullsHsk y) e) (v ∙ ap pullsNibble e))
+  talk-step ear taken quiet buffer (talks r j t sender false e p fits g b l w c q own) h v =
+      talks-on r j t sender ear taken quiet buffer e p fits g b l c q own (sees seen fits (h ∙ ap (λ (y : Phase). listenerHsk ear || pullsHsk y) e) (v ∙ ap pullsNibble e))

@@ -22,18 +22,13 @@ use Rattle.verdict.specs.Verdict.{says, verdictOf, supported, status, commandBy
 use Rattle.verdict.specs.declared.Verdict.{Verdict}
 use Rattle.whole.specs.Whole.{storedOf}
 use Rattle.whole.specs.Back.{lengthOf}
+use Rattle.delivery.specs.Stages.{Sits, Sound, Talk, addressed, talks}
 use Rattle.delivery.specs.Heard.{f-next}
 use Rattle.delivery.specs.Lists.{All, none, also, One, this, that}
 use Rattle.delivery.specs.Promised.{Promised, replyFor}
 use Rattle.delivery.specs.World.{Different, nobody, another}
 use Rattle.delivery.proofs.Lists.{all-map}
-use Rattle.delivery.proofs.Part.{Turned, speaks, silent, addressed}
-use Rattle.delivery.proofs.Stage.{Sound}
-use Rattle.delivery.proofs.Talk.{Talk, talks}
-
--- A unit that sits out.
-abbrev pub Sits : Station → Type 0
-Sits st = (st .unit .phase ≡ SittingOut false) × (st .unit .asking ≡ false)
+use Rattle.delivery.proofs.Part.{Turned, speaks, silent}
 
 -- To code 0 there is silence.
 silent-by : (t u : Bool) (x : Verdict) → isSilent (cond t (says Silent Keeps) (cond u (says Silent Resets) (cond true (says Silent Keeps) x)) .reply) ≡ true
@@ -77,5 +72,5 @@ joined s (nobody-does a) = nobody-does (also s a)
 pub answering : (c : Command) (d : List ℕ) (stores : Bool) (found : List ℕ) {ss : List Station} → Different ss → All (λ (st : Station). Turned (Promised c d) c st × Sound st) ss → Answering c d stores found ss
 answering c d stores found nobody none = nobody-does none
 answering c d stores found (another h hs) (also {x = st} (speaks r z a phase p q, s) ts) =
-    somebody (this (talks r 0 0 Next true phase p f-next refl refl (omega arith) (λ _. (refl, refl)) (omega arith) q, s) (others-sit (st .unit .own) (spoken-code (st .unit .own) p z a) h ts))
+    somebody (this (talks r 0 0 Next true phase p f-next refl refl (omega arith) (λ _. (refl, refl)) (omega arith) q a, s) (others-sit (st .unit .own) (spoken-code (st .unit .own) p z a) h ts))
 answering c d stores found (another h hs) (also (silent phase q, s) ts) = joined ((phase, q), s) (answering c d stores found hs ts)

@@ -3,3 +3,4 @@ pub mod Heard
 pub mod Promised
 pub mod World
 pub mod Calls
+pub mod Stages
