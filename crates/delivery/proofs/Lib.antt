@@ -11,3 +11,4 @@ pub mod Frame
 pub mod Calls
 pub mod Rest
 pub mod Run
+pub mod Demand2

@@ -148,3 +148,17 @@ pub on-called : {w : World} → On w → (call : Call) → On (called w call)
 on-called o (host i call) = host-called i call o
 on-called o (submits k d buffer range bytes) = submit-called o k d buffer range bytes
 on-called {w} o (acknowledges code h) = acknowledge-by (isMarked code (live (w .controller .ring))) code h refl o
+
+-- In a frame a call leaves the frame: a submission is refused, and the ring is not the frame's.
+acknowledge-in : (t : Bool) {f : Frame} {found : List ℕ} {w : World} (code : ℕ) (h : code < 256) → isMarked code (live (w .controller .ring)) ≡ t → InFrame f found w → InFrame f found (called w (acknowledges code h))
+acknowledge-in true {f} {found} {w} code h e x =
+    let s : acknowledging (w .controller) code ≡ gives done = rw e in
+    subst (λ (a : Answer Done). InFrame f found (record { controller = kept a (withoutMark (w .controller) code) (w .controller); units = w .units; lent = w .lent; response = w .response })) (sym s) (frame-ring (ringOf (withMark false code (live (w .controller .ring)))) x)
+acknowledge-in false {f} {found} {w} code h e x =
+    let s : acknowledging (w .controller) code ≡ refused 8 = rw e in
+    subst (λ (a : Answer Done). InFrame f found (record { controller = kept a (withoutMark (w .controller) code) (w .controller); units = w .units; lent = w .lent; response = w .response })) (sym s) x
+
+pub in-frame-called : {f : Frame} {found : List ℕ} {w : World} (call : Call) → InFrame f found w → InFrame f found (called w call)
+in-frame-called (host i call) x = frame-called i call x
+in-frame-called {f} {found} {w} (submits k d buffer range bytes) x = subst (InFrame f found) (sym (not-idle w k d buffer range bytes (frame-busy x))) x
+in-frame-called {w = w} (acknowledges code h) x = acknowledge-in (isMarked code (live (w .controller .ring))) code h refl x

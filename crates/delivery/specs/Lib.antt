@@ -4,3 +4,4 @@ pub mod Promised
 pub mod World
 pub mod Calls
 pub mod Stages
+pub mod Demand2

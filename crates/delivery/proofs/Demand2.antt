@@ -1,0 +1,176 @@
+-- Demand 2, from the rounds and calls of the stages.
+use Prim.Native.Nat.{ℕ, zero, suc, _+_, _*_, _<_, _≤_}
+use native.Mathlib.Omega.{arith}
+use mathlib.Core.Path.{_≡_, refl, sym, _∙_, ap, subst}
+use mathlib.Core.Bool.{Bool, true, false, cond, true≢false, false≢true}
+use mathlib.Core.List.{List, []}
+use lib.Dec.{ltb}
+use lib.ListN.{length}
+use Rattle.answer.specs.declared.Response.{Response}
+use Rattle.bus.specs.Bus.{stationStep, unitAfter}
+use Rattle.bus.specs.declared.Station.{Station}
+use Rattle.controller.specs.Controller.{newController}
+use Rattle.frame.specs.Frame.{begun, dataOf}
+use Rattle.frame.specs.declared.Frame.{Frame}
+use Rattle.frame.specs.declared.Stage.{Stage}
+use Rattle.frame.specs.declared.Stage.the-variants.{Free, Resting, Waiting, Sending, Listening}
+use Rattle.header.specs.declared.Command.{Command}
+use Rattle.line.specs.declared.Listener.{Listener}
+use Rattle.line.specs.declared.Sender.{Sender}
+use Rattle.line.specs.declared.Lines.{Lines}
+use Rattle.message.specs.Answer.{gives, refused, kept}
+use Rattle.phase.specs.Phase.{phaseStep, phaseOutput}
+use Rattle.phase.specs.declared.Phase.{Phase}
+use Rattle.phase.specs.declared.Phase.the-variants.{Idle, Selecting, SittingOut}
+use Rattle.serial.specs.declared.Reply.{Reply}
+use Rattle.serial.specs.declared.Serial.{Serial}
+use Rattle.unit.specs.Unit.{lowStep, highStep}
+use Rattle.unit.specs.declared.Unit.{Unit}
+use Rattle.whole.specs.Whole.{bytesFor}
+use Rattle.delivery.specs.Calls.{Call, called}
+use Rattle.delivery.specs.Heard.{Fits, f-next, f-placed, f-holds, f-waits, Heard, h-none, h-first, h-byte, h-half}
+use Rattle.delivery.specs.Lists.{All, none, also, One, this, that}
+use Rattle.delivery.specs.Promised.{Promised}
+use Rattle.delivery.specs.Stages.{Sound, addressed, Talk, talks, Part, listens, answers, sits, InFrame, begins, sends, hears, waits, Fresh, idles, selects, On, AtRest, is-free, is-resting, rests, submitted, ended, runs}
+use Rattle.delivery.specs.World.{World, Busy, levels, round}
+use Rattle.delivery.specs.Demand2.{New, QuietStart, Run, start, a-round, a-call, Runs, Frames, FramesCalled, Delivered, listening, whole, sitting, Delivery, Untouched, NobodyElse}
+use Rattle.delivery.proofs.Frame.{frame-round}
+use Rattle.delivery.proofs.Lists.{all-map, one-all}
+use Rattle.delivery.proofs.Rest.{on-round}
+use Rattle.delivery.proofs.Run.{on-called, in-frame-called}
+
+-- A quiet start is a rest.
+new-fresh : (st : Station) → New st → Fresh st × Sound st
+new-fresh st n = (idles (ap (λ (u : Unit). u .phase) (n .is-new)), n .lent)
+
+starts : (w : World) → QuietStart w → On w
+starts w q =
+    let eq : w ≡ record { controller = newController (q .timeout); units = w .units; lent = w .lent; response = w .response } = λ k. record { controller = q .is-new k; units = w .units; lent = w .lent; response = w .response } in
+    subst On (sym eq) (rests is-free (q .least) none (q .codes) (all-map new-fresh (q .units)))
+
+pub every-run : Runs
+every-run w v q start = starts w q
+every-run w v q (a-round r busy) = on-round (every-run w _ q r) busy
+every-run w v q (a-call r call) = on-called (every-run w _ q r) call
+
+pub every-frame : Frames
+every-frame f found w x busy = frame-round f found x busy
+
+pub every-call : FramesCalled
+every-call f found w x call = in-frame-called call x
+
+-- What a unit's part says of what it has taken.
+fits-count : {n t : ℕ} {sender : Sender} {ear : Listener} → Fits n sender ear t → t ≤ 1
+fits-count f-next = omega arith
+fits-count f-placed = omega arith
+fits-count f-holds = omega arith
+fits-count f-waits = omega arith
+
+delivered : {c : Command} {d : List ℕ} {i : ℕ} {sender : Sender} (st : Station) → Part (Promised c d) c d i sender st → Delivered c d i st
+delivered {i = i} st (listens ear t f h a q) = let n : t ≤ 1 = fits-count f in listening ear (i + t) (omega arith) (omega arith) h
+delivered st (answers ear r f l a e p q) = whole ear r a l e p
+delivered st (sits now a e k q) = sitting now a e
+
+-- What a sending stage says.
+abbrev indexIn : Stage → ℕ
+indexIn Free = 0
+indexIn (Resting first) = 0
+indexIn (Waiting f) = 0
+indexIn (Sending f i sender wait) = i
+indexIn (Listening f ear taken quiet) = 0
+
+abbrev frameIn : Frame → Stage → Frame
+frameIn g Free = g
+frameIn g (Resting first) = g
+frameIn g (Waiting f) = g
+frameIn g (Sending f i sender wait) = f
+frameIn g (Listening f ear taken quiet) = g
+
+abbrev isSending : Stage → Bool
+isSending Free = false
+isSending (Resting first) = false
+isSending (Waiting f) = false
+isSending (Sending f i sender true) = false
+isSending (Sending f i sender false) = true
+isSending (Listening f ear taken quiet) = false
+
+rest-sends : {stage : Stage} → AtRest stage → isSending stage ≡ false
+rest-sends is-free = refl
+rest-sends is-resting = refl
+
+in-frame-delivers : {g : Frame} {found : List ℕ} {v : World} (f : Frame) (i : ℕ) (sender : Sender) → v .controller .stage ≡ Sending f i sender false → InFrame g found v → All (Delivered (f .command) (dataOf f (v .lent)) i) (v .units)
+in-frame-delivers f i sender e (begins framed d a) = absurd (false≢true (ap isSending e))
+in-frame-delivers {g} f i sender e (sends j s {units = units} {lent = lent} framed d x l a) =
+    let frames : g ≡ f = ap (frameIn g) e in
+    let places : j ≡ i = ap indexIn e in
+    subst (λ (k : ℕ). All (Delivered (f .command) (dataOf f lent) k) units) places (subst (λ (h : Frame). All (Delivered (h .command) (dataOf h lent) j) units) frames (all-map (λ st p. delivered st (p .0)) a))
+in-frame-delivers f i sender e (hears ear taken quiet framed d l o) = absurd (false≢true (ap isSending e))
+in-frame-delivers f i sender e (waits quiet framed d a) = absurd (false≢true (ap isSending e))
+
+on-delivers : {v : World} (f : Frame) (i : ℕ) (sender : Sender) → v .controller .stage ≡ Sending f i sender false → On v → All (Delivered (f .command) (dataOf f (v .lent)) i) (v .units)
+on-delivers f i sender e (rests r eight codes d a) = absurd (false≢true (sym (rest-sends r) ∙ ap isSending e))
+on-delivers f i sender e (submitted g framed codes d a) = absurd (false≢true (ap isSending e))
+on-delivers f i sender e (ended eight codes d a) = absurd (false≢true (ap isSending e))
+on-delivers f i sender e (runs g found x codes) = in-frame-delivers f i sender e x
+
+pub delivery : Delivery
+delivery w v f i sender q r e = on-delivers f i sender e (every-run w v q r)
+
+-- A unit that does not receive and does not respond is not changed.
+data Apart : Phase → Type 0 where
+  a-idle : Apart Idle
+  a-selecting : {ear : Listener} {half : Bool} {low : ℕ} → Apart (Selecting ear half low)
+  a-sitting : {now : Bool} → Apart (SittingOut now)
+
+apart-serial : {x : Phase} (own : ℕ) (s : Serial) (seen : Lines) (busy : Bool) (buffer input : List ℕ) → Apart x → phaseStep x own s seen busy buffer input .serial ≡ s
+apart-serial own s seen busy buffer input a-idle = refl
+apart-serial own s seen busy buffer input a-selecting = refl
+apart-serial own s seen busy buffer input a-sitting = refl
+
+apart-output : {x : Phase} (s : Serial) (seen : Lines) (buffer output : List ℕ) → Apart x → phaseOutput x s seen buffer output ≡ output
+apart-output s seen buffer output a-idle = refl
+apart-output s seen buffer output a-selecting = refl
+apart-output s seen buffer output a-sitting = refl
+
+untouched : (st : Station) (seen : Lines) (busy : Bool) → Apart (st .unit .phase) → Untouched st (stationStep st seen busy)
+untouched st seen busy x = (
+  serial-by (ltb 15 (seen .nibble)) (ltb (length (st .buffer)) 256) (seen .bav),
+  (refl, output-by (ltb 15 (seen .nibble)) (ltb (length (st .buffer)) 256) (seen .bav)),
+)
+  where
+    serial-by : (a b c : Bool) → unitAfter (cond a (refused 5) (cond b (refused 11) (gives (cond c (lowStep (st .unit) (seen .hsk) (phaseStep (st .unit .phase) (st .unit .own) (st .unit .serial) seen busy (st .buffer) (st .input))) (highStep (st .unit) (seen .hsk)))))) (st .unit) .serial ≡ st .unit .serial
+    serial-by true b c = refl
+    serial-by false true c = refl
+    serial-by false false true = apart-serial (st .unit .own) (st .unit .serial) seen busy (st .buffer) (st .input) x
+    serial-by false false false = refl
+
+    output-by : (a b c : Bool) → kept (cond a (refused 5) (cond b (refused 11) (gives (cond c (lowStep (st .unit) (seen .hsk) (phaseStep (st .unit .phase) (st .unit .own) (st .unit .serial) seen busy (st .buffer) (st .input))) (highStep (st .unit) (seen .hsk)))))) (cond c (phaseOutput (st .unit .phase) (st .unit .serial) seen (st .buffer) (st .output)) (st .output)) (st .output) ≡ st .output
+    output-by true b c = refl
+    output-by false true c = refl
+    output-by false false true = apart-output (st .unit .serial) seen (st .buffer) (st .output) x
+    output-by false false false = refl
+
+heard-apart : {bytes : List ℕ} {ear : Listener} {k : ℕ} {phase : Phase} {buffer : List ℕ} → Heard bytes ear k phase buffer → (2 ≤ k → ⊥) → Apart phase
+heard-apart (h-none room) n = a-selecting
+heard-apart (h-first room) n = a-selecting
+heard-apart (h-byte j buffer room g h) n = absurd (n (omega arith))
+heard-apart (h-half j buffer room g h) n = absurd (n (omega arith))
+
+part-apart : {P : Reply → Serial → List ℕ → Type 0} {c : Command} {d : List ℕ} {i : ℕ} {sender : Sender} (st : Station) → Part P c d i sender st → addressed c (st .unit .own) ≡ false → Apart (st .unit .phase)
+part-apart st (listens ear t f h a q) e = heard-apart h (λ l. true≢false (sym (a l) ∙ e))
+part-apart st (answers ear r f l a g p q) e = absurd (true≢false (sym a ∙ e))
+part-apart st (sits now a g k q) e = subst Apart (sym g) a-sitting
+
+fresh-apart : (st : Station) → Fresh st → Apart (st .unit .phase)
+fresh-apart st (idles e) = subst Apart (sym e) a-idle
+fresh-apart st (selects e) = subst Apart (sym e) a-selecting
+
+talk-addressed : {c : Command} {d : List ℕ} {stores : Bool} {found : List ℕ} {ear : Listener} {taken : Response} {quiet : ℕ} {buffer : List ℕ} (st : Station) → Talk c d stores found ear taken quiet buffer st → addressed c (st .unit .own) ≡ true
+talk-addressed st (talks r j t sender wait e p fits g b l w c q own) = own
+
+pub nobody-else : NobodyElse
+nobody-else f found w (begins framed d a) host = all-map (λ st p e. untouched st (levels w) host (fresh-apart st (p .0))) a
+nobody-else f found w (sends i sender framed d s l a) host = all-map (λ st p e. untouched st (levels w) host (part-apart st (p .0) e)) a
+nobody-else f found w (hears ear taken quiet framed d l o) host =
+    one-all (λ st p e. absurd (true≢false (sym (talk-addressed st (p .0)) ∙ e))) (λ st p e. untouched st (levels w) host (subst Apart (sym (p .0 .0)) a-sitting)) o
+nobody-else f found w (waits quiet framed d a) host = all-map (λ st p e. untouched st (levels w) host (subst Apart (sym (p .0 .0)) a-sitting)) a

@@ -1,0 +1,95 @@
+-- Demand 2: "On a bus run in rounds, from a quiet start, with one controller, different codes and no step refused, each nibble sent
+-- reaches the addressed unit once and in order; code 0 addresses all. That unit gives the one response defined for its state, or the
+-- defined silence. No other unit's opening, queues, enabling or request is changed by the frame."
+-- The statements; `proofs/Demand2.antt` proves them. Where the parties can be is in `Stages`, the bus in `World` and `Calls`.
+use Prim.Native.Nat.{ℕ, suc, _+_, _*_, _<_, _≤_}
+use mathlib.Core.Path.{_≡_}
+use mathlib.Core.Bool.{Bool, true, false}
+use mathlib.Core.List.{List}
+use lib.ListN.{length}
+use Rattle.bus.specs.Bus.{stationStep}
+use Rattle.bus.specs.declared.Station.{Station}
+use Rattle.controller.specs.Calls.{stepping}
+use Rattle.controller.specs.Controller.{newController}
+use Rattle.frame.specs.Frame.{begun, dataOf}
+use Rattle.frame.specs.declared.Frame.{Frame}
+use Rattle.frame.specs.declared.Stage.the-variants.{Sending}
+use Rattle.header.specs.declared.Command.{Command}
+use Rattle.line.specs.declared.Listener.{Listener}
+use Rattle.line.specs.declared.Sender.{Sender}
+use Rattle.message.specs.Answer.{gives}
+use Rattle.phase.specs.declared.Phase.the-variants.{Receiving, SittingOut}
+use Rattle.phase.specs.declared.Progress.the-variants.{Answered}
+use Rattle.serial.specs.declared.Reply.{Reply}
+use Rattle.turn.specs.declared.Event.{Event}
+use Rattle.unit.specs.Unit.{newUnit}
+use Rattle.whole.specs.Whole.{bytesFor}
+use Rattle.delivery.specs.Calls.{Call, called}
+use Rattle.delivery.specs.Heard.{Heard}
+use Rattle.delivery.specs.Lists.{All}
+use Rattle.delivery.specs.Promised.{Promised}
+use Rattle.delivery.specs.Stages.{Sound, addressed, InFrame, Goes, On}
+use Rattle.delivery.specs.World.{World, Busy, levels, round, Different}
+
+-- A quiet start: every party is new, and each unit is lent its memory. The time-out is the controller's own setting.
+pub record New (st : Station) : Type 0 where
+  pub own : ℕ
+  pub retry : ℕ
+  pub is-new : st .unit ≡ newUnit own retry
+  pub lent : Sound st
+
+pub record QuietStart (w : World) : Type 0 where
+  pub timeout : ℕ
+  pub least : 8 ≤ timeout
+  pub is-new : w .controller ≡ newController timeout
+  pub units : All New (w .units)
+  pub codes : Different (w .units)
+
+-- A run: rounds, with any hosts busy, and calls of any hosts between any two of them, in mid-frame too.
+pub data Run (w : World) : World → Type 0 where
+  start : Run w w
+  a-round : {v : World} → Run w v → (busy : Busy) → Run w (round v busy)
+  a-call : {v : World} → Run w v → (call : Call) → Run w (called v call)
+
+-- A run from a quiet start is always at rest, or in a frame.
+abbrev pub Runs : Type 0
+Runs = (w v : World) → QuietStart w → Run w v → On v
+
+-- Each round of a frame leads on in it, or ends it: with the status, the data and the count that the whole-message definition gives for
+-- the addressed unit's state when the last nibble was taken, at the front of the response buffer that the frame found, and what waited
+-- done; or with nothing taken (FF), where no response is defined.
+abbrev pub Frames : Type 0
+Frames = (f : Frame) (found : List ℕ) (w : World) → InFrame f found w → (busy : Busy) → Goes f found w busy
+
+-- A call in mid-frame leaves the frame as it is.
+abbrev pub FramesCalled : Type 0
+FramesCalled = (f : Frame) (found : List ℕ) (w : World) → InFrame f found w → (call : Call) → InFrame f found (called w call)
+
+-- Delivery. While nibble i of a command is sent, each unit has taken the first i nibbles of it, or one more: each once and in order. A
+-- unit that the command does not address sits out behind the device code. When the last is taken, the reply is fixed.
+pub data Delivered (c : Command) (d : List ℕ) (i : ℕ) (st : Station) : Type 0 where
+  listening : (ear : Listener) (k : ℕ) → i ≤ k → k ≤ suc i → Heard (bytesFor c d) ear k (st .unit .phase) (st .buffer) → Delivered c d i st
+  whole :
+      (ear : Listener) (r : Reply) → addressed c (st .unit .own) ≡ true → suc i ≡ 2 * length (bytesFor c d) → st .unit .phase ≡ Receiving ear (Answered r)
+      → Promised c d r (st .unit .serial) (st .input) → Delivered c d i st
+  sitting : (now : Bool) → addressed c (st .unit .own) ≡ false → st .unit .phase ≡ SittingOut now → Delivered c d i st
+
+abbrev pub Delivery : Type 0
+Delivery =
+    (w v : World) (f : Frame) (i : ℕ) (sender : Sender)
+    → QuietStart w
+    → Run w v
+    → v .controller .stage ≡ Sending f i sender false
+    → All (Delivered (f .command) (dataOf f (v .lent)) i) (v .units)
+
+-- Nobody else: in no round of a frame does the opening, the queues, the enabling or the request of a unit change that the command does
+-- not address.
+abbrev pub Untouched : Station → Station → Type 0
+Untouched st after = (after .unit .serial ≡ st .unit .serial) × ((after .input ≡ st .input) × (after .output ≡ st .output))
+
+abbrev pub NobodyElse : Type 0
+NobodyElse =
+    (f : Frame) (found : List ℕ) (w : World)
+    → InFrame f found w
+    → (host : Bool)
+    → All (λ (st : Station). addressed (f .command) (st .unit .own) ≡ false → Untouched st (stationStep st (levels w) host)) (w .units)
