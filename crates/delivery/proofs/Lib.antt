@@ -12,3 +12,4 @@ pub mod Calls
 pub mod Rest
 pub mod Run
 pub mod Demand2
+pub mod Example

@@ -5,3 +5,4 @@ pub mod World
 pub mod Calls
 pub mod Stages
 pub mod Demand2
+pub mod Example
