@@ -105,7 +105,7 @@ in-frame-delivers {g} f i sender e (sends j s {units = units} {lent = lent} fram
     let places : j ≡ i = ap indexIn e in
     subst (λ (k : ℕ). All (Delivered (f .command) (dataOf f lent) k) units) places (subst (λ (h : Frame). All (Delivered (h .command) (dataOf h lent) j) units) frames (all-map (λ st p. delivered st (p .0)) a))
 in-frame-delivers f i sender e (hears ear taken quiet framed d l o) = absurd (false≢true (ap isSending e))
-in-frame-delivers f i sender e (waits quiet framed d a) = absurd (false≢true (ap isSending e))
+in-frame-delivers f i sender e (waits quiet framed d a why) = absurd (false≢true (ap isSending e))
 
 on-delivers : {v : World} (f : Frame) (i : ℕ) (sender : Sender) → v .controller .stage ≡ Sending f i sender false → On v → All (Delivered (f .command) (dataOf f (v .lent)) i) (v .units)
 on-delivers f i sender e (rests r eight codes d a) = absurd (false≢true (sym (rest-sends r) ∙ ap isSending e))
@@ -173,4 +173,4 @@ nobody-else f found w (begins framed d a) host = all-map (λ st p e. untouched s
 nobody-else f found w (sends i sender framed d s l a) host = all-map (λ st p e. untouched st (levels w) host (part-apart st (p .0) e)) a
 nobody-else f found w (hears ear taken quiet framed d l o) host =
     one-all (λ st p e. absurd (true≢false (sym (talk-addressed st (p .0)) ∙ e))) (λ st p e. untouched st (levels w) host (subst Apart (sym (p .0 .0)) a-sitting)) o
-nobody-else f found w (waits quiet framed d a) host = all-map (λ st p e. untouched st (levels w) host (subst Apart (sym (p .0 .0)) a-sitting)) a
+nobody-else f found w (waits quiet framed d a why) host = all-map (λ st p e. untouched st (levels w) host (subst Apart (sym (p .0 .0)) a-sitting)) a

@@ -40,7 +40,7 @@ use Rattle.ring.specs.declared.Ring.{Ring}
 use Rattle.unit.specs.Unit.{pullsHsk, pullsNibble, lowStep, highStep}
 use Rattle.whole.specs.Whole.{bytesFor, Sent}
 use Rattle.whole.proofs.Whole.{length-bytes}
-use Rattle.delivery.specs.Stages.{Finishes, Framed, Fresh, Goes, InFrame, Part, Sends, Sits, Sound, Spoke, Talk, answered, begins, hears, idles, listens, movedIn, on, s-next, selects, sends, unanswered, waits, world}
+use Rattle.delivery.specs.Stages.{Hushed, not-its-own, by-the-rule, addressed, Finishes, Framed, Fresh, Goes, InFrame, Part, Sends, Sits, Sound, Spoke, Talk, answered, begins, hears, idles, listens, movedIn, on, s-next, selects, sends, unanswered, waits, world}
 use Rattle.delivery.specs.Heard.{f-next, Heard, h-none}
 use Rattle.delivery.specs.Lists.{All, none, also, One, this, that}
 use Rattle.delivery.specs.Promised.{Promised}
@@ -93,6 +93,13 @@ pub different-kept : (seen : Lines) (hosts : ℕ) {ss : List Station} → Differ
 different-kept seen hosts nobody = nobody
 different-kept seen hosts (another {st = st} a d) =
     another (all-map (λ x p e. p (e ∙ own-kept st seen (isOdd hosts))) (apart-kept (st .unit .own) seen (hosts / 2) a)) (different-kept seen (hosts / 2) d)
+
+hushed-kept : {c : Command} {d : List ℕ} (seen : Lines) (hosts : ℕ) {ss : List Station} → All (Hushed c d) ss → All (Hushed c d) (unitsAfter seen hosts ss)
+hushed-kept {c} {d} seen hosts a = all-step seen (λ st busy p. by st busy p) hosts a
+  where
+    by : (st : Station) (busy : Bool) → Hushed c d st → Hushed c d (stationStep st seen busy)
+    by st busy (not-its-own e) = not-its-own (ap (addressed c) (own-kept st seen busy) ∙ e)
+    by st busy (by-the-rule given e) = by-the-rule given e
 
 go-on : {f : Frame} {found : List ℕ} {w v : World} {busy : Busy} → round w busy ≡ v → v .controller .ring ≡ w .controller .ring → InFrame f found v → Goes f found w busy
 go-on {f} {found} eq r y = on (ap (λ (x : World). x .controller .ring) eq ∙ r) (subst (InFrame f found) (sym eq) y)
@@ -192,7 +199,7 @@ module _ (f : Frame) (found : List ℕ) (timeout : ℕ) (ring : Ring) (units : L
         turn : round w busy ≡ world timeout (Listening f Ready nothingTaken 0) ring (unitsAfter seen (busy .there) units) lent found → Different (unitsAfter seen (busy .there) units)
             → Answering c d (isSubmitted (f .kind)) found (unitsAfter seen (busy .there) units) → Goes f found w busy
         turn eq d′ (somebody o) = go-on eq refl (hears Ready nothingTaken 0 framed d′ refl o)
-        turn eq d′ (nobody-does b) = go-on eq refl (waits 0 framed d′ b)
+        turn eq d′ (nobody-does b h) = go-on eq refl (waits 0 framed d′ b h)
 
   -- A round while one unit responds.
   module _ (ear : Listener) (taken : Response) (quiet : ℕ) (response : List ℕ) (long : length response ≡ length found) (o : One (λ (st : Station). Talk c d (isSubmitted (f .kind)) found ear taken quiet response st × Sound st) (λ (st : Station). Sits st × Sound st) units) where
@@ -217,7 +224,7 @@ module _ (f : Frame) (found : List ℕ) (timeout : ℕ) (ring : Ring) (units : L
     hear-round = hear-by (units-heard f d found timeout (framed .eight) (framed .room) (busy .here) (busy .there) ear taken quiet response units o)
 
   -- A round while nobody responds.
-  module _ (quiet : ℕ) (a : All (λ (st : Station). Sits st × Sound st) units) where
+  module _ (quiet : ℕ) (a : All (λ (st : Station). Sits st × Sound st) units) (why : All (Hushed c d) units) where
     abbrev u : World
     u = world timeout (Listening f Ready nothingTaken quiet) ring units lent found
 
@@ -236,10 +243,10 @@ module _ (f : Frame) (found : List ℕ) (timeout : ℕ) (ring : Ring) (units : L
     wait-round : (t : Bool) → leb timeout (quiet + 1) ≡ t → Goes f found u busy
     wait-round true e =
         unanswered (control (u .controller) (levels u) (busy .here) lent found silent-small (framed .fits) refl) (waited-on ∙ ap (λ (x : Bool). cond (x || false) (over f nothingTaken) (stays (Listening f Ready nothingTaken (quiet + 1)))) e)
-        (control-buffer (u .controller) (levels u) (busy .here) lent found silent-small (framed .fits) ∙ same-buffer) (different-kept (levels u) (busy .there) different) (units-sit Ready (busy .there) units a)
+        (control-buffer (u .controller) (levels u) (busy .here) lent found silent-small (framed .fits) ∙ same-buffer) (different-kept (levels u) (busy .there) different) (units-sit Ready (busy .there) units a) (hushed-kept (levels u) (busy .there) why)
     wait-round false e =
         let m : movedIn u busy ≡ stays (Listening f Ready nothingTaken (quiet + 1)) = waited-on ∙ ap (λ (x : Bool). cond (x || false) (over f nothingTaken) (stays (Listening f Ready nothingTaken (quiet + 1)))) e in
-        go-on (after (Listening f Ready nothingTaken quiet) (Listening f Ready nothingTaken (quiet + 1)) found found silent-small (framed .fits) refl m same-buffer) refl (waits (quiet + 1) framed (different-kept (levels u) (busy .there) different) (units-sit Ready (busy .there) units a))
+        go-on (after (Listening f Ready nothingTaken quiet) (Listening f Ready nothingTaken (quiet + 1)) found found silent-small (framed .fits) refl m same-buffer) refl (waits (quiet + 1) framed (different-kept (levels u) (busy .there) different) (units-sit Ready (busy .there) units a) (hushed-kept (levels u) (busy .there) why))
 
 -- Every round of a frame.
 pub frame-round : (f : Frame) (found : List ℕ) {w : World} → InFrame f found w → (busy : Busy) → Goes f found w busy
@@ -248,5 +255,5 @@ frame-round f found (sends i sender {timeout = timeout} {ring = ring} {units = u
     send-round f found timeout ring units lent framed different busy i sender s less a (sentOf sender (levelsWith (sending sender) units .hsk)) (ltb i (lastNibble f)) refl refl
 frame-round f found (hears ear taken quiet {timeout = timeout} {ring = ring} {units = units} {lent = lent} {response = response} framed different long o) busy =
     hear-round f found timeout ring units lent framed different busy ear taken quiet response long o
-frame-round f found (waits quiet {timeout = timeout} {ring = ring} {units = units} {lent = lent} framed different a) busy =
-    wait-round f found timeout ring units lent framed different busy quiet a (leb timeout (quiet + 1)) refl
+frame-round f found (waits quiet {timeout = timeout} {ring = ring} {units = units} {lent = lent} framed different a why) busy =
+    wait-round f found timeout ring units lent framed different busy quiet a why (leb timeout (quiet + 1)) refl

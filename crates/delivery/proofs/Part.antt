@@ -118,12 +118,17 @@ heard-short l (h-first room) = omega arith
 heard-short l (h-byte j buffer room g h) = omega arith
 heard-short l (h-half j buffer room g h) = omega arith
 
+-- Why a unit sits out.
+pub data Hush (P : Reply → Serial → List ℕ → Type 0) (c : Command) (st : Station) : Type 0 where
+  not-mine : addressed c (st .unit .own) ≡ false → Hush P c st
+  ruled : (r : Reply) → isSilent r ≡ true → P r (st .unit .serial) (st .input) → Hush P c st
+
 -- A unit after its last command nibble is done: it responds, or sits out.
 pub data Turned (P : Reply → Serial → List ℕ → Type 0) (c : Command) (st : Station) : Type 0 where
   speaks :
       (r : Reply) → isSilent r ≡ false → addressed c (st .unit .own) ≡ true → st .unit .phase ≡ Responding r 0 Next true → P r (st .unit .serial) (st .input)
       → st .unit .asking ≡ false → Turned P c st
-  silent : st .unit .phase ≡ SittingOut false → st .unit .asking ≡ false → Turned P c st
+  silent : st .unit .phase ≡ SittingOut false → st .unit .asking ≡ false → Hush P c st → Turned P c st
 
 module _ (P : Reply → Serial → List ℕ → Type 0) (c : Command) (d : List ℕ) (i : ℕ) (sender : Sender) (st st′ : Station) (seen : Lines) (busy : Bool) (step : Stepped st seen busy st′) where
   abbrev n : ℕ
@@ -184,7 +189,8 @@ module _ (P : Reply → Serial → List ℕ → Type 0) (c : Command) (d : List 
   -- The last nibble counts as sent: the unit responds two rounds later, or sits out.
   answered-by : (t : Bool) (ear : Listener) (r : Reply) → isSilent r ≡ t → hearOf ear (seen .hsk) busy ≡ Ready → st .unit .phase ≡ Receiving ear (Answered r) → addressed c (st .unit .own) ≡ true
       → P r (st .unit .serial) (st .input) → st .unit .asking ≡ false → Turned P c st′
-  answered-by true ear r z e4 e a k q = silent (phase-is e ∙ rw (e4, z)) (not-asking q)
+  answered-by true ear r z e4 e a k q =
+      silent (phase-is e ∙ rw (e4, z)) (not-asking q) (ruled r z (subst (λ (x : Serial). P r x (st′ .input)) (sym (serial-is e)) (subst (P r (st .unit .serial)) (sym (step .input)) k)))
   answered-by false ear r z e4 e a k q =
       speaks r z (same-own a) (phase-is e ∙ rw (e4, z)) (subst (λ (x : Serial). P r x (st′ .input)) (sym (serial-is e)) (subst (P r (st .unit .serial)) (sym (step .input)) k)) (not-asking q)
 
@@ -202,7 +208,7 @@ module _ (P : Reply → Serial → List ℕ → Type 0) (c : Command) (d : List 
       over-by (rests e1 e2 g) = absurd (true≢false (sym sent ∙ e2))
       over-by (takes e1 e2 e3 e4 e5 g) = absurd (true≢false (sym sent ∙ e5))
       over-by (sends e1 e2 e3 e4 e5) = answered-by (isSilent r) ear r refl e4 e a k q
-  part-over shows own sent all nine (sits now a e k q) = silent (still-sits e) (not-asking q)
+  part-over shows own sent all nine (sits now a e k q) = silent (still-sits e) (not-asking q) (not-mine (same-own a))
 
   -- A nibble that does not count as sent yet.
   module _ (ok : Sent c d) (fixes : (b : List ℕ) → st′ .unit .serial ≡ answered (st .unit .serial) (headerFor c d) (withData d b) .serial → P (replyTo (st .unit .serial) c d b) (st′ .unit .serial) (st′ .input)) where

@@ -229,13 +229,13 @@ frame-timeout : {f : Frame} {found : List ℕ} {w : World} → InFrame f found w
 frame-timeout (begins framed d a) = framed .eight
 frame-timeout (sends i sender framed d s l a) = framed .eight
 frame-timeout (hears ear taken quiet framed d l o) = framed .eight
-frame-timeout (waits quiet framed d a) = framed .eight
+frame-timeout (waits quiet framed d a why) = framed .eight
 
 frame-device : {f : Frame} {found : List ℕ} {w : World} → InFrame f found w → f .command .device < 256
 frame-device (begins framed d a) = framed .sent .fields .device
 frame-device (sends i sender framed d s l a) = framed .sent .fields .device
 frame-device (hears ear taken quiet framed d l o) = framed .sent .fields .device
-frame-device (waits quiet framed d a) = framed .sent .fields .device
+frame-device (waits quiet framed d a why) = framed .sent .fields .device
 
 spoke-moved : {f : Frame} {d found : List ℕ} {m : Moved} {buffer : List ℕ} {ss : List Station} → One (λ (st : Station). Spoke f d found m buffer st × Sound st) (λ (st : Station). Sits st × Sound st) ss → (r : Response) × (m ≡ over f r)
 spoke-moved (this (spoke r s p e b serial x, y) a) = (Complete (replyStatus r) (length (answerData p)), e)
@@ -255,7 +255,7 @@ finish f found w busy r x codes fin m d a =
 frame-on : (f : Frame) (found : List ℕ) (w : World) (busy : Busy) → InFrame f found w → Codes (w .controller .ring) → Goes f found w busy → On (round w busy)
 frame-on f found w busy x codes (on r y) = runs f found y (subst Codes (sym r) codes)
 frame-on f found w busy x codes (answered fin d o) = let m = spoke-moved o in finish f found w busy (m .0) x codes fin (m .1) d (one-all spoke-sits (λ st p. p) o)
-frame-on f found w busy x codes (unanswered fin m b d a) = finish f found w busy nothingTaken x codes fin m d a
+frame-on f found w busy x codes (unanswered fin m b d a why) = finish f found w busy nothingTaken x codes fin m d a
 
 -- Every round of a run.
 rest-on : (timeout : ℕ) (stage : Stage) (ring : Ring) (units : List Station) (lent response : List ℕ) (busy : Busy) → AtRest stage → 8 ≤ timeout → Codes ring → Different units → All (λ (st : Station). Fresh st × Sound st) units → On (round (world timeout stage ring units lent response) busy)

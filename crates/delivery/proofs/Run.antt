@@ -22,7 +22,7 @@ use Rattle.header.specs.declared.Command.{Command}
 use Rattle.message.specs.Answer.{Answer, gives, refused, kept}
 use Rattle.ring.specs.Ring.{live, isMarked, ringOf, withMark}
 use Rattle.ring.specs.declared.Ring.{Ring}
-use Rattle.delivery.specs.Stages.{AtRest, Codes, Framed, Fresh, InFrame, On, Sits, Sound, begins, ended, hears, is-free, is-resting, rests, runs, sends, submitted, waits, world}
+use Rattle.delivery.specs.Stages.{Hushed, not-its-own, by-the-rule, addressed, AtRest, Codes, Framed, Fresh, InFrame, On, Sits, Sound, begins, ended, hears, is-free, is-resting, rests, runs, sends, submitted, waits, world}
 use Rattle.delivery.specs.Calls.{HostCall, Call, host, submits, acknowledges, calledAt, calledBy, called}
 use Rattle.delivery.specs.Lists.{All, none, also, One, this, that}
 use Rattle.delivery.specs.World.{World, Busy, levels, round, Different, nobody, another}
@@ -47,26 +47,32 @@ different-called (suc i) call (also s b) (another {st = st} a d) = another (apar
 sound : {P : Station → Type 0} {ss : List Station} → All (λ (st : Station). P st × Sound st) ss → All Sound ss
 sound a = all-map (λ st p. p .1) a
 
+hushed-called : {c : Command} {d : List ℕ} (i : ℕ) (call : HostCall) {ss : List Station} → All Sound ss → All (Hushed c d) ss → All (Hushed c d) (calledAt i call ss)
+hushed-called i call none none = none
+hushed-called {c} zero call (also {x = st} s b) (also (not-its-own e) a) = also (not-its-own (ap (addressed c) (own-called call st s) ∙ e)) a
+hushed-called zero call (also s b) (also (by-the-rule given e) a) = also (by-the-rule given e) a
+hushed-called (suc i) call (also s b) (also p a) = also p (hushed-called i call b a)
+
 -- A host call in a frame.
 frame-called : {f : Frame} {found : List ℕ} {w : World} (i : ℕ) (call : HostCall) → InFrame f found w → InFrame f found (called w (host i call))
 frame-called i call (begins framed d a) = begins framed (different-called i call (sound a) d) (all-called (λ st after k p. fresh-called k p) i call a)
 frame-called i call (sends j sender framed d s l a) = sends j sender framed (different-called i call (sound a) d) s l (all-called (λ st after k p. part-called k p) i call a)
 frame-called i call (hears ear taken quiet framed d l o) =
     hears ear taken quiet framed (different-called i call (one-all (λ st p. p .1) (λ st p. p .1) o) d) l (one-called (λ st after k p. talk-called k p) (λ st after k p. sits-called k p) i call o)
-frame-called i call (waits quiet framed d a) = waits quiet framed (different-called i call (sound a) d) (all-called (λ st after k p. sits-called k p) i call a)
+frame-called i call (waits quiet framed d a why) = waits quiet framed (different-called i call (sound a) d) (all-called (λ st after k p. sits-called k p) i call a) (hushed-called i call (sound a) why)
 
 -- The ring is not the frame's.
 frame-ring : {f : Frame} {found : List ℕ} {w : World} (ring : Ring) → InFrame f found w → InFrame f found (world (w .controller .timeout) (w .controller .stage) ring (w .units) (w .lent) (w .response))
 frame-ring ring (begins framed d a) = begins framed d a
 frame-ring ring (sends j sender framed d s l a) = sends j sender framed d s l a
 frame-ring ring (hears ear taken quiet framed d l o) = hears ear taken quiet framed d l o
-frame-ring ring (waits quiet framed d a) = waits quiet framed d a
+frame-ring ring (waits quiet framed d a why) = waits quiet framed d a why
 
 frame-busy : {f : Frame} {found : List ℕ} {w : World} → InFrame f found w → isIdle (w .controller .stage) ≡ false
 frame-busy (begins framed d a) = refl
 frame-busy (sends j sender framed d s l a) = refl
 frame-busy (hears ear taken quiet framed d l o) = refl
-frame-busy (waits quiet framed d a) = refl
+frame-busy (waits quiet framed d a why) = refl
 
 on-ring : {w : World} (ring : Ring) → Codes ring → On w → On (world (w .controller .timeout) (w .controller .stage) ring (w .units) (w .lent) (w .response))
 on-ring ring c (rests r eight codes d a) = rests r eight c d a

@@ -22,13 +22,13 @@ use Rattle.verdict.specs.Verdict.{says, verdictOf, supported, status, commandBy
 use Rattle.verdict.specs.declared.Verdict.{Verdict}
 use Rattle.whole.specs.Whole.{storedOf}
 use Rattle.whole.specs.Back.{lengthOf}
-use Rattle.delivery.specs.Stages.{Sits, Sound, Talk, addressed, talks}
+use Rattle.delivery.specs.Stages.{Hushed, not-its-own, by-the-rule, Sits, Sound, Talk, addressed, talks}
 use Rattle.delivery.specs.Heard.{f-next}
 use Rattle.delivery.specs.Lists.{All, none, also, One, this, that}
 use Rattle.delivery.specs.Promised.{Promised, replyFor}
 use Rattle.delivery.specs.World.{Different, nobody, another}
 use Rattle.delivery.proofs.Lists.{all-map}
-use Rattle.delivery.proofs.Part.{Turned, speaks, silent}
+use Rattle.delivery.proofs.Part.{Turned, speaks, silent, Hush, not-mine, ruled}
 
 -- To code 0 there is silence.
 silent-by : (t u : Bool) (x : Verdict) → isSilent (cond t (says Silent Keeps) (cond u (says Silent Resets) (cond true (says Silent Keeps) x)) .reply) ≡ true
@@ -58,19 +58,23 @@ others-sit : {c : Command} {d : List ℕ} (own : ℕ) → c .device ≡ own → 
     → All (λ (st : Station). Turned (Promised c d) c st × Sound st) ss → All (λ (st : Station). Sits st × Sound st) ss
 others-sit own e none none = none
 others-sit own e (also {x = st} h hs) (also (speaks r z a phase p q, s) ts) = absurd (h (sym (spoken-code (st .unit .own) p z a) ∙ e))
-others-sit own e (also h hs) (also (silent phase q, s) ts) = also ((phase, q), s) (others-sit own e hs ts)
+others-sit own e (also h hs) (also (silent phase q why, s) ts) = also ((phase, q), s) (others-sit own e hs ts)
+
+hushed : {c : Command} {d : List ℕ} (st : Station) → Hush (Promised c d) c st → Hushed c d st
+hushed st (not-mine a) = not-its-own a
+hushed st (ruled r z p) = by-the-rule (p .given) (sym (ap isSilent (p .said)) ∙ z)
 
 -- Who responds.
 pub data Answering (c : Command) (d : List ℕ) (stores : Bool) (found : List ℕ) (ss : List Station) : Type 0 where
   somebody : One (λ (st : Station). Talk c d stores found Ready nothingTaken 0 found st × Sound st) (λ (st : Station). Sits st × Sound st) ss → Answering c d stores found ss
-  nobody-does : All (λ (st : Station). Sits st × Sound st) ss → Answering c d stores found ss
+  nobody-does : All (λ (st : Station). Sits st × Sound st) ss → All (Hushed c d) ss → Answering c d stores found ss
 
-joined : {c : Command} {d : List ℕ} {stores : Bool} {found : List ℕ} {st : Station} {ss : List Station} → Sits st × Sound st → Answering c d stores found ss → Answering c d stores found (st ∷ ss)
-joined s (somebody o) = somebody (that s o)
-joined s (nobody-does a) = nobody-does (also s a)
+joined : {c : Command} {d : List ℕ} {stores : Bool} {found : List ℕ} {st : Station} {ss : List Station} → Sits st × Sound st → Hushed c d st → Answering c d stores found ss → Answering c d stores found (st ∷ ss)
+joined s h (somebody o) = somebody (that s o)
+joined s h (nobody-does a b) = nobody-does (also s a) (also h b)
 
 pub answering : (c : Command) (d : List ℕ) (stores : Bool) (found : List ℕ) {ss : List Station} → Different ss → All (λ (st : Station). Turned (Promised c d) c st × Sound st) ss → Answering c d stores found ss
-answering c d stores found nobody none = nobody-does none
+answering c d stores found nobody none = nobody-does none none
 answering c d stores found (another h hs) (also {x = st} (speaks r z a phase p q, s) ts) =
     somebody (this (talks r 0 0 Next true phase p f-next refl refl (omega arith) (λ _. (refl, refl)) (omega arith) q a, s) (others-sit (st .unit .own) (spoken-code (st .unit .own) p z a) h ts))
-answering c d stores found (another h hs) (also (silent phase q, s) ts) = joined ((phase, q), s) (answering c d stores found hs ts)
+answering c d stores found (another h hs) (also {x = st} (silent phase q why, s) ts) = joined ((phase, q), s) (hushed st why) (answering c d stores found hs ts)

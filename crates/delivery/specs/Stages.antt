@@ -26,7 +26,7 @@ use Rattle.line.specs.declared.Sender.the-variants.{Next, Placed, Kept}
 use Rattle.message.specs.Nibbles.{nibbleIn}
 use Rattle.phase.specs.declared.Phase.the-variants.{Idle, Selecting, Receiving, Responding, SittingOut}
 use Rattle.phase.specs.declared.Progress.the-variants.{Answered}
-use Rattle.reply.specs.Reply.{replyStatus}
+use Rattle.reply.specs.Reply.{replyStatus, isSilent}
 use Rattle.ring.specs.Ring.{live}
 use Rattle.ring.specs.declared.Entry.{Entry}
 use Rattle.ring.specs.declared.Ring.{Ring}
@@ -37,7 +37,7 @@ use Rattle.whole.specs.Back.{responseFor, takenAt, storedAt, lengthOf, received
 use Rattle.whole.specs.Whole.{bytesFor, Sent}
 use Rattle.delivery.specs.Heard.{Fits, Heard}
 use Rattle.delivery.specs.Lists.{All, One}
-use Rattle.delivery.specs.Promised.{Promised, dataFor}
+use Rattle.delivery.specs.Promised.{Promised, dataFor, replyFor}
 use Rattle.delivery.specs.World.{World, Busy, levels, round, Different}
 
 -- The memory that a unit's calls are lent: room for a command, and 256 bytes for its input.
@@ -78,6 +78,12 @@ pub data Part (P : Reply → Serial → List ℕ → Type 0) (c : Command) (d : 
 -- A unit that sits out.
 abbrev pub Sits : Station → Type 0
 Sits st = (st .unit .phase ≡ SittingOut false) × (st .unit .asking ≡ false)
+
+-- A unit that has no response to give: the command does not address it, or silence is defined for the state in which it took the last
+-- nibble.
+pub data Hushed (c : Command) (d : List ℕ) (st : Station) : Type 0 where
+  not-its-own : addressed c (st .unit .own) ≡ false → Hushed c d st
+  by-the-rule : (given : Serial) → isSilent (replyFor given c d) ≡ true → Hushed c d st
 
 -- How long HSK may have been seen high, by where the sender is.
 abbrev pub Quiet : Sender → ℕ → Type 0
@@ -135,6 +141,7 @@ pub data InFrame (f : Frame) (found : List ℕ) : World → Type 0 where
       → InFrame f found (world timeout (Listening f ear taken quiet) ring units lent response)
   waits :
       (quiet : ℕ) {timeout : ℕ} {ring : Ring} {units : List Station} {lent : List ℕ} → Framed f lent found timeout → Different units → All (λ (st : Station). Sits st × Sound st) units
+      → All (Hushed (f .command) (dataOf f lent)) units
       → InFrame f found (world timeout (Listening f Ready nothingTaken quiet) ring units lent found)
 
 -- What a round of it comes to.
@@ -152,6 +159,7 @@ pub data Goes (f : Frame) (found : List ℕ) (w : World) (busy : Busy) : Type 0 
       → Goes f found w busy
   unanswered :
       Finishes w busy → movedIn w busy ≡ over f nothingTaken → round w busy .response ≡ found → Different (round w busy .units) → All (λ (st : Station). Sits st × Sound st) (round w busy .units)
+      → All (Hushed (f .command) (dataOf f (w .lent))) (round w busy .units)
       → Goes f found w busy
 
 -- Codes of a ring are bytes.
