@@ -1,20 +1,19 @@
 -- A host call in mid-frame leaves every stage as it is: a unit's host reaches its state and its queues, and nothing of its lines.
-use Prim.Native.Nat.{ℕ, zero, suc, _+_, _-_, _*_, _%_, _<_, _≤_, min}
+use Prim.Native.Nat.{ℕ, zero, suc, _+_, _-_, _%_, _<_, _≤_}
 use native.Mathlib.Nat.{min-eq-left, add-zero}
 use native.Mathlib.Omega.{arith}
 use mathlib.Core.Path.{_≡_, refl, sym, _∙_, ap, subst}
-use mathlib.Core.Bool.{Bool, true, false, cond}
+use mathlib.Core.Bool.{Bool, true, false}
 use mathlib.Core.List.{List, [], _∷_, _++_, append-nil}
 use borrow.Author.Tests.{eqb-false}
-use lib.Dec.{eqb, leb, ltb}
-use lib.ListN.{length, take, set, length-take}
+use lib.Dec.{eqb, leb}
+use lib.ListN.{length, take, set}
 use lib.Seq.{take-append-le}
 use Rattle.bus.specs.Bus.{unitAfter}
 use Rattle.bus.specs.declared.Station.{Station}
 use Rattle.field.specs.Field.{Below}
 use Rattle.header.specs.declared.Command.{Command}
-use Rattle.host.specs.Calls.{feeding, inputAfter, taking, takenBy, raising, isFed, withSerial, withInput}
-use Rattle.host.specs.declared.Taken.{Taken}
+use Rattle.host.specs.Calls.{feeding, takenBy, isFed, withSerial, withInput}
 use Rattle.message.specs.Answer.{Answer, gives, refused, kept}
 use Rattle.message.proofs.Fields.{below-set}
 use Rattle.queue.specs.Queue.{contents, held, room, queueWith, bytesWith, popped}
@@ -22,15 +21,14 @@ use Rattle.queue.specs.declared.Popped.{Popped}
 use Rattle.queue.specs.declared.Popped.the-variants.{Byte, Nothing}
 use Rattle.queue.specs.declared.Queue.{Queue}
 use Rattle.queue.proofs.Laws.{contents-with, held-with, length-with, length-contents}
-use Rattle.reply.specs.Reply.{replyLength, replyData, replyStatus}
+use Rattle.reply.specs.Reply.{replyLength, replyData}
 use Rattle.serial.specs.declared.Reply.{Reply}
 use Rattle.serial.specs.declared.Reply.the-variants.{Silent, Status, Opened, Bytes, Polled}
-use Rattle.serial.specs.declared.Serial.{Serial}
 use Rattle.unit.specs.declared.Unit.{Unit}
 use Rattle.delivery.specs.Stages.{Fresh, Part, Sits, Sound, Talk, addressed, answers, idles, listens, selects, sits, talks}
 use Rattle.delivery.specs.Calls.{HostCall, feeds, takes, raises, calledBy, calledAt, unitTaken}
 use Rattle.delivery.specs.Lists.{All, none, also, One, this, that}
-use Rattle.delivery.specs.Promised.{Promised, dataFor, Enough}
+use Rattle.delivery.specs.Promised.{Promised, Enough}
 use Rattle.answer.specs.declared.Response.{Response}
 use Rattle.line.specs.declared.Listener.{Listener}
 use Rattle.line.specs.declared.Sender.{Sender}

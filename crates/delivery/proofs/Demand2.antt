@@ -1,16 +1,16 @@
 -- Demand 2, from the rounds and calls of the stages.
-use Prim.Native.Nat.{ℕ, zero, suc, _+_, _*_, _<_, _≤_}
+use Prim.Native.Nat.{ℕ, _+_, _≤_}
 use native.Mathlib.Omega.{arith}
 use mathlib.Core.Path.{_≡_, refl, sym, _∙_, ap, subst}
 use mathlib.Core.Bool.{Bool, true, false, cond, true≢false, false≢true}
-use mathlib.Core.List.{List, []}
+use mathlib.Core.List.{List}
 use lib.Dec.{ltb}
 use lib.ListN.{length}
 use Rattle.answer.specs.declared.Response.{Response}
 use Rattle.bus.specs.Bus.{stationStep, unitAfter}
 use Rattle.bus.specs.declared.Station.{Station}
 use Rattle.controller.specs.Controller.{newController}
-use Rattle.frame.specs.Frame.{begun, dataOf}
+use Rattle.frame.specs.Frame.{dataOf}
 use Rattle.frame.specs.declared.Frame.{Frame}
 use Rattle.frame.specs.declared.Stage.{Stage}
 use Rattle.frame.specs.declared.Stage.the-variants.{Free, Resting, Waiting, Sending, Listening}
@@ -26,14 +26,12 @@ use Rattle.serial.specs.declared.Reply.{Reply}
 use Rattle.serial.specs.declared.Serial.{Serial}
 use Rattle.unit.specs.Unit.{lowStep, highStep}
 use Rattle.unit.specs.declared.Unit.{Unit}
-use Rattle.whole.specs.Whole.{bytesFor}
-use Rattle.delivery.specs.Calls.{Call, called}
 use Rattle.delivery.specs.Heard.{Fits, f-next, f-placed, f-holds, f-waits, Heard, h-none, h-first, h-byte, h-half}
-use Rattle.delivery.specs.Lists.{All, none, also, One, this, that}
+use Rattle.delivery.specs.Lists.{All, none}
 use Rattle.delivery.specs.Promised.{Promised}
 use Rattle.delivery.specs.Stages.{Sound, addressed, Talk, talks, Part, listens, answers, sits, InFrame, begins, sends, hears, waits, Fresh, idles, selects, On, AtRest, is-free, is-resting, rests, submitted, ended, runs}
-use Rattle.delivery.specs.World.{World, Busy, levels, round}
-use Rattle.delivery.specs.Demand2.{New, QuietStart, Run, start, a-round, a-call, Runs, Frames, FramesCalled, Delivered, listening, whole, sitting, Delivery, Untouched, NobodyElse}
+use Rattle.delivery.specs.World.{World, levels}
+use Rattle.delivery.specs.Demand2.{New, QuietStart, start, a-round, a-call, Runs, Frames, FramesCalled, Delivered, listening, whole, sitting, Delivery, Untouched, NobodyElse}
 use Rattle.delivery.proofs.Frame.{frame-round}
 use Rattle.delivery.proofs.Lists.{all-map, one-all}
 use Rattle.delivery.proofs.Rest.{on-round}

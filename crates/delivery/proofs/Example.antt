@@ -3,16 +3,14 @@ use Prim.Native.Nat.{ℕ, zero, suc}
 use native.Mathlib.Omega.{arith}
 use mathlib.Core.Path.{_≡_, refl}
 use mathlib.Core.Bool.{false}
-use mathlib.Core.List.{[]}
 use Rattle.bus.specs.Bus.{newStation}
-use Rattle.bus.specs.declared.Station.{Station}
 use Rattle.message.proofs.Fields.{zeros-below}
 use Rattle.unit.specs.Unit.{newUnit}
 use Rattle.delivery.specs.Demand2.{New, QuietStart, Run, start, a-round, a-call}
 use Rattle.delivery.specs.Calls.{Call, called}
-use Rattle.delivery.specs.Example.{quietBus, rounds, opens, writes, feedsOne, feedsTwo, reads, enables, raisesOne, opened, written, fed, read, enabled, polled, nulled, Story, Meets}
-use Rattle.delivery.specs.Lists.{All, none, also}
-use Rattle.delivery.specs.World.{World, Different, nobody, another}
+use Rattle.delivery.specs.Example.{quietBus, rounds, opens, writes, feedsOne, feedsTwo, reads, enables, raisesOne, opened, written, fed, read, enabled, polled, Story, Meets}
+use Rattle.delivery.specs.Lists.{none, also}
+use Rattle.delivery.specs.World.{World, nobody, another}
 
 pub story : Story
 story = refl

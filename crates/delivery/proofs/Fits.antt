@@ -1,8 +1,8 @@
 -- Every reply fits the buffer length field, and stands though the effects of its command have happened.
-use Prim.Native.Nat.{ℕ, zero, suc, _+_, _/_, _%_, _<_, _≤_, min}
+use Prim.Native.Nat.{ℕ, zero, suc, _/_, _%_, _<_, _≤_, min}
 use native.Mathlib.Nat.{min-le-left, min-le-right, le-trans}
 use native.Mathlib.Omega.{arith}
-use mathlib.Core.Path.{_≡_, refl, sym, _∙_, ap, subst}
+use mathlib.Core.Path.{_≡_, refl, sym, _∙_, ap}
 use mathlib.Core.Bool.{Bool, true, false, cond, _&&_}
 use mathlib.Core.List.{List, [], _∷_}
 use borrow.Author.Tests.{ltb-false}
@@ -12,9 +12,8 @@ use Rattle.field.specs.Field.{Below, valueOf}
 use Rattle.header.specs.declared.Command.{Command}
 use Rattle.message.proofs.Fields.{below-take}
 use Rattle.queue.specs.Queue.{held, from, contents, room}
-use Rattle.queue.specs.declared.Queue.{Queue}
 use Rattle.queue.proofs.Laws.{length-contents, held-below}
-use Rattle.reply.specs.Reply.{replyLength, replyStatus, replyData}
+use Rattle.reply.specs.Reply.{replyLength, replyStatus}
 use Rattle.serial.specs.Serial.{applied}
 use Rattle.serial.specs.declared.Effect.{Effect}
 use Rattle.serial.specs.declared.Effect.the-variants.{Keeps, Opens, Closes, Resets, Enables, Disables, Stores}
@@ -22,10 +21,9 @@ use Rattle.serial.specs.declared.Mode.{Mode}
 use Rattle.serial.specs.declared.Mode.the-variants.{Input, Output, Update}
 use Rattle.serial.specs.declared.Opening.{Opening}
 use Rattle.serial.specs.declared.Opening.the-variants.{Closed, OpenFor}
-use Rattle.serial.specs.declared.Reply.{Reply}
 use Rattle.serial.specs.declared.Reply.the-variants.{Silent, Status, Opened, Bytes, Polled}
 use Rattle.serial.specs.declared.Serial.{Serial}
-use Rattle.verdict.specs.Verdict.{says, status, modeOf, acceptedOf, openBy, readBy, writeBy, openedBy, pollBy, closedBy, commandBy, supported, verdictOf}
+use Rattle.verdict.specs.Verdict.{says, modeOf, acceptedOf, openBy, readBy, writeBy, openedBy, pollBy, commandBy, supported, verdictOf}
 use Rattle.verdict.specs.declared.Verdict.{Verdict}
 use Rattle.whole.specs.Back.{Answered}
 use Rattle.delivery.specs.Promised.{dataFor, Enough}

@@ -1,53 +1,53 @@
 -- A frame from the round in which it begins: each round leads from one stage to the next, or ends the frame as the whole-message
 -- definition says.
-use Prim.Native.Nat.{ℕ, zero, suc, _+_, _-_, _*_, _/_, _<_, _≤_}
+use Prim.Native.Nat.{ℕ, suc, _+_, _-_, _*_, _/_, _<_, _≤_}
 use native.Mathlib.Omega.{arith}
 use mathlib.Core.Path.{_≡_, refl, sym, _∙_, ap, subst}
-use mathlib.Core.Bool.{Bool, true, false, cond, not, _&&_, _||_, true≢false, false≢true}
-use mathlib.Core.List.{List, [], _∷_}
-use borrow.Author.Tests.{lt-leb, le-leb, le-ltb, lt-ltb, ltb-true, ltb-false}
-use lib.Dec.{ltb, leb, eqb, lit<}
+use mathlib.Core.Bool.{Bool, true, false, cond, _||_}
+use mathlib.Core.List.{List}
+use borrow.Author.Tests.{le-ltb, ltb-true, ltb-false}
+use lib.Dec.{ltb, leb, lit<}
 use lib.ListN.{length, set, length-set}
-use Rattle.answer.specs.Answer.{nothingTaken, takenWith, bufferWith, byteBuffer, bodyBuffer, isData, isOver, statusOf, countOf}
+use Rattle.answer.specs.Answer.{nothingTaken, bufferWith, byteBuffer, bodyBuffer, isData}
 use Rattle.answer.specs.declared.Partial.{Partial}
 use Rattle.answer.specs.declared.Response.{Response}
 use Rattle.answer.specs.declared.Response.the-variants.{Taking, Complete, TooLarge}
 use Rattle.bus.specs.Bus.{levelsWith, stationStep, unitsAfter, unitAfter, isOdd}
 use Rattle.bus.specs.declared.Station.{Station}
-use Rattle.controller.specs.Calls.{stepping, ifLent, controllerStepped, bufferAfter}
-use Rattle.controller.specs.Controller.{controllerOf, isIdle, ringAfter, eventAfter, frameOf, controllerStep, eventIn}
+use Rattle.controller.specs.Calls.{controllerStepped, bufferAfter}
+use Rattle.controller.specs.Controller.{controllerOf, isIdle, ringAfter, frameOf}
 use Rattle.controller.specs.declared.Controller.{Controller}
 use Rattle.field.specs.Field.{byteFrom}
-use Rattle.frame.specs.Frame.{begun, dataOf, lastNibble, frameStep, frameBuffer, listeningStep, listeningBuffer, isSubmitted, stays, over, waited, lentAt, lentTo, nextNibble, sendingStep, nibbleOf, quietAfter}
+use Rattle.frame.specs.Frame.{begun, dataOf, lastNibble, frameBuffer, listeningBuffer, isSubmitted, stays, over, lentAt, lentTo, nextNibble}
 use Rattle.frame.specs.declared.Frame.{Frame}
 use Rattle.frame.specs.declared.Lent.the-variants.{Fits as AsLent}
 use Rattle.frame.specs.declared.Moved.{Moved}
 use Rattle.frame.specs.declared.Stage.{Stage}
-use Rattle.frame.specs.declared.Stage.the-variants.{Sending, Listening, Resting}
+use Rattle.frame.specs.declared.Stage.the-variants.{Sending, Listening}
 use Rattle.header.specs.declared.Command.{Command}
-use Rattle.line.specs.Line.{hearOf, takenOf, sendOf, sentOf, isReady}
+use Rattle.line.specs.Line.{takenOf, sendOf, sentOf}
 use Rattle.line.specs.declared.Lines.{Lines}
 use Rattle.line.specs.declared.Listener.{Listener}
 use Rattle.line.specs.declared.Listener.the-variants.{Ready}
 use Rattle.line.specs.declared.Sender.{Sender}
 use Rattle.line.specs.declared.Sender.the-variants.{Next}
-use Rattle.message.specs.Answer.{Answer, gives, refused, kept}
+use Rattle.message.specs.Answer.{gives, refused}
 use Rattle.message.specs.Nibbles.{nibbleIn}
 use Rattle.phase.specs.Phase.{phaseStep}
 use Rattle.phase.specs.declared.Phase.{Phase}
-use Rattle.phase.specs.declared.Phase.the-variants.{Idle, Selecting}
+use Rattle.phase.specs.declared.Phase.the-variants.{Selecting}
 use Rattle.ring.specs.declared.Ring.{Ring}
 use Rattle.unit.specs.Unit.{pullsHsk, pullsNibble, lowStep, highStep}
-use Rattle.whole.specs.Whole.{bytesFor, Sent}
+use Rattle.whole.specs.Whole.{bytesFor}
 use Rattle.whole.proofs.Whole.{length-bytes}
-use Rattle.delivery.specs.Stages.{Hushed, not-its-own, by-the-rule, addressed, Finishes, Framed, Fresh, Goes, InFrame, Part, Sends, Sits, Sound, Spoke, Talk, answered, begins, hears, idles, listens, movedIn, on, s-next, selects, sends, unanswered, waits, world}
+use Rattle.delivery.specs.Stages.{Hushed, not-its-own, by-the-rule, addressed, Framed, Fresh, Goes, InFrame, Part, Sends, Sits, Sound, Spoke, Talk, answered, begins, hears, idles, listens, movedIn, on, s-next, selects, sends, unanswered, waits, world}
 use Rattle.delivery.specs.Heard.{f-next, Heard, h-none}
-use Rattle.delivery.specs.Lists.{All, none, also, One, this, that}
+use Rattle.delivery.specs.Lists.{All, One}
 use Rattle.delivery.specs.Promised.{Promised}
 use Rattle.delivery.specs.World.{World, Busy, levels, round, Different, nobody, another}
 use Rattle.delivery.proofs.Lines.{hsk-high, bav-kept, nibble-kept}
-use Rattle.delivery.proofs.Lists.{all-map, all-zip, all-step}
-use Rattle.delivery.proofs.Listening.{hearing, Heard′, goes-on, comes-to-its-end, heard-nibble, units-heard, still-nibble, still-hsk, units-sit}
+use Rattle.delivery.proofs.Lists.{all-map, all-step}
+use Rattle.delivery.proofs.Listening.{Heard′, goes-on, comes-to-its-end, heard-nibble, units-heard, still-nibble, still-hsk, units-sit}
 use Rattle.delivery.proofs.Part.{Stepped, low-step}
 use Rattle.delivery.proofs.Stage.{sound-low, sends-on, sending, sent-nibble, units-rest, units-sent, units-over}
 use Rattle.delivery.proofs.Turned.{Answering, somebody, nobody-does, answering}

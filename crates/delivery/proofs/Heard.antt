@@ -1,20 +1,18 @@
 -- One sender and one listener, against one view of the lines; and what a unit that listens takes.
-use Prim.Native.Nat.{ℕ, zero, suc, _+_, _-_, _*_, _/_, _%_, _<_, _≤_}
+use Prim.Native.Nat.{ℕ, suc, _+_, _-_, _*_, _/_, _%_, _<_, _≤_}
 use native.Mathlib.Nat.{mod-eq-of-lt}
 use native.Mathlib.Omega.{arith}
-use mathlib.Core.Path.{_≡_, refl, sym, _∙_, ap, subst}
-use mathlib.Core.Bool.{Bool, true, false, cond, not, _||_, true≢false, false≢true}
-use mathlib.Core.List.{List, []}
-use borrow.Author.Tests.{lt-leb, le-leb}
+use mathlib.Core.Path.{_≡_, refl, _∙_, ap, subst}
+use mathlib.Core.Bool.{Bool, true, false, cond, _||_, true≢false, false≢true}
+use mathlib.Core.List.{List}
 use lib.Dec.{eqb}
 use lib.ListN.{length}
 use Rattle.field.specs.Field.{byteFrom}
-use Rattle.line.specs.Line.{sendOf, sentOf, hearOf, takenOf, isReady}
+use Rattle.line.specs.Line.{sendOf, sentOf, hearOf, takenOf}
 use Rattle.line.specs.declared.Lines.{Lines}
 use Rattle.line.specs.declared.Listener.{Listener}
-use Rattle.line.specs.declared.Listener.the-variants.{Ready, Holding, Waiting}
+use Rattle.line.specs.declared.Listener.the-variants.{Ready, Holding}
 use Rattle.line.specs.declared.Sender.{Sender}
-use Rattle.line.specs.declared.Sender.the-variants.{Next, Placed, Kept}
 use Rattle.phase.specs.Phase.{phaseStep, phaseBuffer, phaseOutput}
 use Rattle.phase.specs.declared.Phase.{Phase}
 use Rattle.phase.specs.declared.Phase.the-variants.{Selecting, Receiving, SittingOut}
@@ -22,12 +20,11 @@ use Rattle.serial.specs.declared.Serial.{Serial}
 use Rattle.header.specs.declared.Command.{Command}
 use Rattle.header.specs.declared.Header.{Header}
 use Rattle.message.specs.Nibbles.{nibbleIn}
-use Rattle.phase.specs.Phase.{partial, withByte, byteStep, byteBuffer, byteOutput, answered, stored, selected, isLast, bufferWith, moves}
+use Rattle.phase.specs.Phase.{partial, withByte, answered, stored, selected, isLast, bufferWith, moves}
 use Rattle.phase.specs.declared.Moved.{Moved}
-use Rattle.phase.specs.declared.Partial.{Partial}
-use Rattle.phase.specs.declared.Progress.the-variants.{Taking, Answered}
-use Rattle.whole.specs.Whole.{bytesFor, byteAt, headAt, bufferAt, headerFor, withData, storedOf, Sent}
-use Rattle.whole.proofs.Whole.{bytes-below, next-header, length-bytes, not-last, last, whole-header, whole-buffer, whole-data}
+use Rattle.phase.specs.declared.Progress.the-variants.{Taking}
+use Rattle.whole.specs.Whole.{bytesFor, byteAt, headAt, bufferAt, headerFor, withData, Sent}
+use Rattle.whole.proofs.Whole.{bytes-below, next-header, length-bytes, not-last, last, whole-header, whole-buffer}
 use Rattle.whole.proofs.Back.{low-nibble, high-nibble, byte-own}
 use Rattle.delivery.specs.Heard.{Fits, f-next, f-placed, f-holds, f-waits, Sees, Heard, h-none, h-first, h-byte, h-half}
 

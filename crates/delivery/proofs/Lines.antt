@@ -1,14 +1,12 @@
 -- What a list of units leaves on the lines.
-use Prim.Native.Nat.{ℕ, zero, suc, _+_, _*_, _/_, _%_, _<_, _≤_, min}
+use Prim.Native.Nat.{ℕ, _+_, _*_, _/_, _%_, _<_, min}
 use native.Mathlib.Nat.{min-eq-left, min-comm, le-of-suc-le-suc, mod-lt}
-use native.Mathlib.Omega.{arith}
-use mathlib.Core.Path.{_≡_, refl, sym, _∙_, ap}
-use mathlib.Core.Bool.{Bool, true, false, _||_, or-false, true≢false, false≢true}
+use mathlib.Core.Path.{_≡_, refl, _∙_, ap}
+use mathlib.Core.Bool.{Bool, true, false, _||_}
 use mathlib.Core.List.{List, [], _∷_}
 use lib.Dec.{lit<}
 use Rattle.bus.specs.Bus.{levelsWith}
 use Rattle.bus.specs.declared.Station.{Station}
-use Rattle.field.specs.Field.{digits, number}
 use Rattle.field.proofs.Laws.{number-digits}
 use Rattle.line.specs.Line.{wired, wiredNibble}
 use Rattle.line.specs.declared.Lines.{Lines}

@@ -1,41 +1,31 @@
 -- The lines while the controller listens: the one unit that responds is seen by all.
-use Prim.Native.Nat.{ℕ, zero, suc, _+_, _/_, _<_, _≤_}
-use native.Mathlib.Omega.{arith}
+use Prim.Native.Nat.{ℕ, _<_, _≤_}
 use mathlib.Core.Path.{_≡_, refl, sym, _∙_, ap, subst}
-use mathlib.Core.Bool.{Bool, true, false, cond, not, _&&_, _||_, or-false}
-use mathlib.Core.List.{List, [], _∷_}
+use mathlib.Core.Bool.{Bool, true, false, not, _&&_, _||_, or-false}
+use mathlib.Core.List.{List, _∷_}
 use lib.Dec.{lit<}
 use lib.ListN.{length}
 use Rattle.answer.specs.declared.Response.{Response}
 use Rattle.bus.specs.Bus.{levelsWith, stationStep, unitsAfter}
 use Rattle.bus.specs.declared.Station.{Station}
-use Rattle.frame.specs.Frame.{listeningStep, listeningBuffer, isSubmitted, stays, over}
+use Rattle.frame.specs.Frame.{listeningStep, listeningBuffer, isSubmitted, stays}
 use Rattle.frame.specs.declared.Frame.{Frame}
 use Rattle.frame.specs.declared.Moved.{Moved}
 use Rattle.frame.specs.declared.Stage.the-variants.{Listening}
-use Rattle.answer.specs.declared.Response.the-variants.{Complete}
 use Rattle.header.specs.declared.Command.{Command}
 use Rattle.line.specs.Line.{wired, wiredNibble, listenerHsk, senderNibble}
 use Rattle.line.specs.declared.Lines.{Lines}
 use Rattle.line.specs.declared.Listener.{Listener}
 use Rattle.line.specs.declared.Sender.{Sender}
-use Rattle.message.specs.Nibbles.{nibbleIn}
 use Rattle.phase.specs.Phase.{phaseStep}
 use Rattle.phase.specs.declared.Phase.{Phase}
-use Rattle.phase.specs.declared.Phase.the-variants.{SittingOut}
-use Rattle.reply.specs.Reply.{replyStatus}
-use Rattle.serial.specs.Serial.{finished}
-use Rattle.serial.specs.declared.Reply.{Reply}
-use Rattle.serial.specs.declared.Serial.{Serial}
 use Rattle.unit.specs.Unit.{pullsOf, pullsHsk, pullsNibble}
-use Rattle.whole.specs.Back.{received}
-use Rattle.delivery.specs.Stages.{Sits, Sound, Spoke, Talk, answerBytes, answerData, spoke, talks}
+use Rattle.delivery.specs.Stages.{Sits, Sound, Spoke, Talk, answerBytes, spoke, talks}
 use Rattle.delivery.specs.Heard.{Fits, f-next, f-placed, f-holds, f-waits}
 use Rattle.delivery.specs.Lists.{All, none, also, One, this, that}
-use Rattle.delivery.specs.Promised.{Promised}
-use Rattle.delivery.proofs.Lines.{wired-free, free-wired, bav-kept, nibble-kept}
-use Rattle.delivery.proofs.Lists.{all-map, all-step, one-all, one-step}
-use Rattle.delivery.proofs.Part.{Stepped, low-step}
+use Rattle.delivery.proofs.Lines.{free-wired, bav-kept, nibble-kept}
+use Rattle.delivery.proofs.Lists.{all-map, all-step, one-step}
+use Rattle.delivery.proofs.Part.{low-step}
 use Rattle.delivery.proofs.Stage.{sound-low, nibble-below}
 use Rattle.delivery.proofs.Talk.{Talked, still, done, talk-step}
 

@@ -1,8 +1,7 @@
 -- Lists of units, of which all, or exactly one, have a property.
 use Prim.Native.Nat.{ℕ, _/_}
-use mathlib.Core.Path.{_≡_}
 use mathlib.Core.Bool.{Bool}
-use mathlib.Core.List.{List, [], _∷_}
+use mathlib.Core.List.{List}
 use Rattle.bus.specs.Bus.{stationStep, unitsAfter, isOdd}
 use Rattle.bus.specs.declared.Station.{Station}
 use Rattle.line.specs.declared.Lines.{Lines}

@@ -2,15 +2,15 @@
 use Prim.Native.Nat.{ℕ, zero, suc, _+_, _*_, _<_, _≤_}
 use native.Mathlib.Omega.{arith}
 use mathlib.Core.Path.{_≡_, refl, sym, _∙_, ap, subst}
-use mathlib.Core.Bool.{Bool, true, false, cond, not, _&&_, _||_, true≢false, false≢true}
+use mathlib.Core.Bool.{Bool, true, false, not, _&&_, true≢false, false≢true}
 use mathlib.Core.List.{List}
 use borrow.Author.Tests.{le-ltb, ltb-true, ltb-false}
-use lib.Dec.{ltb, eqb}
+use lib.Dec.{ltb}
 use lib.ListN.{length}
 use Rattle.bus.specs.Bus.{stationStep}
 use Rattle.bus.specs.declared.Station.{Station}
 use Rattle.header.specs.declared.Command.{Command}
-use Rattle.line.specs.Line.{sendOf, sentOf, hearOf, takenOf, isReady, listenerHsk}
+use Rattle.line.specs.Line.{sendOf, sentOf, hearOf, isReady, listenerHsk}
 use Rattle.line.specs.declared.Lines.{Lines}
 use Rattle.line.specs.declared.Listener.{Listener}
 use Rattle.line.specs.declared.Listener.the-variants.{Ready, Holding, Waiting}
@@ -19,8 +19,8 @@ use Rattle.line.specs.declared.Sender.the-variants.{Next, Placed, Kept}
 use Rattle.message.specs.Nibbles.{nibbleIn}
 use Rattle.phase.specs.Phase.{phaseStep, phaseBuffer, phaseOutput, answered, verdictOn}
 use Rattle.phase.specs.declared.Phase.{Phase}
-use Rattle.phase.specs.declared.Phase.the-variants.{Selecting, Receiving, Responding, SittingOut}
-use Rattle.phase.specs.declared.Progress.the-variants.{Taking, Answered}
+use Rattle.phase.specs.declared.Phase.the-variants.{Receiving, Responding, SittingOut}
+use Rattle.phase.specs.declared.Progress.the-variants.{Answered}
 use Rattle.reply.specs.Reply.{isSilent}
 use Rattle.serial.specs.declared.Reply.{Reply}
 use Rattle.serial.specs.declared.Serial.{Serial}
@@ -28,7 +28,7 @@ use Rattle.unit.specs.Unit.{pullsHsk, pullsNibble}
 use Rattle.whole.specs.Whole.{bytesFor, headerFor, withData, Sent}
 use Rattle.whole.proofs.Whole.{length-bytes}
 use Rattle.delivery.specs.Stages.{Part, addressed, answers, listens, sits}
-use Rattle.delivery.specs.Heard.{Fits, f-next, f-placed, f-holds, f-waits, Sees, Heard, h-none, h-first, h-byte, h-half}
+use Rattle.delivery.specs.Heard.{Fits, f-next, f-holds, f-waits, Sees, Heard, h-none, h-first, h-byte, h-half}
 use Rattle.delivery.proofs.Heard.{Pair, rests, takes, sends, pair, Round, Waits, waits, heard-waits, Takes, takes-it, Fixed, heard-takes, heard-last, heard-other}
 
 -- What a round with BAV seen low makes of a unit.

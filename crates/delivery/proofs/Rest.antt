@@ -1,50 +1,46 @@
 -- Between frames, and frame after frame: every round and every call of a run leads from one such world to the next.
-use Prim.Native.Nat.{ℕ, zero, suc, _+_, _-_, _*_, _/_, _<_, _≤_, min}
+use Prim.Native.Nat.{ℕ, zero, suc, _+_, _-_, _<_, _≤_}
 use native.Mathlib.Omega.{arith}
 use mathlib.Core.Path.{_≡_, refl, sym, _∙_, ap, subst}
-use mathlib.Core.Bool.{Bool, true, false, cond, not, _&&_, _||_, false≢true}
+use mathlib.Core.Bool.{Bool, true, false, cond, _||_, false≢true}
 use mathlib.Core.List.{List, [], _∷_, _++_}
-use borrow.Author.Tests.{le-ltb, lt-ltb, ltb-true, ltb-false, eqb-true, eqb-false}
-use lib.Dec.{ltb, leb, eqb, lit<}
+use borrow.Author.Tests.{le-ltb, ltb-true}
+use lib.Dec.{ltb, eqb, lit<}
 use lib.ListN.{length, getD, set, length-append, length-set}
 use Rattle.answer.specs.Answer.{nothingTaken, statusOf}
 use Rattle.answer.specs.declared.Response.{Response}
 use Rattle.answer.specs.declared.Response.the-variants.{Complete}
 use Rattle.reply.specs.Reply.{replyStatus}
-use Rattle.application.specs.Calls.{Done, done, submitting, isShutOut, withCommand, controllerSubmitted, acknowledging, withoutMark, controllerAcknowledged}
 use Rattle.bus.specs.Bus.{levelsWith, stationStep, unitsAfter}
 use Rattle.bus.specs.declared.Station.{Station}
-use Rattle.controller.specs.Controller.{controllerOf, isIdle, service, idleStep, ringAfter, frameOf}
+use Rattle.controller.specs.Controller.{controllerOf, ringAfter}
 use Rattle.controller.specs.Calls.{controllerStepped, bufferAfter}
-use Rattle.controller.specs.declared.Controller.{Controller}
 use Rattle.field.specs.Field.{Below}
-use Rattle.frame.specs.Frame.{begun, submittedFrame, pollOf, nullFrame, dataOf, isSubmitted, lentTo, over}
+use Rattle.frame.specs.Frame.{begun, pollOf, nullFrame, over}
 use Rattle.frame.specs.declared.Frame.{Frame}
 use Rattle.frame.specs.declared.Kind.{Kind}
 use Rattle.frame.specs.declared.Kind.the-variants.{Submitted, Poll, Null}
-use Rattle.frame.specs.declared.Lent.the-variants.{Fits as AsLent}
 use Rattle.frame.specs.declared.Moved.{Moved}
 use Rattle.frame.specs.declared.Stage.{Stage}
-use Rattle.frame.specs.declared.Stage.the-variants.{Free, Resting, Waiting, Sending, Listening}
+use Rattle.frame.specs.declared.Stage.the-variants.{Free, Resting, Waiting}
 use Rattle.header.specs.Header.{InRange}
 use Rattle.header.specs.declared.Command.{Command}
 use Rattle.line.specs.declared.Lines.{Lines}
-use Rattle.message.specs.Answer.{Answer, gives, refused, kept}
 use Rattle.phase.specs.declared.Phase.the-variants.{Idle}
-use Rattle.ring.specs.Ring.{none as nobody-there, counted, live, ringOf, placeOf, isIn, cutAt, joins, joined, removed, turned, withMark, isMarked, entryOf}
+use Rattle.ring.specs.Ring.{none as nobody-there, counted, live, ringOf, placeOf, isIn, cutAt, joins, joined, removed, turned, withMark, entryOf}
 use Rattle.ring.specs.declared.Entry.{Entry}
 use Rattle.ring.specs.declared.Ring.{Ring}
-use Rattle.ring.proofs.Laws.{live-ring, live-below, length-cut, cut-past}
-use Rattle.turn.specs.Turn.{turnOf, ringWith, ringBy, ringEnded}
-use Rattle.unit.specs.Unit.{pullsHsk, pullsNibble}
+use Rattle.ring.proofs.Laws.{live-ring, live-below}
+use Rattle.turn.specs.Turn.{turnOf, ringBy, ringEnded}
+use Rattle.unit.specs.Unit.{pullsNibble}
 use Rattle.whole.specs.Whole.{Sent}
 use Rattle.delivery.specs.Stages.{AtRest, Codes, Finishes, Framed, Fresh, Goes, InFrame, On, Sits, Sound, Spoke, answerData, answered, begins, ended, hears, idles, is-free, is-resting, movedIn, on, rests, runs, selects, sends, spoke, submitted, unanswered, waits, world}
-use Rattle.delivery.specs.Calls.{HostCall, Call, host, submits, acknowledges, calledAt, calledBy, called}
+use Rattle.delivery.specs.Calls.{host}
 use Rattle.delivery.specs.Lists.{All, none, also, One, this, that}
-use Rattle.delivery.specs.World.{World, Busy, levels, round, Different, nobody, another}
+use Rattle.delivery.specs.World.{World, Busy, round, Different}
 use Rattle.delivery.proofs.Lists.{all-map, all-step, one-all}
 use Rattle.delivery.proofs.Lines.{hsk-high, bav-high, nibble-kept}
-use Rattle.delivery.proofs.Part.{Stepped, low-step}
+use Rattle.delivery.proofs.Part.{low-step}
 use Rattle.delivery.proofs.Stage.{sound-low}
 use Rattle.delivery.proofs.Frame.{fresh-hsk, fresh-nibble, fresh-selects, frame-round, different-kept}
 

@@ -1,34 +1,31 @@
 -- Every call of a run, and every run from a quiet start.
 use Prim.Native.Nat.{ℕ, zero, suc, _<_, _≤_}
-use native.Mathlib.Omega.{arith}
 use mathlib.Core.Path.{_≡_, refl, sym, _∙_, ap, subst}
-use mathlib.Core.Bool.{Bool, true, false, cond}
-use mathlib.Core.List.{List, [], _∷_}
+use mathlib.Core.Bool.{Bool, true, false}
+use mathlib.Core.List.{List}
 use borrow.Author.Tests.{ltb-false, le-ltb, eq-eqb}
 use lib.Dec.{ltb, eqb}
 use lib.ListN.{length}
-use Rattle.application.specs.Calls.{Done, done, submitting, isShutOut, withCommand, controllerSubmitted, acknowledging, withoutMark, controllerAcknowledged}
+use Rattle.application.specs.Calls.{Done, done, submitting, isShutOut, withCommand, acknowledging, withoutMark}
 use Rattle.bus.specs.declared.Station.{Station}
-use Rattle.controller.specs.Controller.{controllerOf, isIdle}
-use Rattle.controller.specs.declared.Controller.{Controller}
+use Rattle.controller.specs.Controller.{isIdle}
 use Rattle.field.specs.Field.{Below}
-use Rattle.frame.specs.Frame.{submittedFrame, lentTo}
+use Rattle.frame.specs.Frame.{submittedFrame}
 use Rattle.frame.specs.declared.Frame.{Frame}
-use Rattle.frame.specs.declared.Lent.the-variants.{Fits as AsLent}
 use Rattle.frame.specs.declared.Stage.{Stage}
-use Rattle.frame.specs.declared.Stage.the-variants.{Free, Resting, Waiting, Sending, Listening}
+use Rattle.frame.specs.declared.Stage.the-variants.{Free, Resting, Waiting}
 use Rattle.header.specs.Header.{InRange}
 use Rattle.header.specs.declared.Command.{Command}
 use Rattle.message.specs.Answer.{Answer, gives, refused, kept}
 use Rattle.ring.specs.Ring.{live, isMarked, ringOf, withMark}
 use Rattle.ring.specs.declared.Ring.{Ring}
-use Rattle.delivery.specs.Stages.{Hushed, not-its-own, by-the-rule, addressed, AtRest, Codes, Framed, Fresh, InFrame, On, Sits, Sound, begins, ended, hears, is-free, is-resting, rests, runs, sends, submitted, waits, world}
+use Rattle.delivery.specs.Stages.{Hushed, not-its-own, by-the-rule, addressed, AtRest, Codes, Fresh, InFrame, On, Sound, begins, ended, hears, is-free, is-resting, rests, runs, sends, submitted, waits, world}
 use Rattle.delivery.specs.Calls.{HostCall, Call, host, submits, acknowledges, calledAt, calledBy, called}
-use Rattle.delivery.specs.Lists.{All, none, also, One, this, that}
-use Rattle.delivery.specs.World.{World, Busy, levels, round, Different, nobody, another}
-use Rattle.delivery.proofs.Calls.{Called, all-called, one-called, part-called, talk-called, sits-called, fresh-called, called as unit-called}
+use Rattle.delivery.specs.Lists.{All, none, also}
+use Rattle.delivery.specs.World.{World, Different, nobody, another}
+use Rattle.delivery.proofs.Calls.{all-called, one-called, part-called, talk-called, sits-called, fresh-called, called as unit-called}
 use Rattle.delivery.proofs.Lists.{all-map, one-all}
-use Rattle.delivery.proofs.Rest.{codes-marked, on-round}
+use Rattle.delivery.proofs.Rest.{codes-marked}
 
 -- Codes stay as they are: of units with sound memory.
 own-called : (call : HostCall) (st : Station) → Sound st → calledBy call st .unit .own ≡ st .unit .own

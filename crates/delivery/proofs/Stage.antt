@@ -1,49 +1,41 @@
 -- A frame round by round: where the controller is, where every unit is, and that each round leads from one such stage to the next.
-use Prim.Native.Nat.{ℕ, zero, suc, _+_, _-_, _*_, _/_, _%_, _<_, _≤_}
+use Prim.Native.Nat.{ℕ, suc, _+_, _-_, _*_, _/_, _%_, _<_}
 use native.Mathlib.Omega.{arith}
 use mathlib.Core.Path.{_≡_, refl, sym, _∙_, ap, subst}
-use mathlib.Core.Bool.{Bool, true, false, cond, not, _&&_, _||_, or-false, true≢false, false≢true}
-use mathlib.Core.List.{List, [], _∷_}
-use borrow.Author.Tests.{lt-leb, le-ltb, lt-ltb, ltb-true, ltb-false}
-use lib.Dec.{ltb, leb, eqb, lit<}
+use mathlib.Core.Bool.{Bool, true, false, cond, true≢false}
+use mathlib.Core.List.{List}
+use lib.Dec.{lit<}
 use lib.ListN.{length, getD, set, length-set}
-use Rattle.answer.specs.Answer.{nothingTaken}
-use Rattle.answer.specs.declared.Response.{Response}
-use Rattle.bus.specs.Bus.{levelsWith, stationStep, unitsAfter, isOdd}
+use Rattle.bus.specs.Bus.{levelsWith, stationStep, unitsAfter}
 use Rattle.bus.specs.declared.Station.{Station}
 use Rattle.field.specs.Field.{Below, byteFrom}
 use Rattle.field.proofs.Laws.{nibble-at, digits-below}
-use Rattle.frame.specs.declared.Frame.{Frame}
 use Rattle.header.specs.declared.Command.{Command}
-use Rattle.line.specs.Line.{takenOf, sendOf, sentOf, listenerHsk, senderHsk, senderNibble}
+use Rattle.line.specs.Line.{takenOf, sendOf, sentOf, senderHsk, senderNibble}
 use Rattle.line.specs.declared.Lines.{Lines}
 use Rattle.line.specs.declared.Listener.{Listener}
-use Rattle.line.specs.declared.Listener.the-variants.{Ready}
 use Rattle.line.specs.declared.Sender.{Sender}
 use Rattle.line.specs.declared.Sender.the-variants.{Next, Placed, Kept}
 use Rattle.message.specs.Nibbles.{nibbleIn}
-use Rattle.phase.specs.Phase.{phaseStep, phaseBuffer, takingBuffer, byteBuffer, bufferWith, isStored, withByte, answered, storedData}
+use Rattle.phase.specs.Phase.{phaseBuffer, takingBuffer, byteBuffer, bufferWith, isStored, withByte, answered, storedData}
 use Rattle.phase.specs.declared.Partial.{Partial}
 use Rattle.phase.specs.declared.Progress.the-variants.{Taking, Answered}
 use Rattle.phase.specs.declared.Phase.{Phase}
 use Rattle.phase.specs.declared.Phase.the-variants.{Idle, Selecting, Receiving, Responding, SittingOut}
-use Rattle.reply.specs.Reply.{replyLength, isSilent}
-use Rattle.serial.specs.Serial.{applied}
+use Rattle.reply.specs.Reply.{replyLength}
 use Rattle.serial.specs.declared.Reply.{Reply}
 use Rattle.serial.specs.declared.Serial.{Serial}
-use Rattle.unit.specs.Unit.{pullsOf, pullsHsk, pullsNibble}
+use Rattle.unit.specs.Unit.{pullsHsk}
 use Rattle.verdict.specs.Verdict.{verdictOf}
-use Rattle.verdict.specs.declared.Verdict.{Verdict}
-use Rattle.whole.specs.Whole.{bytesFor, headerFor, withData, storedOf, Sent}
+use Rattle.whole.specs.Whole.{bytesFor, headerFor, withData, Sent}
 use Rattle.whole.proofs.Whole.{whole-data, length-bytes}
-use Rattle.delivery.specs.Stages.{Part, Sends, Sound, addressed, answers, listens, s-kept, s-next, s-placed, sits}
-use Rattle.delivery.specs.Heard.{Fits, f-next, f-placed, f-holds, f-waits, Heard, h-none}
-use Rattle.delivery.specs.Lists.{All, none, also, One, this, that}
-use Rattle.delivery.specs.Promised.{Promised, dataFor, replyFor, Enough}
-use Rattle.delivery.proofs.Fits.{Good, good-verdict}
-use Rattle.delivery.proofs.Lines.{hsk-kept, bav-kept, hsk-high, bav-high, hsk-own, nibble-kept}
-use Rattle.delivery.proofs.Lists.{all-map, all-zip, one-all, all-step, one-step}
-use Rattle.delivery.proofs.Part.{Stepped, low-step, replyTo, Shows, part-high, part-free, part-rests, part-sent, part-over, Turned, speaks, silent}
+use Rattle.delivery.specs.Stages.{Part, Sends, Sound, s-kept, s-next, s-placed}
+use Rattle.delivery.specs.Lists.{All}
+use Rattle.delivery.specs.Promised.{Promised, dataFor, Enough}
+use Rattle.delivery.proofs.Fits.{good-verdict}
+use Rattle.delivery.proofs.Lines.{hsk-kept, bav-kept, hsk-high, hsk-own, nibble-kept}
+use Rattle.delivery.proofs.Lists.{all-map, all-zip, all-step}
+use Rattle.delivery.proofs.Part.{Stepped, low-step, replyTo, Shows, part-high, part-free, part-rests, part-sent, part-over, Turned}
 
 -- The promise of a reply, at the round in which it is fixed.
 pub promised : (c : Command) (d : List ℕ) (s t : Serial) (input input′ b : List ℕ) → Below 256 input → t ≡ answered s (headerFor c d) (withData d b) .serial → input′ ≡ input → Promised c d (replyTo s c d b) t input′

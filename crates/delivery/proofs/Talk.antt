@@ -1,26 +1,25 @@
 -- The unit that responds, beside the controller that listens.
 use Prim.Native.Nat.{ℕ, zero, suc, _+_, _-_, _*_, _<_, _≤_}
-use native.Mathlib.Nat.{add-zero}
 use native.Mathlib.Omega.{arith}
 use mathlib.Core.Path.{_≡_, refl, sym, _∙_, ap, subst}
-use mathlib.Core.Bool.{Bool, true, false, cond, not, _&&_, _||_, or-false, true≢false, false≢true}
+use mathlib.Core.Bool.{Bool, true, false, cond, not, _&&_, _||_, true≢false, false≢true}
 use mathlib.Core.List.{List}
 use borrow.Author.Tests.{lt-leb, ltb-true, ltb-false}
-use lib.Dec.{ltb, leb}
+use lib.Dec.{ltb}
 use lib.ListN.{length}
-use Rattle.answer.specs.Answer.{nothingTaken, takenWith, bufferWith, isOver, statusOf, countOf}
+use Rattle.answer.specs.Answer.{takenWith, bufferWith, isOver}
 use Rattle.answer.specs.declared.Response.{Response}
 use Rattle.answer.specs.declared.Response.the-variants.{Complete}
 use Rattle.bus.specs.declared.Station.{Station}
 use Rattle.frame.specs.Frame.{listeningStep, listeningBuffer, over, stays, waited, quietAfter, isSubmitted}
 use Rattle.frame.specs.declared.Frame.{Frame}
 use Rattle.frame.specs.declared.Moved.{Moved}
-use Rattle.frame.specs.declared.Stage.the-variants.{Listening, Resting}
+use Rattle.frame.specs.declared.Stage.the-variants.{Listening}
 use Rattle.header.specs.declared.Command.{Command}
 use Rattle.line.specs.Line.{sendOf, sentOf, hearOf, takenOf, isReady, listenerHsk, senderHsk, senderNibble}
 use Rattle.line.specs.declared.Lines.{Lines}
 use Rattle.line.specs.declared.Listener.{Listener}
-use Rattle.line.specs.declared.Listener.the-variants.{Ready, Holding, Waiting}
+use Rattle.line.specs.declared.Listener.the-variants.{Ready, Holding}
 use Rattle.line.specs.declared.Sender.{Sender}
 use Rattle.line.specs.declared.Sender.the-variants.{Next, Placed, Kept}
 use Rattle.message.specs.Nibbles.{nibbleIn}
@@ -29,12 +28,12 @@ use Rattle.phase.specs.declared.Moved.{Moved as Step}
 use Rattle.phase.specs.declared.Phase.{Phase}
 use Rattle.phase.specs.declared.Phase.the-variants.{Responding, SittingOut}
 use Rattle.queue.specs.Queue.{contents}
-use Rattle.reply.specs.Reply.{replyStatus, replyData, responseBytes, lastNibble, replyLength}
+use Rattle.reply.specs.Reply.{replyStatus, responseBytes, lastNibble, replyLength}
 use Rattle.serial.specs.Serial.{finished}
 use Rattle.serial.specs.declared.Reply.{Reply}
 use Rattle.serial.specs.declared.Serial.{Serial}
 use Rattle.unit.specs.Unit.{pullsHsk, pullsNibble}
-use Rattle.whole.specs.Back.{responseFor, takenAt, storedAt, lengthOf, received, Answered}
+use Rattle.whole.specs.Back.{responseFor, takenAt, storedAt, lengthOf, received}
 use Rattle.whole.proofs.Back.{response-completes, not-over-before, data-received}
 use Rattle.delivery.specs.Stages.{addressed, Quiet, Talk, answerBytes, answerData, talks}
 use Rattle.delivery.specs.Heard.{Fits, f-next, f-placed, f-holds, f-waits, Sees}

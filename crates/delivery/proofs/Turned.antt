@@ -1,9 +1,9 @@
 -- When the command is whole, at most one unit responds: the one whose code it carries. To code 0 nobody does.
-use Prim.Native.Nat.{ℕ, zero, suc, _+_, _*_, _<_, _≤_}
+use Prim.Native.Nat.{ℕ, zero}
 use native.Mathlib.Omega.{arith}
-use mathlib.Core.Path.{_≡_, refl, sym, _∙_, ap, subst}
-use mathlib.Core.Bool.{Bool, true, false, cond, _||_, true≢false, false≢true}
-use mathlib.Core.List.{List, [], _∷_}
+use mathlib.Core.Path.{_≡_, refl, sym, _∙_, ap}
+use mathlib.Core.Bool.{Bool, true, false, cond, _||_, true≢false}
+use mathlib.Core.List.{List, _∷_}
 use borrow.Author.Tests.{eq-eqb, eqb-true}
 use lib.Dec.{ltb, eqb}
 use lib.ListN.{length}
@@ -12,22 +12,19 @@ use Rattle.bus.specs.declared.Station.{Station}
 use Rattle.header.specs.declared.Command.{Command}
 use Rattle.line.specs.declared.Listener.the-variants.{Ready}
 use Rattle.line.specs.declared.Sender.the-variants.{Next}
-use Rattle.phase.specs.declared.Phase.the-variants.{SittingOut}
 use Rattle.reply.specs.Reply.{isSilent}
 use Rattle.serial.specs.declared.Effect.the-variants.{Keeps, Resets}
 use Rattle.serial.specs.declared.Reply.{Reply}
 use Rattle.serial.specs.declared.Reply.the-variants.{Silent}
 use Rattle.serial.specs.declared.Serial.{Serial}
-use Rattle.verdict.specs.Verdict.{says, verdictOf, supported, status, commandBy}
+use Rattle.verdict.specs.Verdict.{says, supported, status, commandBy}
 use Rattle.verdict.specs.declared.Verdict.{Verdict}
 use Rattle.whole.specs.Whole.{storedOf}
-use Rattle.whole.specs.Back.{lengthOf}
 use Rattle.delivery.specs.Stages.{Hushed, not-its-own, by-the-rule, Sits, Sound, Talk, addressed, talks}
 use Rattle.delivery.specs.Heard.{f-next}
 use Rattle.delivery.specs.Lists.{All, none, also, One, this, that}
 use Rattle.delivery.specs.Promised.{Promised, replyFor}
 use Rattle.delivery.specs.World.{Different, nobody, another}
-use Rattle.delivery.proofs.Lists.{all-map}
 use Rattle.delivery.proofs.Part.{Turned, speaks, silent, Hush, not-mine, ruled}
 
 -- To code 0 there is silence.

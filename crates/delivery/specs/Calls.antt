@@ -3,7 +3,7 @@
 use Prim.Native.Nat.{ℕ, zero, suc, _<_}
 use mathlib.Core.List.{List, [], _∷_}
 use lib.ListN.{length}
-use Rattle.application.specs.Calls.{Done, submitting, controllerSubmitted, controllerAcknowledged}
+use Rattle.application.specs.Calls.{submitting, controllerSubmitted, controllerAcknowledged}
 use Rattle.bus.specs.Bus.{unitAfter}
 use Rattle.bus.specs.declared.Station.{Station}
 use Rattle.field.specs.Field.{Below}
@@ -12,7 +12,7 @@ use Rattle.header.specs.declared.Command.{Command}
 use Rattle.host.specs.Calls.{feeding, inputAfter, taking, raising}
 use Rattle.host.specs.declared.Taken.{Taken}
 use Rattle.host.specs.declared.Taken.the-variants.{Byte, Nothing}
-use Rattle.message.specs.Answer.{Answer, gives, refused, kept}
+use Rattle.message.specs.Answer.{kept}
 use Rattle.unit.specs.declared.Unit.{Unit}
 use Rattle.delivery.specs.World.{World}
 

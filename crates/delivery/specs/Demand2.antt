@@ -2,26 +2,23 @@
 -- reaches the addressed unit once and in order; code 0 addresses all. That unit gives the one response defined for its state, or the
 -- defined silence. No other unit's opening, queues, enabling or request is changed by the frame."
 -- The statements; `proofs/Demand2.antt` proves them. Where the parties can be is in `Stages`, the bus in `World` and `Calls`.
-use Prim.Native.Nat.{ℕ, suc, _+_, _*_, _<_, _≤_}
+use Prim.Native.Nat.{ℕ, suc, _*_, _≤_}
 use mathlib.Core.Path.{_≡_}
 use mathlib.Core.Bool.{Bool, true, false}
 use mathlib.Core.List.{List}
 use lib.ListN.{length}
 use Rattle.bus.specs.Bus.{stationStep}
 use Rattle.bus.specs.declared.Station.{Station}
-use Rattle.controller.specs.Calls.{stepping}
 use Rattle.controller.specs.Controller.{newController}
-use Rattle.frame.specs.Frame.{begun, dataOf}
+use Rattle.frame.specs.Frame.{dataOf}
 use Rattle.frame.specs.declared.Frame.{Frame}
 use Rattle.frame.specs.declared.Stage.the-variants.{Sending}
 use Rattle.header.specs.declared.Command.{Command}
 use Rattle.line.specs.declared.Listener.{Listener}
 use Rattle.line.specs.declared.Sender.{Sender}
-use Rattle.message.specs.Answer.{gives}
 use Rattle.phase.specs.declared.Phase.the-variants.{Receiving, SittingOut}
 use Rattle.phase.specs.declared.Progress.the-variants.{Answered}
 use Rattle.serial.specs.declared.Reply.{Reply}
-use Rattle.turn.specs.declared.Event.{Event}
 use Rattle.unit.specs.Unit.{newUnit}
 use Rattle.whole.specs.Whole.{bytesFor}
 use Rattle.delivery.specs.Calls.{Call, called}

@@ -4,7 +4,6 @@ use Prim.Native.Nat.{ℕ, zero, suc, _<_}
 use mathlib.Core.Bool.{Bool, true, false}
 use mathlib.Core.List.{List, [], _∷_}
 use lib.Dec.{lit<}
-use lib.ListN.{replicate}
 use Rattle.bus.specs.Bus.{newStation}
 use Rattle.controller.specs.Controller.{newController}
 use Rattle.field.specs.Field.{Below}
@@ -27,8 +26,8 @@ use Rattle.ring.specs.declared.Entry.{Entry}
 use Rattle.serial.specs.declared.Serial.{Serial}
 use Rattle.header.specs.declared.Command.{Command}
 use Rattle.unit.specs.Unit.{newUnit}
-use Rattle.delivery.specs.Calls.{Call, host, submits, acknowledges, feeds, raises, called}
-use Rattle.delivery.specs.World.{World, Busy, round}
+use Rattle.delivery.specs.Calls.{Call, host, submits, feeds, raises, called}
+use Rattle.delivery.specs.World.{World, round}
 
 abbrev pub quietBus : World
 quietBus = record { controller = newController 8; units = newStation (newUnit 20 4) ∷ newStation (newUnit 21 4) ∷ []; lent = []; response = [] }

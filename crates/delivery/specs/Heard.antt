@@ -1,5 +1,5 @@
 -- Document 01, "Lines and rounds": which sender and listener go together, and what a unit that listens has taken of a command.
-use Prim.Native.Nat.{ℕ, zero, suc, _+_, _*_, _%_, _<_, _≤_}
+use Prim.Native.Nat.{ℕ, suc, _*_, _%_, _<_, _≤_}
 use mathlib.Core.Path.{_≡_}
 use mathlib.Core.Bool.{Bool, true, false}
 use mathlib.Core.List.{List}
@@ -9,7 +9,6 @@ use Rattle.line.specs.declared.Listener.the-variants.{Ready, Holding, Waiting}
 use Rattle.line.specs.declared.Sender.{Sender}
 use Rattle.line.specs.declared.Sender.the-variants.{Next, Placed, Kept}
 use Rattle.phase.specs.Phase.{partial}
-use Rattle.phase.specs.declared.Partial.{Partial}
 use Rattle.phase.specs.declared.Phase.{Phase}
 use Rattle.phase.specs.declared.Phase.the-variants.{Selecting, Receiving}
 use Rattle.phase.specs.declared.Progress.the-variants.{Taking}

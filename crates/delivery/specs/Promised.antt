@@ -11,7 +11,6 @@ use Rattle.serial.specs.declared.Reply.{Reply}
 use Rattle.serial.specs.declared.Reply.the-variants.{Silent, Status, Opened, Bytes, Polled}
 use Rattle.serial.specs.declared.Serial.{Serial}
 use Rattle.verdict.specs.Verdict.{verdictOf}
-use Rattle.verdict.specs.declared.Verdict.{Verdict}
 use Rattle.whole.specs.Back.{Answered}
 use Rattle.whole.specs.Whole.{storedOf}
 

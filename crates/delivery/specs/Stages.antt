@@ -1,6 +1,6 @@
 -- Where every party of demand 2's bus can be: between frames, and in each stretch of a frame. The statements of `Demand2` say that a run
 -- from a quiet start is never anywhere else, and what each stretch means.
-use Prim.Native.Nat.{ℕ, zero, suc, _+_, _*_, _<_, _≤_}
+use Prim.Native.Nat.{ℕ, suc, _+_, _*_, _<_, _≤_}
 use mathlib.Core.Path.{_≡_}
 use mathlib.Core.Bool.{Bool, true, false, _||_}
 use mathlib.Core.List.{List}

@@ -4,16 +4,15 @@ use native.Mathlib.Nat.{not-suc-le-zero, le-of-suc-le-suc}
 use native.Mathlib.Omega.{arith}
 use mathlib.Core.Path.{_≡_, refl, sym, _∙_, ap, subst}
 use mathlib.Core.Bool.{Bool, true, false, cond}
-use mathlib.Core.List.{List, [], _∷_, _++_, append-nil}
-use borrow.Author.Tests.{lt-ltb, le-ltb, eq-eqb, ne-eqb}
-use lib.Dec.{ltb, eqb, lit<}
-use lib.ListN.{length, getD, set, take, drop, length-append}
-use lib.Seq.{take-length, length-take-le}
-use Rattle.answer.specs.Answer.{partial, halfTaken, nothingTaken, takenWith, byteTaken, byteBuffer, bufferWith, isOver}
-use Rattle.answer.specs.declared.Partial.{Partial}
+use mathlib.Core.List.{List, [], _∷_, _++_}
+use borrow.Author.Tests.{lt-ltb, le-ltb}
+use lib.Dec.{ltb}
+use lib.ListN.{length, getD, set, take, drop}
+use lib.Seq.{take-length}
+use Rattle.answer.specs.Answer.{partial, halfTaken, takenWith, byteTaken, byteBuffer, bufferWith, isOver}
 use Rattle.answer.specs.declared.Response.{Response}
 use Rattle.answer.specs.declared.Response.the-variants.{Taking, Complete, TooLarge}
-use Rattle.field.specs.Field.{byteFrom, nibbleOf, Below}
+use Rattle.field.specs.Field.{byteFrom}
 use Rattle.field.proofs.Laws.{nibble-at}
 use Rattle.message.proofs.Lists.{copy-next}
 use Rattle.message.specs.Nibbles.{nibbleIn}

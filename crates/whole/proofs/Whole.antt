@@ -1,22 +1,22 @@
 -- Nine bytes are the header, whatever stood there; the bytes behind it are the data, each at its place.
-use Prim.Native.Nat.{ℕ, zero, suc, _+_, _-_, _/_, _%_, _<_, _≤_}
-use native.Mathlib.Nat.{add-zero, add-suc, not-suc-le-zero, le-of-suc-le-suc}
+use Prim.Native.Nat.{ℕ, zero, suc, _+_, _-_, _<_, _≤_}
+use native.Mathlib.Nat.{not-suc-le-zero, le-of-suc-le-suc}
 use native.Mathlib.Omega.{arith}
 use mathlib.Core.Path.{_≡_, refl, sym, _∙_, ap, subst}
 use mathlib.Core.Bool.{Bool, true, false, cond}
 use mathlib.Core.List.{List, [], _∷_, _++_, append-nil}
 use borrow.Author.Tests.{lt-ltb, le-leb, lt-leb, ltb-true, ltb-false}
 use lib.Dec.{ltb, lit<}
-use lib.ListN.{length, getD, set, take, drop, replicate, length-append, length-set}
-use lib.Seq.{take-at, take-suc, take-length, set-out, length-take-le}
+use lib.ListN.{length, getD, set, take, drop, length-set}
+use lib.Seq.{take-at, take-length, set-out, length-take-le}
 use Rattle.header.specs.Header.{headerBytes, headerIn}
 use Rattle.header.specs.declared.Command.{Command}
 use Rattle.header.specs.declared.Header.{Header}
-use Rattle.header.proofs.Laws.{Holds, holds-with, header-own}
+use Rattle.header.proofs.Laws.{holds-with, header-own}
 use Rattle.field.specs.Field.{Below}
 use Rattle.message.proofs.Fields.{below-set, zeros-below}
 use Rattle.phase.specs.Phase.{bufferWith, withByte}
-use Rattle.whole.specs.Whole.{bytesFor, byteAt, frontAt, headAt, bufferAt, withData, headerFor, Sent, Bytes, NextHeader, WholeHeader, Length, NotLast, Last, WholeBuffer, WholeData}
+use Rattle.whole.specs.Whole.{bytesFor, byteAt, frontAt, headAt, bufferAt, headerFor, Sent, Bytes, NextHeader, WholeHeader, Length, NotLast, Last, WholeBuffer, WholeData}
 
 -- Nine and i more.
 abbrev nine : ℕ → ℕ

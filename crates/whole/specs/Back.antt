@@ -2,8 +2,8 @@
 -- whole response that it comes to. `proofs/Back.antt` proves the statements.
 use Prim.Native.Nat.{ℕ, zero, suc, _+_, _*_, _<_, _≤_}
 use mathlib.Core.Path.{_≡_}
-use mathlib.Core.Bool.{Bool, true, false, cond}
-use mathlib.Core.List.{List, [], _++_}
+use mathlib.Core.Bool.{Bool, false, cond}
+use mathlib.Core.List.{List, _++_}
 use lib.ListN.{length, drop}
 use Rattle.answer.specs.Answer.{nothingTaken, takenWith, bufferWith, isOver}
 use Rattle.answer.specs.declared.Response.{Response}

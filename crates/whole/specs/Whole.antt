@@ -1,8 +1,8 @@
 -- Document 01, "Lines and rounds" and "The serial peripheral": what a unit has taken of a command, byte by byte, the lines aside, and
 -- the whole command that it comes to. `proofs/Whole.antt` proves the statements.
-use Prim.Native.Nat.{ℕ, zero, suc, _+_, _%_, _<_, _≤_}
+use Prim.Native.Nat.{ℕ, zero, suc, _+_, _<_, _≤_}
 use mathlib.Core.Path.{_≡_}
-use mathlib.Core.Bool.{Bool, true, false, cond}
+use mathlib.Core.Bool.{true, false, cond}
 use mathlib.Core.List.{List, [], _++_}
 use lib.Dec.{ltb}
 use lib.ListN.{length, getD, set, drop, replicate}
