@@ -1,10 +1,10 @@
 -- Demand 2, from the rounds and calls of the stages.
-use Prim.Native.Nat.{ℕ, _+_, _≤_}
+use Prim.Native.Nat.{ℕ, _+_, _<_, _≤_}
 use native.Mathlib.Omega.{arith}
 use mathlib.Core.Path.{_≡_, refl, sym, _∙_, ap, subst}
 use mathlib.Core.Bool.{Bool, true, false, cond, true≢false, false≢true}
 use mathlib.Core.List.{List}
-use lib.Dec.{ltb}
+use lib.Dec.{ltb, lit<}
 use lib.ListN.{length}
 use Rattle.answer.specs.declared.Response.{Response}
 use Rattle.bus.specs.Bus.{stationStep, unitAfter}
@@ -32,6 +32,22 @@ use Rattle.delivery.specs.Promised.{Promised}
 use Rattle.delivery.specs.Stages.{Sound, addressed, Talk, talks, Part, listens, answers, sits, InFrame, begins, sends, hears, waits, Fresh, idles, selects, On, AtRest, is-free, is-resting, rests, submitted, ended, runs}
 use Rattle.delivery.specs.World.{World, levels}
 use Rattle.delivery.specs.Demand2.{New, QuietStart, start, a-round, a-call, Runs, Frames, FramesCalled, Delivered, listening, whole, sitting, Delivery, Untouched, NobodyElse}
+use borrow.Author.Tests.{le-ltb}
+use Rattle.controller.specs.Calls.{stepping}
+use Rattle.controller.specs.Controller.{eventIn}
+use Rattle.frame.specs.Frame.{lentAt, lentTo, pullsOf}
+use Rattle.frame.specs.declared.Lent.the-variants.{Fits as AsLent}
+use Rattle.line.specs.declared.Listener.the-variants.{Ready}
+use Rattle.line.specs.declared.Sender.the-variants.{Next}
+use Rattle.unit.specs.Calls.{stepping as unitStepping}
+use Rattle.unit.specs.Unit.{unitStep, pullsNibble}
+use Rattle.delivery.specs.Demand2.{Steps}
+use Rattle.delivery.proofs.Lines.{nibble-kept}
+use Rattle.delivery.proofs.Frame.{fresh-nibble}
+use Rattle.delivery.proofs.Stage.{sending, sent-nibble}
+use Rattle.delivery.proofs.Listening.{heard-nibble, still-nibble}
+use Rattle.delivery.proofs.Rest.{released, rest-nibble}
+use Rattle.bus.specs.Bus.{levelsWith}
 use Rattle.delivery.proofs.Frame.{frame-round}
 use Rattle.delivery.proofs.Lists.{all-map, one-all}
 use Rattle.delivery.proofs.Rest.{on-round}
@@ -172,3 +188,63 @@ nobody-else f found w (sends i sender framed d s l a) host = all-map (λ st p e.
 nobody-else f found w (hears ear taken quiet framed d l o) host =
     one-all (λ st p e. absurd (true≢false (sym (talk-addressed st (p .0)) ∙ e))) (λ st p e. untouched st (levels w) host (subst Apart (sym (p .0 .0)) a-sitting)) o
 nobody-else f found w (waits quiet framed d a why) host = all-map (λ st p e. untouched st (levels w) host (subst Apart (sym (p .0 .0)) a-sitting)) a
+
+-- No step is refused: the nibble that is seen is one, what is lent fits, and each unit has room for a command.
+in-frame-nibble : {f : Frame} {found : List ℕ} {w : World} → InFrame f found w → levels w .nibble < 16
+in-frame-nibble (begins framed d a) = subst (λ (x : ℕ). x < 16) (sym (nibble-kept (sending Next) (lit< tt) (all-map (λ st p. fresh-nibble (p .0)) a))) (lit< tt)
+in-frame-nibble {f} (sends i sender {units = units} {lent = lent} framed d s l a) = sent-nibble (f .command) (dataOf f lent) (framed .sent) i sender units 0 s a
+in-frame-nibble {f} {found} (hears ear taken quiet {timeout = timeout} {units = units} {lent = lent} {response = response} framed d l o) = heard-nibble f (dataOf f lent) found timeout (framed .eight) (framed .room) false 0 ear taken quiet response units o
+in-frame-nibble (waits quiet {units = units} framed d a why) = subst (λ (x : ℕ). x < 16) (sym (still-nibble Ready 0 units a)) (lit< tt)
+
+in-frame-lent : {f : Frame} {found : List ℕ} {w : World} → InFrame f found w → lentAt (w .controller .stage) (length (w .lent)) (length (w .response)) ≡ AsLent
+in-frame-lent (begins framed d a) = framed .fits
+in-frame-lent (sends i sender framed d s l a) = framed .fits
+in-frame-lent {f} (hears ear taken quiet {lent = lent} framed d l o) = ap (lentTo f (length lent)) l ∙ framed .fits
+in-frame-lent (waits quiet framed d a why) = framed .fits
+
+in-frame-sound : {f : Frame} {found : List ℕ} {w : World} → InFrame f found w → All Sound (w .units)
+in-frame-sound (begins framed d a) = all-map (λ st p. p .1) a
+in-frame-sound (sends i sender framed d s l a) = all-map (λ st p. p .1) a
+in-frame-sound (hears ear taken quiet framed d l o) = one-all (λ st p. p .1) (λ st p. p .1) o
+in-frame-sound (waits quiet framed d a why) = all-map (λ st p. p .1) a
+
+rest-pulls : {stage : Stage} → AtRest stage → pullsOf stage ≡ released
+rest-pulls is-free = refl
+rest-pulls is-resting = refl
+
+rest-lent : {stage : Stage} (n room : ℕ) → AtRest stage → lentAt stage n room ≡ AsLent
+rest-lent n room is-free = refl
+rest-lent n room is-resting = refl
+
+on-nibble : {v : World} → On v → levels v .nibble < 16
+on-nibble (rests {units = units} r eight codes d a) = subst (λ (l : Lines). levelsWith l units .nibble < 16) (sym (rest-pulls r)) (rest-nibble units a)
+on-nibble (submitted f {units = units} framed codes d a) = rest-nibble units a
+on-nibble (ended eight codes d a) = subst (λ (x : ℕ). x < 16) (sym (nibble-kept released (lit< tt) (all-map (λ st p. ap pullsNibble (p .0 .0)) a))) (lit< tt)
+on-nibble (runs f found x codes) = in-frame-nibble x
+
+on-lent : {v : World} → On v → lentAt (v .controller .stage) (length (v .lent)) (length (v .response)) ≡ AsLent
+on-lent (rests {lent = lent} {response = response} r eight codes d a) = rest-lent (length lent) (length response) r
+on-lent (submitted f framed codes d a) = framed .fits
+on-lent (ended eight codes d a) = refl
+on-lent (runs f found x codes) = in-frame-lent x
+
+on-sound : {v : World} → On v → All Sound (v .units)
+on-sound (rests r eight codes d a) = all-map (λ st p. p .1) a
+on-sound (submitted f framed codes d a) = all-map (λ st p. p .1) a
+on-sound (ended eight codes d a) = all-map (λ st p. p .1) a
+on-sound (runs f found x codes) = in-frame-sound x
+
+pub every-step : Steps
+every-step w v q r busy =
+    let o = every-run w v q r in
+    let n : levels v .nibble < 16 = on-nibble o in
+    let fine : ltb 15 (levels v .nibble) ≡ false = le-ltb 15 (levels v .nibble) (omega arith) in
+    let lent = on-lent o in
+    let c : stepping (v .controller) (levels v) busy (v .lent) (v .response) ≡ gives (eventIn (v .controller) (levels v) busy (v .lent)) = rw (fine, lent) in
+    ((eventIn (v .controller) (levels v) busy (v .lent), c), all-map (λ st s. unit-step fine st s) (on-sound o))
+  where
+    unit-step : ltb 15 (levels v .nibble) ≡ false → (st : Station) → Sound st → (u : Unit) × (unitStepping (st .unit) (levels v) busy (st .buffer) (st .input) ≡ gives u)
+    unit-step fine st s =
+        let room : ltb (length (st .buffer)) 256 ≡ false = le-ltb (length (st .buffer)) 256 (s .room) in
+        let e : unitStepping (st .unit) (levels v) busy (st .buffer) (st .input) ≡ gives (unitStep (st .unit) (levels v) busy (st .buffer) (st .input)) = rw (fine, room) in
+        (unitStep (st .unit) (levels v) busy (st .buffer) (st .input), e)

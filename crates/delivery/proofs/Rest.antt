@@ -144,14 +144,14 @@ fresh-by true seen low n high st busy p = let s = low-step st seen busy n (p .1 
 fresh-by false seen b n high st busy p = idle-step seen n b st busy (p .1)
 
 -- What the controller leaves on the lines between frames.
-abbrev released : Lines
+abbrev pub released : Lines
 released = record { bav = false; hsk = false; nibble = 15 }
 
 module _ (units : List Station) (a : All (λ (st : Station). Fresh st × Sound st) units) where
   rest-hsk : levelsWith released units .hsk ≡ false
   rest-hsk = hsk-high released refl (all-map (λ st p. fresh-hsk (p .0)) a)
 
-  rest-nibble : levelsWith released units .nibble < 16
+  pub rest-nibble : levelsWith released units .nibble < 16
   rest-nibble = subst (λ (x : ℕ). x < 16) (sym (nibble-kept released (lit< tt) (all-map (λ st p. fresh-nibble (p .0)) a))) (lit< tt)
 
   units-rest-on : (hosts : ℕ) → All (λ (st : Station). Fresh st × Sound st) (unitsAfter (levelsWith released units) hosts units)

@@ -9,6 +9,9 @@ use mathlib.Core.List.{List}
 use lib.ListN.{length}
 use Rattle.bus.specs.Bus.{stationStep}
 use Rattle.bus.specs.declared.Station.{Station}
+use Rattle.controller.specs.Calls.{stepping}
+use Rattle.message.specs.Answer.{gives}
+use Rattle.turn.specs.declared.Event.{Event}
 use Rattle.controller.specs.Controller.{newController}
 use Rattle.frame.specs.Frame.{dataOf}
 use Rattle.frame.specs.declared.Frame.{Frame}
@@ -19,7 +22,9 @@ use Rattle.line.specs.declared.Sender.{Sender}
 use Rattle.phase.specs.declared.Phase.the-variants.{Receiving, SittingOut}
 use Rattle.phase.specs.declared.Progress.the-variants.{Answered}
 use Rattle.serial.specs.declared.Reply.{Reply}
+use Rattle.unit.specs.Calls.{stepping as unitStepping}
 use Rattle.unit.specs.Unit.{newUnit}
+use Rattle.unit.specs.declared.Unit.{Unit}
 use Rattle.whole.specs.Whole.{bytesFor}
 use Rattle.delivery.specs.Calls.{Call, called}
 use Rattle.delivery.specs.Heard.{Heard}
@@ -51,6 +56,16 @@ pub data Run (w : World) : World → Type 0 where
 -- A run from a quiet start is always at rest, or in a frame.
 abbrev pub Runs : Type 0
 Runs = (w v : World) → QuietStart w → Run w v → On v
+
+-- No step is refused: neither the controller's nor any unit's.
+abbrev pub Steps : Type 0
+Steps =
+    (w v : World)
+    → QuietStart w
+    → Run w v
+    → (busy : Bool)
+    → ((e : Event) × (stepping (v .controller) (levels v) busy (v .lent) (v .response) ≡ gives e))
+    × All (λ (st : Station). (u : Unit) × (unitStepping (st .unit) (levels v) busy (st .buffer) (st .input) ≡ gives u)) (v .units)
 
 -- Each round of a frame leads on in it, or ends it: with the status, the data and the count that the whole-message definition gives for
 -- the addressed unit's state when the last nibble was taken, at the front of the response buffer that the frame found, and what waited
