@@ -3,9 +3,9 @@
 use Prim.Native.Nat.{ℕ, suc, _+_, _-_, _*_, _/_, _<_, _≤_}
 use native.Mathlib.Omega.{arith}
 use mathlib.Core.Path.{_≡_, refl, sym, _∙_, ap, subst}
-use mathlib.Core.Bool.{Bool, true, false, cond, _||_}
+use mathlib.Core.Bool.{Bool, true, false, cond, _||_, true≢false}
 use mathlib.Core.List.{List}
-use borrow.Author.Tests.{le-ltb, ltb-true, ltb-false}
+use borrow.Author.Tests.{le-ltb, ltb-true, ltb-false, leb-false}
 use lib.Dec.{ltb, leb, lit<}
 use lib.ListN.{length, set, length-set}
 use Rattle.answer.specs.Answer.{nothingTaken, bufferWith, byteBuffer, bodyBuffer, isData}
@@ -25,12 +25,12 @@ use Rattle.frame.specs.declared.Moved.{Moved}
 use Rattle.frame.specs.declared.Stage.{Stage}
 use Rattle.frame.specs.declared.Stage.the-variants.{Sending, Listening}
 use Rattle.header.specs.declared.Command.{Command}
-use Rattle.line.specs.Line.{takenOf, sendOf, sentOf}
+use Rattle.line.specs.Line.{takenOf, sendOf, sentOf, listenerHsk, senderHsk}
 use Rattle.line.specs.declared.Lines.{Lines}
 use Rattle.line.specs.declared.Listener.{Listener}
 use Rattle.line.specs.declared.Listener.the-variants.{Ready}
 use Rattle.line.specs.declared.Sender.{Sender}
-use Rattle.line.specs.declared.Sender.the-variants.{Next}
+use Rattle.line.specs.declared.Sender.the-variants.{Next, Placed, Kept}
 use Rattle.message.specs.Answer.{gives, refused}
 use Rattle.message.specs.Nibbles.{nibbleIn}
 use Rattle.phase.specs.Phase.{phaseStep}
@@ -40,14 +40,18 @@ use Rattle.ring.specs.declared.Ring.{Ring}
 use Rattle.unit.specs.Unit.{pullsHsk, pullsNibble, lowStep, highStep}
 use Rattle.whole.specs.Whole.{bytesFor}
 use Rattle.whole.proofs.Whole.{length-bytes}
-use Rattle.delivery.specs.Stages.{Hushed, not-its-own, by-the-rule, addressed, Framed, Fresh, Goes, InFrame, Part, Sends, Sits, Sound, Spoke, Talk, answered, begins, hears, idles, listens, movedIn, on, s-next, selects, sends, unanswered, waits, world}
+use Rattle.delivery.specs.Stages.{Hushed, not-its-own, by-the-rule, addressed, Framed, Fresh, Goes, InFrame, Part, Sends, Sits, Sound, Spoke, Talk, answered, begins, hears, idles, listens, movedIn, on, s-next, selects, sends, unanswered, waits, world, talks, s-placed, s-kept}
+use Rattle.delivery.specs.Ends.{place, phaseLeft, unitsLeft, listening, left, quietly}
 use Rattle.delivery.specs.Heard.{f-next, Heard, h-none}
-use Rattle.delivery.specs.Lists.{All, One}
+use Rattle.delivery.specs.Lists.{All, One, none, also, this, that}
 use Rattle.delivery.specs.Promised.{Promised}
 use Rattle.delivery.specs.World.{World, Busy, levels, round, Different, nobody, another}
 use Rattle.delivery.proofs.Lines.{hsk-high, bav-kept, nibble-kept}
 use Rattle.delivery.proofs.Lists.{all-map, all-step}
-use Rattle.delivery.proofs.Listening.{Heard′, goes-on, comes-to-its-end, heard-nibble, units-heard, still-nibble, still-hsk, units-sit}
+use Rattle.delivery.proofs.Ends.{free-step, part-lets-go}
+use Rattle.delivery.proofs.Talk.{talkLeft, talk-left, last-is as last-of, place-kept, place-some, place-most}
+use Rattle.reply.specs.Reply.{lastNibble as lastOf}
+use Rattle.delivery.proofs.Listening.{one-less, Heard′, goes-on, comes-to-its-end, heard-nibble, units-heard, still-nibble, still-hsk, units-sit, hearing}
 use Rattle.delivery.proofs.Part.{Stepped, low-step}
 use Rattle.delivery.proofs.Stage.{sound-low, sends-on, sending, sent-nibble, units-rest, units-sent, units-over}
 use Rattle.delivery.proofs.Turned.{Answering, somebody, nobody-does, answering}
@@ -101,8 +105,38 @@ hushed-kept {c} {d} seen hosts a = all-step seen (λ st busy p. by st busy p) ho
     by st busy (not-its-own e) = not-its-own (ap (addressed c) (own-kept st seen busy) ∙ e)
     by st busy (by-the-rule given e) = by-the-rule given e
 
-go-on : {f : Frame} {found : List ℕ} {w v : World} {busy : Busy} → round w busy ≡ v → v .controller .ring ≡ w .controller .ring → InFrame f found v → Goes f found w busy
-go-on {f} {found} eq r y = on (ap (λ (x : World). x .controller .ring) eq ∙ r) (subst (InFrame f found) (sym eq) y)
+go-on : {f : Frame} {found : List ℕ} {w v : World} {busy : Busy} → round w busy ≡ v → v .controller .ring ≡ w .controller .ring → InFrame f found v → (busy ≡ quietly → left v < left w) → Goes f found w busy
+go-on {f} {found} {w} eq r y less = on (ap (λ (x : World). x .controller .ring) eq ∙ r) (subst (InFrame f found) (sym eq) y) (λ q. subst (λ (x : World). left x < left w) (sym eq) (less q))
+
+-- The rounds that are left: the nibble under way comes nearer to being sent.
+place-less : {n : ℕ} {sender : Sender} (low now : Bool) → Sends n sender → sentOf sender low ≡ false → ((m : ℕ) → sender ≡ Kept m → now ≡ false) → place (sendOf sender low n) now < place sender low
+place-less low now s-next e k = omega arith
+place-less {n} low now s-placed e k = place-kept n now
+place-less {n} true now s-kept e k = subst (λ (x : Bool). place (Kept n) x < 2) (sym (k n refl)) (omega arith)
+place-less false now s-kept e k = absurd (true≢false e)
+
+sits-left : {ss : List Station} (low : Bool) (rest : ℕ) → All (λ (st : Station). Sits st × Sound st) ss → unitsLeft ss low rest ≡ rest
+sits-left low rest none = refl
+sits-left low rest (also {x = st} {xs = ss} p a) = ap (λ (x : Phase). phaseLeft x (st .unit .serial .input) low (unitsLeft ss low rest)) (p .0 .0) ∙ sits-left low rest a
+
+talk-bound : {c : Command} {d : List ℕ} {stores : Bool} {found : List ℕ} {ear : Listener} {taken : Response} {quiet : ℕ} {buffer : List ℕ} (st : Station) → Talk c d stores found ear taken quiet buffer st → talkLeft ear st ≤ 4 * (2 * (3 + c .«buffer_length»)) + 1
+talk-bound {c} {ear = ear} st (talks r j t sender wait e p fits g b l w z q own) =
+    let last = last-of p in
+    let short = p .fits .fits in
+    let n : talkLeft ear st ≡ 4 * (lastOf (st .unit .serial .input) r - j) + place sender (listenerHsk ear || senderHsk sender) + cond wait 1 0 = talk-left ear st e in
+    let four : place sender (listenerHsk ear || senderHsk sender) ≤ 4 = place-most sender (listenerHsk ear || senderHsk sender) in
+    let one : cond wait 1 0 ≤ 1 = flag wait in
+    omega arith
+  where
+    flag : (b : Bool) → cond b 1 0 ≤ 1
+    flag true = omega arith
+    flag false = omega arith
+
+begin-less : (n l : ℕ) → 4 * (n - 0) + 4 + 0 + l < 4 * (n - 0) + 4 + 1 + l
+begin-less n l = omega arith
+
+leb-less : (a b : ℕ) → leb a b ≡ false → b < a
+leb-less a b e = leb-false a b e
 
 -- No step of the controller changes the length of the response buffer.
 cond-length : (t : Bool) (a b : List ℕ) (n : ℕ) → length a ≡ n → length b ≡ n → length (cond t a b) ≡ n
@@ -157,7 +191,25 @@ module _ (f : Frame) (found : List ℕ) (timeout : ℕ) (ring : Ring) (units : L
       let ok = sound-low step (p .1) in (
         listens Ready 0 f-next (subst (λ (x : Phase). Heard (bytesFor c d) Ready 0 x (stationStep st seen host .buffer)) (sym (fresh-selects step high (p .0))) (h-none (ok .room))) (λ l. absurd (omega arith)) (λ l. absurd (omega arith)),
         ok,
-      )) (busy .there) a))
+      )) (busy .there) a)) (λ q. begin-less (lastNibble f) (listening f timeout))
+
+  one-bound : {most : ℕ} {taken : Response} {quiet : ℕ} {buffer : List ℕ} {ear : Listener} {ss : List Station} → 4 * (2 * (3 + c .«buffer_length»)) + 1 < most
+      → One (λ (st : Station). Talk c d (isSubmitted (f .kind)) found ear taken quiet buffer st × Sound st) (λ (st : Station). Sits st × Sound st) ss
+      → One (λ (st : Station). (Talk c d (isSubmitted (f .kind)) found ear taken quiet buffer st × (talkLeft ear st < most)) × Sound st) (λ (st : Station). Sits st × Sound st) ss
+  one-bound h (this {x = st} p a) = this ((p .0, (let b = talk-bound st (p .0) in omega arith)), p .1) a
+  one-bound h (that q o) = that q (one-bound h o)
+
+  plain-one : {X : Station → Type 0} {taken : Response} {quiet : ℕ} {buffer : List ℕ} {ear : Listener} {ss : List Station}
+      → One (λ (st : Station). (Talk c d (isSubmitted (f .kind)) found ear taken quiet buffer st × X st) × Sound st) (λ (st : Station). Sits st × Sound st) ss
+      → One (λ (st : Station). Talk c d (isSubmitted (f .kind)) found ear taken quiet buffer st × Sound st) (λ (st : Station). Sits st × Sound st) ss
+  plain-one (this p a) = this (p .0 .0, p .1) a
+  plain-one (that q o) = that q (plain-one o)
+
+  free-one : {most : ℕ} {host : Bool} {taken : Response} {quiet : ℕ} {buffer : List ℕ} {ear : Listener} {ss : List Station} → host ≡ false
+      → One (λ (st : Station). (Talk c d (isSubmitted (f .kind)) found ear taken quiet buffer st × (host ≡ false → talkLeft ear st < most)) × Sound st) (λ (st : Station). Sits st × Sound st) ss
+      → One (λ (st : Station). (Talk c d (isSubmitted (f .kind)) found ear taken quiet buffer st × (talkLeft ear st < most)) × Sound st) (λ (st : Station). Sits st × Sound st) ss
+  free-one e (this p a) = this ((p .0 .0, p .0 .1 e), p .1) a
+  free-one e (that q o) = that q (free-one e o)
 
   -- A round while the command is sent.
   module _ (i : ℕ) (sender : Sender) (s : Sends (nibbleIn (bytesFor c d) i) sender) (less : i < total) (a : All (λ (st : Station). Part (Promised c d) c d i sender st × Sound st) units) where
@@ -176,17 +228,40 @@ module _ (f : Frame) (found : List ℕ) (timeout : ℕ) (ring : Ring) (units : L
     last-is : lastNibble f ≡ total - 1
     last-is = let l : length (bytesFor c d) ≡ 9 + length d = length-bytes c d in let n = framed .announced in omega arith
 
+    -- Beside a kept nibble all units let go, if no host is busy.
+    all-let-go : (m : ℕ) → sender ≡ Kept m → busy .there ≡ 0 → levelsWith (sending (Kept m)) (unitsAfter seen (busy .there) units) .hsk ≡ false
+    all-let-go m e z =
+        hsk-high (sending (Kept m)) refl
+        (subst (λ (k : ℕ). All (λ (st : Station). pullsHsk (st .unit .phase) ≡ false) (unitsAfter seen k units)) (sym z)
+        (free-step seen (λ st p. part-lets-go (low-step st seen false small (p .1 .room) (bav-kept (sending sender) units refl)) (subst (λ (k : Sender). Part (Promised c d) c d i k st) e (p .0))) a))
+
+    send-less : sentOf sender (seen .hsk) ≡ false → busy .there ≡ 0
+        → 4 * (lastNibble f - i) + place (sendOf sender (seen .hsk) (nibbleIn (bytesFor c d) i)) (levelsWith (sending (sendOf sender (seen .hsk) (nibbleIn (bytesFor c d) i))) (unitsAfter seen (busy .there) units) .hsk) + 0 + listening f timeout
+        < 4 * (lastNibble f - i) + place sender (seen .hsk) + 0 + listening f timeout
+    send-less e z =
+        let k = sendOf sender (seen .hsk) (nibbleIn (bytesFor c d) i) in
+        let now = levelsWith (sending k) (unitsAfter seen (busy .there) units) .hsk in
+        let less : place k now < place sender (seen .hsk) = place-less (seen .hsk) now s e (λ m g. ap (λ (x : Sender). levelsWith (sending x) (unitsAfter seen (busy .there) units) .hsk) (kept-stays m g e) ∙ all-let-go m g z) in
+        omega arith
+      where
+        stays-by : (low : Bool) (x : Sender) (m : ℕ) → x ≡ Kept m → sentOf x low ≡ false → sendOf x low (nibbleIn (bytesFor c d) i) ≡ Kept m
+        stays-by true x m g e = ap (λ (y : Sender). sendOf y true (nibbleIn (bytesFor c d) i)) g
+        stays-by false x m g e = absurd (true≢false (sym (ap (λ (y : Sender). sentOf y false) g) ∙ e))
+
+        kept-stays : (m : ℕ) → sender ≡ Kept m → sentOf sender (seen .hsk) ≡ false → sendOf sender (seen .hsk) (nibbleIn (bytesFor c d) i) ≡ Kept m
+        kept-stays m g e = stays-by (seen .hsk) sender m g e
+
     send-round : (t u : Bool) → sentOf sender (seen .hsk) ≡ t → ltb i (lastNibble f) ≡ u → Goes f found w busy
     send-round false u e g =
         let m : movedIn w busy ≡ stays whenNot = ap (λ (x : Bool). stays (cond x (nextNibble f i) whenNot)) e in
-        go-on (after (Sending f i sender false) whenNot found found small (framed .fits) refl m refl) refl (sends i (sendOf sender (seen .hsk) (nibbleIn (bytesFor c d) i)) framed (different-kept seen (busy .there) different) (sends-on (seen .hsk) s e) less (units-rest c d (framed .sent) i sender units (busy .there) s a e less))
+        go-on (after (Sending f i sender false) whenNot found found small (framed .fits) refl m refl) refl (sends i (sendOf sender (seen .hsk) (nibbleIn (bytesFor c d) i)) framed (different-kept seen (busy .there) different) (sends-on (seen .hsk) s e) less (units-rest c d (framed .sent) i sender units (busy .there) s a e less)) (λ q. send-less e (ap (λ (x : Busy). x .there) q))
     send-round true true e g =
         let more : i < lastNibble f = ltb-true i (lastNibble f) g in
         let l = last-is in
         let next : i + 1 ≡ suc i = omega arith in
         let m : movedIn w busy ≡ stays (Sending f (suc i) Next false) =
         ap (λ (x : Bool). stays (cond x (nextNibble f i) whenNot)) e ∙ ap (λ (x : Bool). stays (cond x (Sending f (i + 1) Next false) (Listening f Ready nothingTaken 0))) g ∙ ap (λ (x : ℕ). stays (Sending f x Next false)) next in
-        go-on (after (Sending f i sender false) (Sending f (suc i) Next false) found found small (framed .fits) refl m refl) refl (sends (suc i) Next framed (different-kept seen (busy .there) different) s-next (omega arith) (units-sent c d (framed .sent) i sender units (busy .there) s a e (omega arith)))
+        go-on (after (Sending f i sender false) (Sending f (suc i) Next false) found found small (framed .fits) refl m refl) refl (sends (suc i) Next framed (different-kept seen (busy .there) different) s-next (omega arith) (units-sent c d (framed .sent) i sender units (busy .there) s a e (omega arith))) (λ q. let some = place-some sender (seen .hsk) in omega arith)
     send-round true false e g =
         let least : lastNibble f ≤ i = ltb-false i (lastNibble f) g in
         let l = last-is in
@@ -198,8 +273,8 @@ module _ (f : Frame) (found : List ℕ) (timeout : ℕ) (ring : Ring) (units : L
       where
         turn : round w busy ≡ world timeout (Listening f Ready nothingTaken 0) ring (unitsAfter seen (busy .there) units) lent found → Different (unitsAfter seen (busy .there) units)
             → Answering c d (isSubmitted (f .kind)) found (unitsAfter seen (busy .there) units) → Goes f found w busy
-        turn eq d′ (somebody o) = go-on eq refl (hears Ready nothingTaken 0 framed d′ refl o)
-        turn eq d′ (nobody-does b h) = go-on eq refl (waits 0 framed d′ b h)
+        turn eq d′ (somebody o) = go-on eq refl (hears Ready nothingTaken 0 framed d′ refl o) (λ q. one-less (left w) (timeout - 0) (one-bound (let some = place-some sender (seen .hsk) in omega arith) o))
+        turn eq d′ (nobody-does b h) = go-on eq refl (waits 0 framed d′ b h) (λ q. let k = sits-left (levelsWith (hearing Ready) (unitsAfter seen (busy .there) units) .hsk) (timeout - 0) b in omega arith)
 
   -- A round while one unit responds.
   module _ (ear : Listener) (taken : Response) (quiet : ℕ) (response : List ℕ) (long : length response ≡ length found) (o : One (λ (st : Station). Talk c d (isSubmitted (f .kind)) found ear taken quiet response st × Sound st) (λ (st : Station). Sits st × Sound st) units) where
@@ -212,9 +287,9 @@ module _ (f : Frame) (found : List ℕ) (timeout : ℕ) (ring : Ring) (units : L
     heard-small : levels v .nibble < 16
     heard-small = heard-nibble f d found timeout (framed .eight) (framed .room) (busy .here) (busy .there) ear taken quiet response units o
 
-    hear-by : Heard′ f d found (movedIn v busy) (listeningBuffer f ear taken (levels v) response) (unitsAfter (levels v) (busy .there) units) → Goes f found v busy
+    hear-by : Heard′ f d found (movedIn v busy) (listeningBuffer f ear taken (levels v) response) (busy .here) (unitsLeft units (levels v .hsk) (timeout - quiet)) (unitsAfter (levels v) (busy .there) units) → Goes f found v busy
     hear-by (goes-on ear′ taken′ quiet′ e o′) =
-        go-on (after (Listening f ear taken quiet) (Listening f ear′ taken′ quiet′) response (listeningBuffer f ear taken (levels v) response) heard-small as-lent refl e refl) refl (hears ear′ taken′ quiet′ framed (different-kept (levels v) (busy .there) different) (heard-length f ear taken (levels v) response ∙ long) o′)
+        go-on (after (Listening f ear taken quiet) (Listening f ear′ taken′ quiet′) response (listeningBuffer f ear taken (levels v) response) heard-small as-lent refl e refl) refl (hears ear′ taken′ quiet′ framed (different-kept (levels v) (busy .there) different) (heard-length f ear taken (levels v) response ∙ long) (plain-one o′)) (λ q. one-less (left v) (timeout - quiet′) (free-one (ap (λ (x : Busy). x .here) q) o′))
     hear-by (comes-to-its-end o′) =
         let b : round v busy .response ≡ listeningBuffer f ear taken (levels v) response = control-buffer (v .controller) (levels v) (busy .here) lent response heard-small as-lent in
         answered (control (v .controller) (levels v) (busy .here) lent response heard-small as-lent refl) (different-kept (levels v) (busy .there) different)
@@ -246,7 +321,11 @@ module _ (f : Frame) (found : List ℕ) (timeout : ℕ) (ring : Ring) (units : L
         (control-buffer (u .controller) (levels u) (busy .here) lent found silent-small (framed .fits) ∙ same-buffer) (different-kept (levels u) (busy .there) different) (units-sit Ready (busy .there) units a) (hushed-kept (levels u) (busy .there) why)
     wait-round false e =
         let m : movedIn u busy ≡ stays (Listening f Ready nothingTaken (quiet + 1)) = waited-on ∙ ap (λ (x : Bool). cond (x || false) (over f nothingTaken) (stays (Listening f Ready nothingTaken (quiet + 1)))) e in
-        go-on (after (Listening f Ready nothingTaken quiet) (Listening f Ready nothingTaken (quiet + 1)) found found silent-small (framed .fits) refl m same-buffer) refl (waits (quiet + 1) framed (different-kept (levels u) (busy .there) different) (units-sit Ready (busy .there) units a) (hushed-kept (levels u) (busy .there) why))
+        go-on (after (Listening f Ready nothingTaken quiet) (Listening f Ready nothingTaken (quiet + 1)) found found silent-small (framed .fits) refl m same-buffer) refl (waits (quiet + 1) framed (different-kept (levels u) (busy .there) different) (units-sit Ready (busy .there) units a) (hushed-kept (levels u) (busy .there) why)) (λ q.
+        let old = sits-left (levels u .hsk) (timeout - quiet) a in
+        let new = sits-left (levelsWith (hearing Ready) (unitsAfter (levels u) (busy .there) units) .hsk) (timeout - (quiet + 1)) (units-sit Ready (busy .there) units a) in
+        let less : quiet + 1 < timeout = leb-less timeout (quiet + 1) e in
+        omega arith)
 
 -- Every round of a frame.
 pub frame-round : (f : Frame) (found : List ℕ) {w : World} → InFrame f found w → (busy : Busy) → Goes f found w busy

@@ -7,6 +7,7 @@ pub mod Fits
 pub mod Stage
 pub mod Turned
 pub mod Listening
+pub mod Ends
 pub mod Frame
 pub mod Calls
 pub mod Rest

@@ -1,5 +1,5 @@
 -- The lines while the controller listens: the one unit that responds is seen by all.
-use Prim.Native.Nat.{ℕ, _<_, _≤_}
+use Prim.Native.Nat.{_-_, ℕ, _<_, _≤_}
 use mathlib.Core.Path.{_≡_, refl, sym, _∙_, ap, subst}
 use mathlib.Core.Bool.{Bool, true, false, not, _&&_, _||_, or-false}
 use mathlib.Core.List.{List, _∷_}
@@ -21,13 +21,14 @@ use Rattle.phase.specs.Phase.{phaseStep}
 use Rattle.phase.specs.declared.Phase.{Phase}
 use Rattle.unit.specs.Unit.{pullsOf, pullsHsk, pullsNibble}
 use Rattle.delivery.specs.Stages.{Sits, Sound, Spoke, Talk, answerBytes, spoke, talks}
+use Rattle.delivery.specs.Ends.{phaseLeft, unitsLeft}
 use Rattle.delivery.specs.Heard.{Fits, f-next, f-placed, f-holds, f-waits}
 use Rattle.delivery.specs.Lists.{All, none, also, One, this, that}
 use Rattle.delivery.proofs.Lines.{free-wired, bav-kept, nibble-kept}
 use Rattle.delivery.proofs.Lists.{all-map, all-step, one-step}
 use Rattle.delivery.proofs.Part.{low-step}
 use Rattle.delivery.proofs.Stage.{sound-low, nibble-below}
-use Rattle.delivery.proofs.Talk.{Talked, still, done, talk-step}
+use Rattle.delivery.proofs.Talk.{talkLeft, Talked, still, done, talk-step}
 
 -- What the controller pulls while it listens.
 abbrev pub hearing : Listener → Lines
@@ -83,20 +84,43 @@ sits-step seen low n st busy p =
       sound-low step (p .1),
     )
 
--- What a round comes to while one unit responds.
-pub data Heard′ (f : Frame) (d found : List ℕ) (m : Moved) (buffer : List ℕ) (ss : List Station) : Type 0 where
+-- How long it takes goes by the one unit that responds.
+talk-phase : {c : Command} {d : List ℕ} {stores : Bool} {found : List ℕ} {ear : Listener} {taken : Response} {quiet : ℕ} {buffer : List ℕ} (st : Station) → Talk c d stores found ear taken quiet buffer st
+    → (low : Bool) → low ≡ (listenerHsk ear || pullsHsk (st .unit .phase)) → (rest : ℕ) → phaseLeft (st .unit .phase) (st .unit .serial .input) low rest ≡ talkLeft ear st
+talk-phase {ear = ear} st (talks r j t sender wait e p fits g b l w c q own) low h rest =
+    ap (λ (x : Bool). phaseLeft (st .unit .phase) (st .unit .serial .input) x rest) h
+    ∙ ap (λ (x : Phase). phaseLeft x (st .unit .serial .input) (listenerHsk ear || pullsHsk (st .unit .phase)) rest) e
+    ∙ sym (ap (λ (x : Phase). phaseLeft x (st .unit .serial .input) (listenerHsk ear || pullsHsk (st .unit .phase)) 0) e)
+
+one-left : {P : Station → Type 0} (ear : Listener) (low : Bool) (rest : ℕ) → ((st : Station) → P st → (k : ℕ) → phaseLeft (st .unit .phase) (st .unit .serial .input) low k ≡ talkLeft ear st) → {ss : List Station}
+    → One P (λ (st : Station). Sits st × Sound st) ss → One (λ (st : Station). P st × (unitsLeft ss low rest ≡ talkLeft ear st)) (λ (st : Station). Sits st × Sound st) ss
+one-left ear low rest f (this {x = st} {xs = ss} p a) = this (p, f st p (unitsLeft ss low rest)) a
+one-left ear low rest f (that {x = st} {xs = ss} q o) =
+    that q (one-map (λ x p. (p .0, ap (λ (y : Phase). phaseLeft y (st .unit .serial .input) low (unitsLeft ss low rest)) (q .0 .0) ∙ p .1)) (one-left ear low rest f o))
+
+pub one-less : {c : Command} {d : List ℕ} {stores : Bool} {found : List ℕ} {ear : Listener} {taken : Response} {quiet : ℕ} {buffer : List ℕ} (most rest : ℕ) {ss : List Station}
+    → One (λ (st : Station). (Talk c d stores found ear taken quiet buffer st × (talkLeft ear st < most)) × Sound st) (λ (st : Station). Sits st × Sound st) ss → unitsLeft ss (levelsWith (hearing ear) ss .hsk) rest < most
+one-less {c} {d} {stores} {found} {ear} {taken} {quiet} {buffer} most rest {ss} o =
+    pick (one-left ear (levelsWith (hearing ear) ss .hsk) rest (λ st p k. talk-phase st (p .0 .0 .0) (levelsWith (hearing ear) ss .hsk) (p .1 .0) k) (one-seen (hearing ear) refl (λ st p. talk-nibble (p .0 .0)) o))
+  where
+    pick : {s : List Station} {n : ℕ} {X : Station → Type 0} → One (λ (st : Station). (((Talk c d stores found ear taken quiet buffer st × (talkLeft ear st < most)) × Sound st) × X st) × (n ≡ talkLeft ear st)) (λ (st : Station). Sits st × Sound st) s → n < most
+    pick (this p a) = subst (λ (x : ℕ). x < most) (sym (p .1)) (p .0 .0 .0 .1)
+    pick (that q o) = pick o
+
+-- What a round comes to while one unit responds, where its response took at most `most` rounds before.
+pub data Heard′ (f : Frame) (d found : List ℕ) (m : Moved) (buffer : List ℕ) (host : Bool) (most : ℕ) (ss : List Station) : Type 0 where
   goes-on :
       (ear : Listener) (taken : Response) (quiet : ℕ) → m ≡ stays (Listening f ear taken quiet)
-      → One (λ (st : Station). Talk (f .command) d (isSubmitted (f .kind)) found ear taken quiet buffer st × Sound st) (λ (st : Station). Sits st × Sound st) ss
-      → Heard′ f d found m buffer ss
-  comes-to-its-end : One (λ (st : Station). Spoke f d found m buffer st × Sound st) (λ (st : Station). Sits st × Sound st) ss → Heard′ f d found m buffer ss
+      → One (λ (st : Station). (Talk (f .command) d (isSubmitted (f .kind)) found ear taken quiet buffer st × (host ≡ false → talkLeft ear st < most)) × Sound st) (λ (st : Station). Sits st × Sound st) ss
+      → Heard′ f d found m buffer host most ss
+  comes-to-its-end : One (λ (st : Station). Spoke f d found m buffer st × Sound st) (λ (st : Station). Sits st × Sound st) ss → Heard′ f d found m buffer host most ss
 
-parted : {f : Frame} {d found : List ℕ} {m : Moved} {buffer : List ℕ} {ss : List Station} → One (λ (st : Station). Talked f d found m buffer st × Sound st) (λ (st : Station). Sits st × Sound st) ss → Heard′ f d found m buffer ss
-parted (this (still ear taken quiet e t, s) a) = goes-on ear taken quiet e (this (t, s) a)
+parted : {f : Frame} {d found : List ℕ} {m : Moved} {buffer : List ℕ} {host : Bool} {most : ℕ} {ss : List Station} → One (λ (st : Station). Talked f d found m buffer host most st × Sound st) (λ (st : Station). Sits st × Sound st) ss → Heard′ f d found m buffer host most ss
+parted (this (still ear taken quiet e t n, s) a) = goes-on ear taken quiet e (this ((t, n), s) a)
 parted (this (done r s p e b phase serial q, x) a) = comes-to-its-end (this (spoke r s p e b serial (phase, q), x) a)
 parted (that q o) = behind q (parted o)
   where
-    behind : {f : Frame} {d found : List ℕ} {m : Moved} {buffer : List ℕ} {st : Station} {ss : List Station} → Sits st × Sound st → Heard′ f d found m buffer ss → Heard′ f d found m buffer (st ∷ ss)
+    behind : {f : Frame} {d found : List ℕ} {m : Moved} {buffer : List ℕ} {host : Bool} {most : ℕ} {st : Station} {ss : List Station} → Sits st × Sound st → Heard′ f d found m buffer host most ss → Heard′ f d found m buffer host most (st ∷ ss)
     behind q (goes-on ear taken quiet e o) = goes-on ear taken quiet e (that q o)
     behind q (comes-to-its-end o) = comes-to-its-end (that q o)
 
@@ -117,11 +141,20 @@ module _ (f : Frame) (d found : List ℕ) (timeout : ℕ) (eight : 8 ≤ timeout
   pub heard-nibble : seen .nibble < 16
   heard-nibble = small known
 
-  pub units-heard : Heard′ f d found (listeningStep f ear taken quiet timeout seen host) (listeningBuffer f ear taken seen buffer) (unitsAfter seen hosts ss)
+  abbrev most : ℕ
+  most = unitsLeft ss (seen .hsk) (timeout - quiet)
+
+  counted : One (λ (st : Station). ((Talk (f .command) d (isSubmitted (f .kind)) found ear taken quiet buffer st × Sound st) × Seen seen (listenerHsk ear) st) × (most ≡ talkLeft ear st)) (λ (st : Station). Sits st × Sound st) ss
+  counted = one-left ear (seen .hsk) (timeout - quiet) (λ st p k. talk-phase st (p .0 .0) (seen .hsk) (p .1 .0) k) known
+
+  pub units-heard : Heard′ f d found (listeningStep f ear taken quiet timeout seen host) (listeningBuffer f ear taken seen buffer) host most (unitsAfter seen hosts ss)
   units-heard =
       parted (one-step seen (λ st busy p.
-      let step = low-step st seen busy heard-nibble (p .0 .1 .room) bav in
-      (talk-step f d found timeout eight room st (stationStep st seen busy) seen host busy step ear taken quiet buffer (p .0 .0) (p .1 .0) (p .1 .1), sound-low step (p .0 .1))) (sits-step seen bav heard-nibble) hosts known)
+      let step = low-step st seen busy heard-nibble (p .0 .0 .1 .room) bav in (
+        subst (λ (k : ℕ). Talked f d found (listeningStep f ear taken quiet timeout seen host) (listeningBuffer f ear taken seen buffer) host k (stationStep st seen busy)) (sym (p .1))
+            (talk-step f d found timeout eight room st (stationStep st seen busy) seen host busy step ear taken quiet buffer (p .0 .0 .0) (p .0 .1 .0) (p .0 .1 .1)),
+        sound-low step (p .0 .0 .1),
+      )) (sits-step seen bav heard-nibble) hosts counted)
 
 -- What a round comes to while nobody responds.
 module _ (ear : Listener) (hosts : ℕ) (ss : List Station) (a : All (λ (st : Station). Sits st × Sound st) ss) where

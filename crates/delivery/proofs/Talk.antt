@@ -36,6 +36,7 @@ use Rattle.unit.specs.Unit.{pullsHsk, pullsNibble}
 use Rattle.whole.specs.Back.{responseFor, takenAt, storedAt, lengthOf, received}
 use Rattle.whole.proofs.Back.{response-completes, not-over-before, data-received}
 use Rattle.delivery.specs.Stages.{addressed, Quiet, Talk, answerBytes, answerData, talks}
+use Rattle.delivery.specs.Ends.{place, phaseLeft}
 use Rattle.delivery.specs.Heard.{Fits, f-next, f-placed, f-holds, f-waits, Sees}
 use Rattle.delivery.specs.Promised.{Promised, dataFor, Enough}
 use Rattle.delivery.proofs.Heard.{Pair, rests, takes, sends, pair}
@@ -99,15 +100,55 @@ and-false : (a : Bool) → (a && false) ≡ false
 and-false true = refl
 and-false false = refl
 
--- What a round of the controller and of the unit that responds comes to.
-pub data Talked (f : Frame) (d : List ℕ) (found : List ℕ) (m : Moved) (buffer : List ℕ) (st : Station) : Type 0 where
+-- Each round brings the end of a response nearer, where the controller's host is free.
+pub place-kept : (n : ℕ) (low : Bool) → place (Kept n) low < 3
+place-kept n true = omega arith
+place-kept n false = omega arith
+
+pub place-some : (sender : Sender) (low : Bool) → 1 ≤ place sender low
+place-some Next low = omega arith
+place-some (Placed n) low = omega arith
+place-some (Kept n) true = omega arith
+place-some (Kept n) false = omega arith
+
+pub place-most : (sender : Sender) (low : Bool) → place sender low ≤ 4
+place-most Next low = omega arith
+place-most (Placed n) low = omega arith
+place-most (Kept n) true = omega arith
+place-most (Kept n) false = omega arith
+
+place-rests : {n t : ℕ} {sender : Sender} {ear : Listener} (low : Bool) → Fits n sender ear t → low ≡ (listenerHsk ear || senderHsk sender) → takenOf ear low ≡ false → sentOf sender low ≡ false
+    → place (sendOf sender low n) (listenerHsk (hearOf ear low false) || senderHsk (sendOf sender low n)) < place sender (listenerHsk ear || senderHsk sender)
+place-rests low f-next h a b = omega arith
+place-rests low f-placed h a b = absurd (true≢false (sym h ∙ a))
+place-rests true f-holds h a b = omega arith
+place-rests false f-holds h a b = absurd (false≢true h)
+place-rests true f-waits h a b = absurd (true≢false h)
+place-rests false f-waits h a b = absurd (true≢false b)
+
+place-takes : {n t : ℕ} {sender : Sender} {ear : Listener} (low now : Bool) → Fits n sender ear t → low ≡ (listenerHsk ear || senderHsk sender) → takenOf ear low ≡ true → place (sendOf sender low n) now < place sender (listenerHsk ear || senderHsk sender)
+place-takes low now f-next h a = absurd (false≢true (sym h ∙ a))
+place-takes {n} low now f-placed h a = place-kept n now
+place-takes low now f-holds h a = absurd (false≢true a)
+place-takes low now f-waits h a = absurd (false≢true a)
+
+-- How many rounds a response still takes at most.
+abbrev pub talkLeft : Listener → Station → ℕ
+talkLeft ear st = phaseLeft (st .unit .phase) (st .unit .serial .input) (listenerHsk ear || pullsHsk (st .unit .phase)) 0
+
+pub talk-left : (ear : Listener) (st : Station) {r : Reply} {j : ℕ} {sender : Sender} {wait : Bool} → st .unit .phase ≡ Responding r j sender wait
+    → talkLeft ear st ≡ 4 * (lastNibble (st .unit .serial .input) r - j) + place sender (listenerHsk ear || senderHsk sender) + cond wait 1 0
+talk-left ear st e = ap (λ (x : Phase). phaseLeft x (st .unit .serial .input) (listenerHsk ear || pullsHsk x) 0) e
+
+-- What a round of the controller and of the unit that responds comes to, where the response took at most `most` rounds before.
+pub data Talked (f : Frame) (d : List ℕ) (found : List ℕ) (m : Moved) (buffer : List ℕ) (host : Bool) (most : ℕ) (st : Station) : Type 0 where
   still :
-      (ear : Listener) (taken : Response) (quiet : ℕ) → m ≡ stays (Listening f ear taken quiet) → Talk (f .command) d (isSubmitted (f .kind)) found ear taken quiet buffer st
-      → Talked f d found m buffer st
+      (ear : Listener) (taken : Response) (quiet : ℕ) → m ≡ stays (Listening f ear taken quiet) → Talk (f .command) d (isSubmitted (f .kind)) found ear taken quiet buffer st → (host ≡ false → talkLeft ear st < most)
+      → Talked f d found m buffer host most st
   done :
       (r : Reply) (s : Serial) (p : Promised (f .command) d r s (st .input)) → m ≡ over f (Complete (replyStatus r) (length (answerData p))) → buffer ≡ received (isSubmitted (f .kind)) (answerData p) found
       → st .unit .phase ≡ SittingOut false → st .unit .serial ≡ finished s r → st .unit .asking ≡ false
-      → Talked f d found m buffer st
+      → Talked f d found m buffer host most st
 
 module _ (f : Frame) (d found : List ℕ) (timeout : ℕ) (eight : 8 ≤ timeout) (room : f .command .«buffer_length» ≤ length found) (st st′ : Station) (seen : Lines) (host busy : Bool) (step : Stepped st seen busy st′) where
   abbrev limit : ℕ
@@ -153,7 +194,7 @@ module _ (f : Frame) (d found : List ℕ) (timeout : ℕ) (eight : 8 ≤ timeout
   begins : (r : Reply) (j t : ℕ) (ear : Listener) (taken : Response) (quiet : ℕ) (buffer : List ℕ) (e : st .unit .phase ≡ Responding r j Next true) (p : Promised (f .command) d r (st .unit .serial) (st .input))
       → Fits (nibbleIn (answerBytes p) j) Next ear t → taken ≡ takenAt (answerBytes p) limit (j + t) → buffer ≡ storedAt (answerBytes p) limit stores (j + t) found → j < lengthOf (answerData p)
       → quiet ≡ 0 → st .unit .asking ≡ false → addressed (f .command) (st .unit .own) ≡ true → seen .hsk ≡ (listenerHsk ear || senderHsk Next)
-      → Talked f d found (after ear taken quiet) (buffer-after ear taken buffer) st′
+      → Talked f d found (after ear taken quiet) (buffer-after ear taken buffer) host (talkLeft ear st) st′
   begins r j t ear taken quiet buffer e p f-next g b l z q own h =
       let serial : st′ .unit .serial ≡ st .unit .serial = serial-is r j Next true e in
       let k : j + 0 < lengthOf (answerData p) = omega arith in
@@ -163,14 +204,25 @@ module _ (f : Frame) (d found : List ℕ) (timeout : ℕ) (eight : 8 ≤ timeout
       still Ready taken 1
       (not-taken Ready taken quiet h ∙ (λ i. waited f (ready i) taken timeout (one i)) ∙ waits-on Ready taken 1 (omega arith) (ap (λ (x : Bool). x && true) going))
       (talks r j 0 Next false (phase-is r j Next true e) (carried serial (step .input) p) f-next g (buffer-kept Ready taken buffer h ∙ b) l (λ x. absurd (false≢true x)) (omega arith) (not-asking q) (same-own own))
+      (λ free.
+      let old : talkLeft Ready st ≡ 4 * (lastNibble (st .unit .serial .input) r - j) + 4 + 1 = talk-left Ready st e in
+      let new : talkLeft Ready st′ ≡ 4 * (lastNibble (st′ .unit .serial .input) r - j) + 4 + 0 = talk-left Ready st′ (phase-is r j Next true e) in
+      let same : lastNibble (st′ .unit .serial .input) r ≡ lastNibble (st .unit .serial .input) r = ap (λ (x : Serial). lastNibble (x .input) r) serial in
+      omega arith)
 
   -- A nibble that does not count as sent yet, not taken in this round.
-  module _ (r : Reply) (j t : ℕ) (sender : Sender) (ear : Listener) (taken : Response) (quiet : ℕ) (buffer : List ℕ) (e : st .unit .phase ≡ Responding r j sender false) (p : Promised (f .command) d r (st .unit .serial) (st .input)) (fits : Fits (nibbleIn (answerBytes p) j) sender ear t) (g : taken ≡ takenAt (answerBytes p) limit (j + t)) (b : buffer ≡ storedAt (answerBytes p) limit stores (j + t) found) (l : j < lengthOf (answerData p)) (c : Quiet sender quiet) (q : st .unit .asking ≡ false) (own : addressed (f .command) (st .unit .own) ≡ true) (view : Sees sender ear (seen .hsk) (seen .nibble)) where
+  module _ (r : Reply) (j t : ℕ) (sender : Sender) (ear : Listener) (taken : Response) (quiet : ℕ) (buffer : List ℕ) (e : st .unit .phase ≡ Responding r j sender false) (p : Promised (f .command) d r (st .unit .serial) (st .input)) (fits : Fits (nibbleIn (answerBytes p) j) sender ear t) (g : taken ≡ takenAt (answerBytes p) limit (j + t)) (b : buffer ≡ storedAt (answerBytes p) limit stores (j + t) found) (l : j < lengthOf (answerData p)) (c : Quiet sender quiet) (q : st .unit .asking ≡ false) (own : addressed (f .command) (st .unit .own) ≡ true) (view : Sees sender ear (seen .hsk) (seen .nibble)) (h : seen .hsk ≡ (listenerHsk ear || senderHsk sender)) where
     abbrev n : ℕ
     n = nibbleIn (answerBytes p) j
 
     own-nibble : nibbleIn (responseBytes (contents (st .input) (st .unit .serial .input)) r) j ≡ n
     own-nibble = ap (λ (x : List ℕ). nibbleIn x j) (bytes-are p)
+
+    left-is : talkLeft ear st ≡ 4 * (lastNibble (st .unit .serial .input) r - j) + place sender (listenerHsk ear || senderHsk sender) + 0
+    left-is = talk-left ear st e
+
+    last-same : st′ .unit .serial ≡ st .unit .serial → lastNibble (st′ .unit .serial .input) r ≡ lastNibble (st .unit .serial .input) r
+    last-same x = ap (λ (y : Serial). lastNibble (y .input) r) x
 
     -- The unit's round, where the nibble counts as sent and where not.
     abbrev whenSent : Step
@@ -186,13 +238,22 @@ module _ (f : Frame) (d found : List ℕ) (timeout : ℕ) (eight : 8 ≤ timeout
     )
 
     rests-on : takenOf ear (seen .hsk) ≡ false → sentOf sender (seen .hsk) ≡ false → Fits n (sendOf sender (seen .hsk) n) (hearOf ear (seen .hsk) host) t
-        → Talked f d found (after ear taken quiet) (buffer-after ear taken buffer) st′
+        → Talked f d found (after ear taken quiet) (buffer-after ear taken buffer) host (talkLeft ear st) st′
     rests-on a s fits′ =
         let q′ : Quiet (sendOf sender (seen .hsk) n) (quietAfter quiet (seen .hsk)) = quiet-rests quiet (seen .hsk) (seen .nibble) fits view a s c in
         let u = not-sent s in
         still (hearOf ear (seen .hsk) host) taken (quietAfter quiet (seen .hsk))
         (not-taken ear taken quiet a ∙ waits-on (hearOf ear (seen .hsk) host) taken (quietAfter quiet (seen .hsk)) (quiet-bound (sendOf sender (seen .hsk) n) (quietAfter quiet (seen .hsk)) q′) (not-yet t fits′ g))
         (talks r j t (sendOf sender (seen .hsk) n) false (u .0) (carried (u .1) (step .input) p) fits′ g (buffer-kept ear taken buffer a ∙ b) l (λ x. absurd (false≢true x)) q′ (not-asking q) (same-own own))
+        (λ free.
+        let k = sendOf sender (seen .hsk) n in
+        let held : hearOf ear (seen .hsk) host ≡ hearOf ear (seen .hsk) false = ap (hearOf ear (seen .hsk)) free in
+        let less : place k (listenerHsk (hearOf ear (seen .hsk) false) || senderHsk k) < place sender (listenerHsk ear || senderHsk sender) = place-rests (seen .hsk) fits h a s in
+        let new : talkLeft (hearOf ear (seen .hsk) host) st′ ≡ 4 * (lastNibble (st′ .unit .serial .input) r - j) + place k (listenerHsk (hearOf ear (seen .hsk) false) || senderHsk k) + 0 =
+        talk-left (hearOf ear (seen .hsk) host) st′ (u .0) ∙ ap (λ (x : Listener). 4 * (lastNibble (st′ .unit .serial .input) r - j) + place k (listenerHsk x || senderHsk k) + 0) held in
+        let old = left-is in
+        let same = last-same (u .1) in
+        omega arith)
       where
         not-yet : (t : ℕ) {k : Sender} {x : Listener} → Fits n k x t → taken ≡ takenAt (answerBytes p) limit (j + t) → (isOver taken && isReady x) ≡ false
         not-yet zero {k} {x} v w =
@@ -201,7 +262,7 @@ module _ (f : Frame) (d found : List ℕ) (timeout : ℕ) (eight : 8 ≤ timeout
         not-yet (suc t) {k} {x} v w = ap (λ (y : Bool). isOver taken && y) (fits-ready v) ∙ and-false (isOver taken)
 
     takes-it : ear ≡ Ready → seen .hsk ≡ true → seen .nibble ≡ n → t ≡ 0 → sentOf sender (seen .hsk) ≡ false → Fits n (sendOf sender (seen .hsk) n) Holding 1
-        → Talked f d found (after ear taken quiet) (buffer-after ear taken buffer) st′
+        → Talked f d found (after ear taken quiet) (buffer-after ear taken buffer) host (talkLeft ear st) st′
     takes-it ready low nib z s fits′ =
         let u = not-sent s in
         let k : j + t ≡ j = omega arith in
@@ -218,6 +279,13 @@ module _ (f : Frame) (d found : List ℕ) (timeout : ℕ) (eight : 8 ≤ timeout
         still Holding (takenWith taken (seen .nibble) limit) 0
         (one ∙ ap (λ (x : Listener). stays (Listening f x (takenWith taken (seen .nibble) limit) 0)) held)
         (talks r j 1 (sendOf sender (seen .hsk) n) false (u .0) (carried (u .1) (step .input) p) fits′ more kept l (λ x. absurd (false≢true x)) (quiet-zero (sendOf sender (seen .hsk) n)) (not-asking q) (same-own own))
+        (λ free.
+        let k′′ = sendOf sender (seen .hsk) n in
+        let less : place k′′ (listenerHsk Holding || senderHsk k′′) < place sender (listenerHsk ear || senderHsk sender) = place-takes (seen .hsk) (listenerHsk Holding || senderHsk k′′) fits h gone in
+        let new : talkLeft Holding st′ ≡ 4 * (lastNibble (st′ .unit .serial .input) r - j) + place k′′ (listenerHsk Holding || senderHsk k′′) + 0 = talk-left Holding st′ (u .0) in
+        let old = left-is in
+        let same = last-same (u .1) in
+        omega arith)
 
     -- A nibble counts as sent: the next one comes, or the response is done.
     module _ (a : takenOf ear (seen .hsk) ≡ false) (s : sentOf sender (seen .hsk) ≡ true) (high : seen .hsk ≡ false) (ready : hearOf ear (seen .hsk) host ≡ Ready) (z : t ≡ 1) where
@@ -230,7 +298,7 @@ module _ (f : Frame) (d found : List ℕ) (timeout : ℕ) (eight : 8 ≤ timeout
       listened : after ear taken quiet ≡ waited f Ready taken timeout 1
       listened = not-taken ear taken quiet a ∙ (λ i. waited f (ready i) taken timeout (one-quiet i))
 
-      sends-by : (more : Bool) → ltb j (lastNibble (st .unit .serial .input) r) ≡ more → Talked f d found (after ear taken quiet) (buffer-after ear taken buffer) st′
+      sends-by : (more : Bool) → ltb j (lastNibble (st .unit .serial .input) r) ≡ more → Talked f d found (after ear taken quiet) (buffer-after ear taken buffer) host (talkLeft ear st) st′
       sends-by true m =
           let last : lastNibble (st .unit .serial .input) r ≡ lengthOf (answerData p) - 1 = last-is p in
           let less : j < lastNibble (st .unit .serial .input) r = ltb-true j (lastNibble (st .unit .serial .input) r) m in
@@ -247,6 +315,12 @@ module _ (f : Frame) (d found : List ℕ) (timeout : ℕ) (eight : 8 ≤ timeout
           ∙ ap (λ (x : Bool). cond x (moves (Responding r (j + 1) Next false) (st .unit .serial)) (moves (SittingOut false) (finished (st .unit .serial) r)) .serial) m in
           still Ready taken 1 (listened ∙ waits-on Ready taken 1 (omega arith) (ap (λ (x : Bool). x && true) on))
           (talks r (suc j) 0 Next false phase (carried serial (step .input) p) f-next (g ∙ ap (takenAt (answerBytes p) limit) k) (buffer-kept ear taken buffer a ∙ b ∙ ap (λ (x : ℕ). storedAt (answerBytes p) limit stores x found) k) (omega arith) (λ x. absurd (false≢true x)) (omega arith) (not-asking q) (same-own own))
+          (λ free.
+          let some : 1 ≤ place sender (listenerHsk ear || senderHsk sender) = place-some sender (listenerHsk ear || senderHsk sender) in
+          let new : talkLeft Ready st′ ≡ 4 * (lastNibble (st′ .unit .serial .input) r - suc j) + 4 + 0 = talk-left Ready st′ phase in
+          let old = left-is in
+          let same = last-same serial in
+          omega arith)
       sends-by false m =
           let last : lastNibble (st .unit .serial .input) r ≡ lengthOf (answerData p) - 1 = last-is p in
           let least : lastNibble (st .unit .serial .input) r ≤ j = ltb-false j (lastNibble (st .unit .serial .input) r) m in
@@ -263,10 +337,10 @@ module _ (f : Frame) (d found : List ℕ) (timeout : ℕ) (eight : 8 ≤ timeout
           done r (st .unit .serial) (carried refl (step .input) p) (listened ∙ ap (λ (x : Response). waited f Ready x timeout 1) all ∙ full)
           (buffer-kept ear taken buffer a ∙ b ∙ ap (λ (x : ℕ). storedAt (answerBytes p) limit stores x found) k ∙ data-received (answerData p) (replyStatus r) limit stores found (p .fits) room) phase serial (not-asking q)
 
-    talks-on : Talked f d found (after ear taken quiet) (buffer-after ear taken buffer) st′
+    talks-on : Talked f d found (after ear taken quiet) (buffer-after ear taken buffer) host (talkLeft ear st) st′
     talks-on = by (pair (seen .hsk) (seen .nibble) host fits view)
       where
-        by : Pair n sender ear t (seen .hsk) (seen .nibble) host → Talked f d found (after ear taken quiet) (buffer-after ear taken buffer) st′
+        by : Pair n sender ear t (seen .hsk) (seen .nibble) host → Talked f d found (after ear taken quiet) (buffer-after ear taken buffer) host (talkLeft ear st) st′
         by (rests e1 e2 g1) = rests-on e1 e2 g1
         by (takes e1 e2 e3 e4 e5 g1) = takes-it e1 e2 e3 e4 e5 g1
         by (sends e1 e2 e3 e4 e5) = sends-by e1 e2 e3 e4 e5 (ltb j (lastNibble (st .unit .serial .input) r)) refl
@@ -274,10 +348,10 @@ module _ (f : Frame) (d found : List ℕ) (timeout : ℕ) (eight : 8 ≤ timeout
   -- The round of a unit that responds, and of the controller beside it.
   pub talk-step : (ear : Listener) (taken : Response) (quiet : ℕ) (buffer : List ℕ) → Talk (f .command) d stores found ear taken quiet buffer st
       → seen .hsk ≡ (listenerHsk ear || pullsHsk (st .unit .phase)) → seen .nibble ≡ pullsNibble (st .unit .phase)
-      → Talked f d found (after ear taken quiet) (buffer-after ear taken buffer) st′
+      → Talked f d found (after ear taken quiet) (buffer-after ear taken buffer) host (talkLeft ear st) st′
   talk-step ear taken quiet buffer (talks r j t sender true e p fits g b l w c q own) h v =
       let x = w refl in
       begins r j t ear taken quiet buffer (e ∙ ap (λ (y : Sender). Responding r j y true) (x .0)) p (subst (λ (y : Sender). Fits (nibbleIn (answerBytes p) j) y ear t) (x .0) fits) g b l (x .1) q own
       (h ∙ ap (λ (y : Phase). listenerHsk ear || pullsHsk y) (e ∙ ap (λ (y : Sender). Responding r j y true) (x .0)))
   talk-step ear taken quiet buffer (talks r j t sender false e p fits g b l w c q own) h v =
-      talks-on r j t sender ear taken quiet buffer e p fits g b l c q own (sees seen fits (h ∙ ap (λ (y : Phase). listenerHsk ear || pullsHsk y) e) (v ∙ ap pullsNibble e))
+      talks-on r j t sender ear taken quiet buffer e p fits g b l c q own (sees seen fits (h ∙ ap (λ (y : Phase). listenerHsk ear || pullsHsk y) e) (v ∙ ap pullsNibble e)) (h ∙ ap (λ (y : Phase). listenerHsk ear || pullsHsk y) e)

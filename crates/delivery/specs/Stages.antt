@@ -35,6 +35,7 @@ use Rattle.serial.specs.declared.Reply.{Reply}
 use Rattle.serial.specs.declared.Serial.{Serial}
 use Rattle.whole.specs.Back.{responseFor, takenAt, storedAt, lengthOf, received}
 use Rattle.whole.specs.Whole.{bytesFor, Sent}
+use Rattle.delivery.specs.Ends.{left, quietly}
 use Rattle.delivery.specs.Heard.{Fits, Heard}
 use Rattle.delivery.specs.Lists.{All, One}
 use Rattle.delivery.specs.Promised.{Promised, dataFor, replyFor}
@@ -152,7 +153,7 @@ abbrev pub Finishes : World → Busy → Type 0
 Finishes w busy = round w busy .controller ≡ controllerOf (w .controller .timeout) (movedIn w busy .stage) (ringAfter (w .controller .ring) (movedIn w busy .end))
 
 pub data Goes (f : Frame) (found : List ℕ) (w : World) (busy : Busy) : Type 0 where
-  on : round w busy .controller .ring ≡ w .controller .ring → InFrame f found (round w busy) → Goes f found w busy
+  on : round w busy .controller .ring ≡ w .controller .ring → InFrame f found (round w busy) → (busy ≡ quietly → left (round w busy) < left w) → Goes f found w busy
   answered :
       Finishes w busy → Different (round w busy .units)
       → One (λ (st : Station). Spoke f (dataOf f (w .lent)) found (movedIn w busy) (round w busy .response) st × Sound st) (λ (st : Station). Sits st × Sound st) (round w busy .units)
