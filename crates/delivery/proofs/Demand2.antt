@@ -1,11 +1,23 @@
 -- Demand 2, from the rounds and calls of the stages.
-use Prim.Native.Nat.{ℕ, _+_, _<_, _≤_}
+use Prim.Native.Nat.{ℕ, zero, suc, _+_, _-_, _<_, _≤_}
 use native.Mathlib.Omega.{arith}
 use mathlib.Core.Path.{_≡_, refl, sym, _∙_, ap, subst}
 use mathlib.Core.Bool.{Bool, true, false, cond, true≢false, false≢true}
 use mathlib.Core.List.{List}
 use lib.Dec.{ltb, lit<}
 use lib.ListN.{length}
+use native.Mathlib.Nat.{not-suc-le-zero}
+use Rattle.controller.specs.declared.Controller.{Controller}
+use Rattle.frame.specs.Frame.{over, isSubmitted}
+use Rattle.frame.specs.declared.Moved.{Moved}
+use Rattle.delivery.specs.Demand2.{longest, Ends, ends-now, ends-later, FramesEnd}
+use Rattle.delivery.specs.Ends.{left, quietly}
+use Rattle.delivery.specs.Stages.{Sits, Goes, on, answered, unanswered, Finishes, movedIn}
+use Rattle.delivery.proofs.Frame.{talk-bound, sits-left}
+use Rattle.delivery.proofs.Listening.{one-less}
+use Rattle.delivery.proofs.Rest.{spoke-moved}
+use Rattle.delivery.proofs.Talk.{talkLeft, place-most}
+use Rattle.answer.specs.Answer.{nothingTaken}
 use Rattle.answer.specs.declared.Response.{Response}
 use Rattle.bus.specs.Bus.{stationStep, unitAfter}
 use Rattle.bus.specs.declared.Station.{Station}
@@ -27,10 +39,10 @@ use Rattle.serial.specs.declared.Serial.{Serial}
 use Rattle.unit.specs.Unit.{lowStep, highStep}
 use Rattle.unit.specs.declared.Unit.{Unit}
 use Rattle.delivery.specs.Heard.{Fits, f-next, f-placed, f-holds, f-waits, Heard, h-none, h-first, h-byte, h-half}
-use Rattle.delivery.specs.Lists.{All, none}
+use Rattle.delivery.specs.Lists.{All, none, One, this, that}
 use Rattle.delivery.specs.Promised.{Promised}
 use Rattle.delivery.specs.Stages.{Sound, addressed, Talk, talks, Part, listens, answers, sits, InFrame, begins, sends, hears, waits, Fresh, idles, selects, On, AtRest, is-free, is-resting, rests, submitted, ended, runs}
-use Rattle.delivery.specs.World.{World, levels}
+use Rattle.delivery.specs.World.{World, levels, round}
 use Rattle.delivery.specs.Demand2.{New, QuietStart, start, a-round, a-call, Runs, Frames, FramesCalled, Delivered, listening, whole, sitting, Delivery, Untouched, NobodyElse}
 use borrow.Author.Tests.{le-ltb}
 use Rattle.controller.specs.Calls.{stepping}
@@ -248,3 +260,34 @@ every-step w v q r busy =
         let room : ltb (length (st .buffer)) 256 ≡ false = le-ltb (length (st .buffer)) 256 (s .room) in
         let e : unitStepping (st .unit) (levels v) busy (st .buffer) (st .input) ≡ gives (unitStep (st .unit) (levels v) busy (st .buffer) (st .input)) = rw (fine, room) in
         (unitStep (st .unit) (levels v) busy (st .buffer) (st .input), e)
+
+-- Frames end: the rounds that are left are at most the longest, and each round with no host busy takes one away.
+over-rests : (f : Frame) (w : World) (r : Response) → Finishes w quietly → movedIn w quietly ≡ over f r → round w quietly .controller .stage ≡ Resting true
+over-rests f w r fin m = ap (λ (c : Controller). c .stage) fin ∙ ap (λ (x : Moved). x .stage) m
+
+ends-in : (n : ℕ) (f : Frame) (found : List ℕ) (w : World) → left w < n → InFrame f found w → Ends n w
+ends-in zero f found w h x = absurd (not-suc-le-zero h)
+ends-in (suc n) f found w h x = by (λ y l. ends-in n f found (round w quietly) l y) (frame-round f found x quietly)
+  where
+    by : (InFrame f found (round w quietly) → left (round w quietly) < n → Ends n (round w quietly)) → Goes f found w quietly → Ends (suc n) w
+    by go (on r y less) = ends-later (go y (let l = less refl in omega arith))
+    by go (answered fin d o) = ends-now (over-rests f w (spoke-moved o .0) fin (spoke-moved o .1))
+    by go (unanswered fin m b d a why) = ends-now (over-rests f w nothingTaken fin m)
+
+flag : (b : Bool) → cond b 1 0 ≤ 1
+flag true = omega arith
+flag false = omega arith
+
+at-most : (f : Frame) (found : List ℕ) (w : World) → InFrame f found w → left w < longest f (w .controller .timeout)
+at-most f found w (begins framed d a) = omega arith
+at-most f found w (sends i sender framed d s l a) = let four = place-most sender (levels w .hsk) in omega arith
+at-most f found w (hears ear taken quiet {timeout = timeout} {units = units} framed d l o) = one-less (longest f timeout) (timeout - quiet) (bounded o)
+  where
+    bounded : {s : List Station} {buffer : List ℕ} {e : List ℕ} → One (λ (st : Station). Talk (f .command) e (isSubmitted (f .kind)) found ear taken quiet buffer st × Sound st) (λ (st : Station). Sits st × Sound st) s
+        → One (λ (st : Station). (Talk (f .command) e (isSubmitted (f .kind)) found ear taken quiet buffer st × (talkLeft ear st < longest f timeout)) × Sound st) (λ (st : Station). Sits st × Sound st) s
+    bounded (this {x = st} p a) = this ((p .0, (let b = talk-bound st (p .0) in omega arith)), p .1) a
+    bounded (that q o) = that q (bounded o)
+at-most f found w (waits quiet {timeout = timeout} framed d a why) = let k = sits-left (levels w .hsk) (timeout - quiet) a in omega arith
+
+pub frames-end : FramesEnd
+frames-end f found w x = ends-in (longest f (w .controller .timeout)) f found w (at-most f found w x) x

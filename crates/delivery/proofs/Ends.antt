@@ -1,19 +1,16 @@
 -- Each round of a frame in which no host is busy brings its end nearer.
-use Prim.Native.Nat.{ℕ, zero, suc, _+_, _-_, _*_, _/_, _<_, _≤_}
-use native.Mathlib.Omega.{arith}
-use mathlib.Core.Path.{_≡_, refl, sym, _∙_, ap, subst}
-use mathlib.Core.Bool.{Bool, true, false, cond, not, _&&_, _||_, true≢false, false≢true}
-use mathlib.Core.List.{List, [], _∷_}
-use Rattle.bus.specs.Bus.{levelsWith, stationStep, unitsAfter}
+use Prim.Native.Nat.{ℕ, _+_, _-_}
+use mathlib.Core.Path.{_≡_, refl, _∙_, ap}
+use mathlib.Core.Bool.{Bool, true, false, cond}
+use mathlib.Core.List.{List}
+use Rattle.bus.specs.Bus.{stationStep, unitsAfter}
 use Rattle.bus.specs.declared.Station.{Station}
 use Rattle.header.specs.declared.Command.{Command}
-use Rattle.line.specs.Line.{hearOf, takenOf, isReady, listenerHsk, senderHsk}
+use Rattle.line.specs.Line.{hearOf, takenOf, isReady, listenerHsk}
 use Rattle.line.specs.declared.Lines.{Lines}
 use Rattle.line.specs.declared.Listener.{Listener}
-use Rattle.line.specs.declared.Listener.the-variants.{Ready, Holding, Waiting}
-use Rattle.line.specs.declared.Sender.{Sender}
-use Rattle.line.specs.declared.Sender.the-variants.{Next, Placed, Kept}
-use Rattle.phase.specs.Phase.{phaseStep, answeredStep}
+use Rattle.line.specs.declared.Sender.the-variants.{Next, Kept}
+use Rattle.phase.specs.Phase.{phaseStep}
 use Rattle.phase.specs.declared.Phase.{Phase}
 use Rattle.phase.specs.declared.Phase.the-variants.{Receiving, Responding, SittingOut}
 use Rattle.phase.specs.declared.Progress.the-variants.{Answered}
@@ -22,10 +19,10 @@ use Rattle.serial.specs.declared.Reply.{Reply}
 use Rattle.serial.specs.declared.Serial.{Serial}
 use Rattle.unit.specs.Unit.{pullsHsk}
 use Rattle.whole.specs.Whole.{bytesFor}
-use Rattle.delivery.specs.Heard.{Fits, f-next, f-placed, f-holds, f-waits}
-use Rattle.delivery.specs.Lists.{All, none, also, One, this, that}
-use Rattle.delivery.specs.Stages.{Part, listens, answers, sits, Sound}
-use Rattle.delivery.proofs.Heard.{Waits, waits, heard-waits, Round}
+use Rattle.delivery.specs.Heard.{Fits, f-holds, f-waits}
+use Rattle.delivery.specs.Lists.{All, none, also}
+use Rattle.delivery.specs.Stages.{Part, listens, answers, sits}
+use Rattle.delivery.proofs.Heard.{Waits, waits, heard-waits}
 use Rattle.delivery.proofs.Part.{Stepped, heard-hsk}
 
 -- A round of every unit whose host is free.

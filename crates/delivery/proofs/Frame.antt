@@ -30,7 +30,7 @@ use Rattle.line.specs.declared.Lines.{Lines}
 use Rattle.line.specs.declared.Listener.{Listener}
 use Rattle.line.specs.declared.Listener.the-variants.{Ready}
 use Rattle.line.specs.declared.Sender.{Sender}
-use Rattle.line.specs.declared.Sender.the-variants.{Next, Placed, Kept}
+use Rattle.line.specs.declared.Sender.the-variants.{Next, Kept}
 use Rattle.message.specs.Answer.{gives, refused}
 use Rattle.message.specs.Nibbles.{nibbleIn}
 use Rattle.phase.specs.Phase.{phaseStep}
@@ -115,11 +115,11 @@ place-less {n} low now s-placed e k = place-kept n now
 place-less {n} true now s-kept e k = subst (λ (x : Bool). place (Kept n) x < 2) (sym (k n refl)) (omega arith)
 place-less false now s-kept e k = absurd (true≢false e)
 
-sits-left : {ss : List Station} (low : Bool) (rest : ℕ) → All (λ (st : Station). Sits st × Sound st) ss → unitsLeft ss low rest ≡ rest
+pub sits-left : {ss : List Station} (low : Bool) (rest : ℕ) → All (λ (st : Station). Sits st × Sound st) ss → unitsLeft ss low rest ≡ rest
 sits-left low rest none = refl
 sits-left low rest (also {x = st} {xs = ss} p a) = ap (λ (x : Phase). phaseLeft x (st .unit .serial .input) low (unitsLeft ss low rest)) (p .0 .0) ∙ sits-left low rest a
 
-talk-bound : {c : Command} {d : List ℕ} {stores : Bool} {found : List ℕ} {ear : Listener} {taken : Response} {quiet : ℕ} {buffer : List ℕ} (st : Station) → Talk c d stores found ear taken quiet buffer st → talkLeft ear st ≤ 4 * (2 * (3 + c .«buffer_length»)) + 1
+pub talk-bound : {c : Command} {d : List ℕ} {stores : Bool} {found : List ℕ} {ear : Listener} {taken : Response} {quiet : ℕ} {buffer : List ℕ} (st : Station) → Talk c d stores found ear taken quiet buffer st → talkLeft ear st ≤ 4 * (2 * (3 + c .«buffer_length»)) + 1
 talk-bound {c} {ear = ear} st (talks r j t sender wait e p fits g b l w z q own) =
     let last = last-of p in
     let short = p .fits .fits in

@@ -233,7 +233,7 @@ frame-device (sends i sender framed d s l a) = framed .sent .fields .device
 frame-device (hears ear taken quiet framed d l o) = framed .sent .fields .device
 frame-device (waits quiet framed d a why) = framed .sent .fields .device
 
-spoke-moved : {f : Frame} {d found : List ℕ} {m : Moved} {buffer : List ℕ} {ss : List Station} → One (λ (st : Station). Spoke f d found m buffer st × Sound st) (λ (st : Station). Sits st × Sound st) ss → (r : Response) × (m ≡ over f r)
+pub spoke-moved : {f : Frame} {d found : List ℕ} {m : Moved} {buffer : List ℕ} {ss : List Station} → One (λ (st : Station). Spoke f d found m buffer st × Sound st) (λ (st : Station). Sits st × Sound st) ss → (r : Response) × (m ≡ over f r)
 spoke-moved (this (spoke r s p e b serial x, y) a) = (Complete (replyStatus r) (length (answerData p)), e)
 spoke-moved (that q o) = spoke-moved o
 

@@ -1,6 +1,6 @@
 -- Frames end: how many rounds with no host busy a frame still takes at most. A nibble takes four: placed, taken, let go, counted.
-use Prim.Native.Nat.{ℕ, suc, _+_, _-_, _*_, _<_, _≤_}
-use mathlib.Core.Bool.{Bool, true, false, cond}
+use Prim.Native.Nat.{ℕ, _+_, _-_, _*_}
+use mathlib.Core.Bool.{Bool, false, cond}
 use mathlib.Core.List.{List, [], _∷_}
 use Rattle.bus.specs.declared.Station.{Station}
 use Rattle.frame.specs.Frame.{lastNibble}
@@ -13,7 +13,7 @@ use Rattle.phase.specs.declared.Phase.{Phase}
 use Rattle.phase.specs.declared.Phase.the-variants.{Idle, Selecting, Receiving, Responding, SittingOut}
 use Rattle.queue.specs.declared.Queue.{Queue}
 use Rattle.reply.specs.Reply.{lastNibble as lastOf}
-use Rattle.delivery.specs.World.{World, Busy, levels, round}
+use Rattle.delivery.specs.World.{World, Busy, levels}
 
 -- For the nibble that is under way, by whether HSK is low.
 abbrev pub place : Sender → Bool → ℕ
