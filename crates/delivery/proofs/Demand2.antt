@@ -2,15 +2,22 @@
 use Prim.Native.Nat.{ℕ, zero, suc, _+_, _-_, _<_, _≤_}
 use native.Mathlib.Omega.{arith}
 use mathlib.Core.Path.{_≡_, refl, sym, _∙_, ap, subst}
-use mathlib.Core.Bool.{Bool, true, false, cond, true≢false, false≢true}
+use mathlib.Core.Bool.{Bool, true, false, cond, true≢false, false≢true, _||_}
 use mathlib.Core.List.{List}
-use lib.Dec.{ltb, lit<}
+use lib.Dec.{ltb, lit<, eqb}
 use lib.ListN.{length}
 use native.Mathlib.Nat.{not-suc-le-zero}
+use Rattle.whole.specs.Whole.{bytesFor}
+use Rattle.reply.specs.Reply.{lastNibble as lastOf}
+use Rattle.field.specs.Field.{byteFrom}
+use Rattle.line.specs.Line.{takenOf, hearOf, sentOf}
+use Rattle.phase.specs.declared.Moved.{Moved as Step}
+use Rattle.delivery.proofs.Part.{low-step}
+use Rattle.delivery.proofs.Fixes.{part-fixes}
 use Rattle.controller.specs.declared.Controller.{Controller}
 use Rattle.frame.specs.Frame.{over, isSubmitted}
 use Rattle.frame.specs.declared.Moved.{Moved}
-use Rattle.delivery.specs.Demand2.{longest, Ends, ends-now, ends-later, FramesEnd}
+use Rattle.delivery.specs.Demand2.{longest, Ends, ends-now, ends-later, FramesEnd, isAnswered, FixedBy, Fixes}
 use Rattle.delivery.specs.Ends.{left, quietly}
 use Rattle.delivery.specs.Stages.{Sits, Goes, on, answered, unanswered, Finishes, movedIn}
 use Rattle.delivery.proofs.Frame.{talk-bound, sits-left}
@@ -31,7 +38,7 @@ use Rattle.line.specs.declared.Listener.{Listener}
 use Rattle.line.specs.declared.Sender.{Sender}
 use Rattle.line.specs.declared.Lines.{Lines}
 use Rattle.message.specs.Answer.{gives, refused, kept}
-use Rattle.phase.specs.Phase.{phaseStep, phaseOutput}
+use Rattle.phase.specs.Phase.{phaseStep, phaseOutput, selected, respondingStep}
 use Rattle.phase.specs.declared.Phase.{Phase}
 use Rattle.phase.specs.declared.Phase.the-variants.{Idle, Selecting, SittingOut}
 use Rattle.serial.specs.declared.Reply.{Reply}
@@ -49,19 +56,19 @@ use Rattle.controller.specs.Calls.{stepping}
 use Rattle.controller.specs.Controller.{eventIn}
 use Rattle.frame.specs.Frame.{lentAt, lentTo, pullsOf}
 use Rattle.frame.specs.declared.Lent.the-variants.{Fits as AsLent}
-use Rattle.line.specs.declared.Listener.the-variants.{Ready}
+use Rattle.line.specs.declared.Listener.the-variants.{Ready, Holding}
 use Rattle.line.specs.declared.Sender.the-variants.{Next}
 use Rattle.unit.specs.Calls.{stepping as unitStepping}
 use Rattle.unit.specs.Unit.{unitStep, pullsNibble}
 use Rattle.delivery.specs.Demand2.{Steps}
-use Rattle.delivery.proofs.Lines.{nibble-kept}
+use Rattle.delivery.proofs.Lines.{nibble-kept, hsk-own, bav-kept}
 use Rattle.delivery.proofs.Frame.{fresh-nibble}
-use Rattle.delivery.proofs.Stage.{sending, sent-nibble}
+use Rattle.delivery.proofs.Stage.{sending, sent-nibble, shows, nibble-below}
 use Rattle.delivery.proofs.Listening.{heard-nibble, still-nibble}
 use Rattle.delivery.proofs.Rest.{released, rest-nibble}
 use Rattle.bus.specs.Bus.{levelsWith}
 use Rattle.delivery.proofs.Frame.{frame-round}
-use Rattle.delivery.proofs.Lists.{all-map, one-all}
+use Rattle.delivery.proofs.Lists.{all-map, one-all, all-zip}
 use Rattle.delivery.proofs.Rest.{on-round}
 use Rattle.delivery.proofs.Run.{on-called, in-frame-called}
 
@@ -291,3 +298,56 @@ at-most f found w (waits quiet {timeout = timeout} framed d a why) = let k = sit
 
 pub frames-end : FramesEnd
 frames-end f found w x = ends-in (longest f (w .controller .timeout)) f found w (at-most f found w x) x
+
+-- The reply is fixed in the round of the last nibble, and in no other.
+open-cond : (t : Bool) (a b : Phase) → isAnswered a ≡ false → isAnswered b ≡ false → isAnswered (cond t a b) ≡ false
+open-cond true a b e g = e
+open-cond false a b e g = g
+
+apart-open : {x : Phase} (own : ℕ) (s : Serial) (seen : Lines) (busy : Bool) (buffer input : List ℕ) → Apart x → isAnswered (phaseStep x own s seen busy buffer input .phase) ≡ false
+apart-open own s seen busy buffer input a-idle = open-cond (seen .hsk) (SittingOut false) (Selecting Ready false 0) refl refl
+apart-open own s seen busy buffer input (a-selecting {ear = ear} {half = half} {low = low}) =
+    open-cond (takenOf ear (seen .hsk)) (cond half (selected own (byteFrom low (seen .nibble))) (Selecting Holding true (seen .nibble))) (Selecting (hearOf ear (seen .hsk) busy) half low)
+    (open-cond half (selected own (byteFrom low (seen .nibble))) (Selecting Holding true (seen .nibble)) (open-cond (eqb (byteFrom low (seen .nibble)) own || eqb (byteFrom low (seen .nibble)) 0) _ (SittingOut true) refl refl) refl) refl
+apart-open own s seen busy buffer input a-sitting = refl
+
+moved-open : (t : Bool) (a b : Step) → isAnswered (a .phase) ≡ false → isAnswered (b .phase) ≡ false → isAnswered (cond t a b .phase) ≡ false
+moved-open true a b e g = e
+moved-open false a b e g = g
+
+responding-open : (s : Serial) (r : Reply) (j : ℕ) (sender : Sender) (wait hsk : Bool) (input : List ℕ) → isAnswered (respondingStep s r j sender wait hsk input .phase) ≡ false
+responding-open s r j sender wait hsk input =
+    moved-open wait _ _ refl (moved-open (sentOf sender hsk) _ _ (moved-open (ltb j (lastOf (s .input) r)) _ _ refl refl) refl)
+
+-- A round that does not fix a reply.
+open-step : (st : Station) (seen : Lines) (busy : Bool) → isAnswered (st .unit .phase) ≡ false → isAnswered (phaseStep (st .unit .phase) (st .unit .own) (st .unit .serial) seen busy (st .buffer) (st .input) .phase) ≡ false → isAnswered (stationStep st seen busy .unit .phase) ≡ false
+open-step st seen busy before e = by (ltb 15 (seen .nibble)) (ltb (length (st .buffer)) 256) (seen .bav)
+  where
+    by : (a b c : Bool) → isAnswered (unitAfter (cond a (refused 5) (cond b (refused 11) (gives (cond c (lowStep (st .unit) (seen .hsk) (phaseStep (st .unit .phase) (st .unit .own) (st .unit .serial) seen busy (st .buffer) (st .input))) (highStep (st .unit) (seen .hsk)))))) (st .unit) .phase) ≡ false
+    by true b c = before
+    by false true c = before
+    by false false true = e
+    by false false false = refl
+
+not-fixed : {c : Command} {d : List ℕ} (st : Station) (seen : Lines) (busy : Bool) → isAnswered (phaseStep (st .unit .phase) (st .unit .own) (st .unit .serial) seen busy (st .buffer) (st .input) .phase) ≡ false
+    → isAnswered (st .unit .phase) ≡ false → isAnswered (stationStep st seen busy .unit .phase) ≡ true → FixedBy c d st (stationStep st seen busy)
+not-fixed st seen busy e before now = absurd (true≢false (sym now ∙ open-step st seen busy before e))
+
+talk-open : {c : Command} {d : List ℕ} {stores : Bool} {found : List ℕ} {ear : Listener} {taken : Response} {quiet : ℕ} {buffer : List ℕ} (st : Station) (seen : Lines) (busy : Bool) → Talk c d stores found ear taken quiet buffer st
+    → isAnswered (phaseStep (st .unit .phase) (st .unit .own) (st .unit .serial) seen busy (st .buffer) (st .input) .phase) ≡ false
+talk-open st seen busy (talks r j t sender wait e p fits g b l w c q own) =
+    ap (λ (x : Phase). isAnswered (phaseStep x (st .unit .own) (st .unit .serial) seen busy (st .buffer) (st .input) .phase)) e ∙ responding-open (st .unit .serial) r j sender wait (seen .hsk) (st .input)
+
+pub fixes : Fixes
+fixes f found w (begins framed d a) host =
+    all-map (λ st p. not-fixed st (levels w) host (apart-open (st .unit .own) (st .unit .serial) (levels w) host (st .buffer) (st .input) (fresh-apart st (p .0)))) a
+fixes f found w (sends i sender {units = units} {lent = lent} framed d s l a) host =
+    all-map (λ st p before now.
+    part-fixes (Promised (f .command) (dataOf f lent)) (f .command) (dataOf f lent) (framed .sent) i sender st (stationStep st (levels w) host) (levels w) host
+    (low-step st (levels w) host (sent-nibble (f .command) (dataOf f lent) (framed .sent) i sender units 0 s a) (p .0 .1 .room) (bav-kept (sending sender) units refl)) now
+    (shows sender units (nibble-below (bytesFor (f .command) (dataOf f lent)) i) s a) (p .1) l before (p .0 .0)) (all-zip a (hsk-own (sending sender) units))
+fixes f found w (hears ear taken quiet framed d l o) host =
+    one-all (λ st p. not-fixed st (levels w) host (talk-open st (levels w) host (p .0)))
+    (λ st p. not-fixed st (levels w) host (apart-open (st .unit .own) (st .unit .serial) (levels w) host (st .buffer) (st .input) (subst Apart (sym (p .0 .0)) a-sitting))) o
+fixes f found w (waits quiet framed d a why) host =
+    all-map (λ st p. not-fixed st (levels w) host (apart-open (st .unit .own) (st .unit .serial) (levels w) host (st .buffer) (st .input) (subst Apart (sym (p .0 .0)) a-sitting))) a

@@ -12,5 +12,6 @@ pub mod Frame
 pub mod Calls
 pub mod Rest
 pub mod Run
+pub mod Fixes
 pub mod Demand2
 pub mod Example

@@ -78,7 +78,7 @@ heard-free (h-first room) = refl
 heard-free (h-byte j buffer room g h) = refl
 heard-free (h-half j buffer room g h) = refl
 
-sees : (sender : Sender) (ear : Listener) (seen : Lines) → Shows sender seen → (listenerHsk ear ≡ true → seen .hsk ≡ true) → Sees sender ear (seen .hsk) (seen .nibble)
+pub sees : (sender : Sender) (ear : Listener) (seen : Lines) → Shows sender seen → (listenerHsk ear ≡ true → seen .hsk ≡ true) → Sees sender ear (seen .hsk) (seen .nibble)
 sees Next ear seen e own = e
 sees (Placed n) ear seen e own = e
 sees (Kept n) Ready seen e own = tt

@@ -100,7 +100,7 @@ sends-on false s-kept e = absurd (true≢false e)
 abbrev pub sending : Sender → Lines
 sending sender = record { bav = true; hsk = senderHsk sender; nibble = senderNibble sender }
 
-shows : {P : Reply → Serial → List ℕ → Type 0} {c : Command} {d : List ℕ} {i n : ℕ} (sender : Sender) (ss : List Station) → n < 16 → Sends n sender → All (λ (st : Station). Part P c d i sender st × Sound st) ss → Shows sender (levelsWith (sending sender) ss)
+pub shows : {P : Reply → Serial → List ℕ → Type 0} {c : Command} {d : List ℕ} {i n : ℕ} (sender : Sender) (ss : List Station) → n < 16 → Sends n sender → All (λ (st : Station). Part P c d i sender st × Sound st) ss → Shows sender (levelsWith (sending sender) ss)
 shows Next ss h s a = hsk-high (sending Next) refl (all-map (λ st p. part-high (p .0)) a)
 shows (Placed m) ss h s a = (hsk-kept (sending (Placed m)) ss refl, nibble-kept (sending (Placed m)) (sends-below h s) (all-map (λ st p. part-free (p .0)) a))
 shows (Kept m) ss h s a = tt

@@ -19,13 +19,18 @@ use Rattle.frame.specs.declared.Stage.the-variants.{Sending, Resting}
 use Rattle.header.specs.declared.Command.{Command}
 use Rattle.line.specs.declared.Listener.{Listener}
 use Rattle.line.specs.declared.Sender.{Sender}
-use Rattle.phase.specs.declared.Phase.the-variants.{Receiving, SittingOut}
-use Rattle.phase.specs.declared.Progress.the-variants.{Answered}
+use Rattle.phase.specs.declared.Phase.{Phase}
+use Rattle.phase.specs.declared.Phase.the-variants.{Idle, Selecting, Receiving, Responding, SittingOut}
+use Rattle.serial.specs.Serial.{applied, outputAfter}
+use Rattle.serial.specs.declared.Serial.{Serial}
+use Rattle.verdict.specs.Verdict.{verdictOf}
+use Rattle.verdict.specs.declared.Verdict.{Verdict}
+use Rattle.phase.specs.declared.Progress.the-variants.{Taking, Answered}
 use Rattle.serial.specs.declared.Reply.{Reply}
 use Rattle.unit.specs.Calls.{stepping as unitStepping}
 use Rattle.unit.specs.Unit.{newUnit}
 use Rattle.unit.specs.declared.Unit.{Unit}
-use Rattle.whole.specs.Whole.{bytesFor}
+use Rattle.whole.specs.Whole.{bytesFor, storedOf}
 use Rattle.delivery.specs.Calls.{Call, called}
 use Rattle.delivery.specs.Ends.{listening as listeningTime, quietly}
 use Rattle.delivery.specs.Heard.{Heard}
@@ -94,6 +99,32 @@ Delivery =
     → Run w v
     → v .controller .stage ≡ Sending f i sender false
     → All (Delivered (f .command) (dataOf f (v .lent)) i) (v .units)
+
+-- The response. In the round in which a unit takes the last nibble its reply is fixed, by the whole-message definition in the state that
+-- it is in, and the effects happen.
+abbrev pub isAnswered : Phase → Bool
+isAnswered Idle = false
+isAnswered (Selecting ear half low) = false
+isAnswered (Receiving ear (Taking p)) = false
+isAnswered (Receiving ear (Answered r)) = true
+isAnswered (Responding reply i sender wait) = false
+isAnswered (SittingOut last) = false
+
+abbrev pub verdictFor : Serial → Command → List ℕ → Verdict
+verdictFor s c d = verdictOf s c (length d) (storedOf d)
+
+pub record FixedBy (c : Command) (d : List ℕ) (st after : Station) : Type 0 where
+  pub ear : Listener
+  pub reply : after .unit .phase ≡ Receiving ear (Answered (verdictFor (st .unit .serial) c d .reply))
+  pub state : after .unit .serial ≡ applied (st .unit .serial) (verdictFor (st .unit .serial) c d .effect) (storedOf d)
+  pub output : after .output ≡ outputAfter (st .unit .serial) (verdictFor (st .unit .serial) c d .effect) (storedOf d) (st .output)
+
+abbrev pub Fixes : Type 0
+Fixes =
+    (f : Frame) (found : List ℕ) (w : World)
+    → InFrame f found w
+    → (host : Bool)
+    → All (λ (st : Station). isAnswered (st .unit .phase) ≡ false → isAnswered (stationStep st (levels w) host .unit .phase) ≡ true → FixedBy (f .command) (dataOf f (w .lent)) st (stationStep st (levels w) host)) (w .units)
 
 -- Nobody else: in no round of a frame does the opening, the queues, the enabling or the request of a unit change that the command does
 -- not address.
