@@ -3,10 +3,12 @@ use Prim.Native.Nat.{ℕ, zero, suc, _+_, _-_, _<_, _≤_}
 use native.Mathlib.Omega.{arith}
 use mathlib.Core.Path.{_≡_, refl, sym, _∙_, ap, subst}
 use mathlib.Core.Bool.{Bool, true, false, cond, true≢false, false≢true, _||_}
-use mathlib.Core.List.{List}
+use mathlib.Core.List.{List, [], _∷_}
 use lib.Dec.{ltb, lit<, eqb}
 use lib.ListN.{length}
 use native.Mathlib.Nat.{not-suc-le-zero}
+use Rattle.delivery.proofs.Left.{left-called}
+use Rattle.delivery.specs.Calls.{Call}
 use Rattle.whole.specs.Whole.{bytesFor}
 use Rattle.reply.specs.Reply.{lastNibble as lastOf}
 use Rattle.field.specs.Field.{byteFrom}
@@ -17,7 +19,7 @@ use Rattle.delivery.proofs.Fixes.{part-fixes}
 use Rattle.controller.specs.declared.Controller.{Controller}
 use Rattle.frame.specs.Frame.{over, isSubmitted}
 use Rattle.frame.specs.declared.Moved.{Moved}
-use Rattle.delivery.specs.Demand2.{longest, Ends, ends-now, ends-later, FramesEnd, isAnswered, FixedBy, Fixes}
+use Rattle.delivery.specs.Demand2.{longest, Ends, ends-now, ends-later, FramesEnd, isAnswered, FixedBy, Fixes, calledAll}
 use Rattle.delivery.specs.Ends.{left, quietly}
 use Rattle.delivery.specs.Stages.{Sits, Goes, on, answered, unanswered, Finishes, movedIn}
 use Rattle.delivery.proofs.Frame.{talk-bound, sits-left}
@@ -272,12 +274,20 @@ every-step w v q r busy =
 over-rests : (f : Frame) (w : World) (r : Response) → Finishes w quietly → movedIn w quietly ≡ over f r → round w quietly .controller .stage ≡ Resting true
 over-rests f w r fin m = ap (λ (c : Controller). c .stage) fin ∙ ap (λ (x : Moved). x .stage) m
 
+all-in : {f : Frame} {found : List ℕ} {v : World} (calls : List Call) → InFrame f found v → InFrame f found (calledAll v calls)
+all-in [] y = y
+all-in (call ∷ calls) y = all-in calls (in-frame-called call y)
+
+all-left : {f : Frame} {found : List ℕ} {v : World} (calls : List Call) → InFrame f found v → left (calledAll v calls) ≡ left v
+all-left [] y = refl
+all-left (call ∷ calls) y = all-left calls (in-frame-called call y) ∙ left-called call y
+
 ends-in : (n : ℕ) (f : Frame) (found : List ℕ) (w : World) → left w < n → InFrame f found w → Ends n w
 ends-in zero f found w h x = absurd (not-suc-le-zero h)
-ends-in (suc n) f found w h x = by (λ y l. ends-in n f found (round w quietly) l y) (frame-round f found x quietly)
+ends-in (suc n) f found w h x = by (λ calls y l. ends-in n f found (calledAll (round w quietly) calls) (subst (λ (k : ℕ). k < n) (sym (all-left calls y)) l) (all-in calls y)) (frame-round f found x quietly)
   where
-    by : (InFrame f found (round w quietly) → left (round w quietly) < n → Ends n (round w quietly)) → Goes f found w quietly → Ends (suc n) w
-    by go (on r y less) = ends-later (go y (let l = less refl in omega arith))
+    by : ((calls : List Call) → InFrame f found (round w quietly) → left (round w quietly) < n → Ends n (calledAll (round w quietly) calls)) → Goes f found w quietly → Ends (suc n) w
+    by go (on r y less) = ends-later (λ calls. go calls y (let l = less refl in omega arith))
     by go (answered fin d o) = ends-now (over-rests f w (spoke-moved o .0) fin (spoke-moved o .1))
     by go (unanswered fin m b d a why) = ends-now (over-rests f w nothingTaken fin m)
 

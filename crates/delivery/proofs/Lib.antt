@@ -13,5 +13,6 @@ pub mod Calls
 pub mod Rest
 pub mod Run
 pub mod Fixes
+pub mod Left
 pub mod Demand2
 pub mod Example

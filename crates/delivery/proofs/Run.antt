@@ -65,7 +65,7 @@ frame-ring ring (sends j sender framed d s l a) = sends j sender framed d s l a
 frame-ring ring (hears ear taken quiet framed d l o) = hears ear taken quiet framed d l o
 frame-ring ring (waits quiet framed d a why) = waits quiet framed d a why
 
-frame-busy : {f : Frame} {found : List ℕ} {w : World} → InFrame f found w → isIdle (w .controller .stage) ≡ false
+pub frame-busy : {f : Frame} {found : List ℕ} {w : World} → InFrame f found w → isIdle (w .controller .stage) ≡ false
 frame-busy (begins framed d a) = refl
 frame-busy (sends j sender framed d s l a) = refl
 frame-busy (hears ear taken quiet framed d l o) = refl
@@ -84,7 +84,7 @@ on-codes (ended eight codes d a) = codes
 on-codes (runs f found x codes) = codes
 
 -- A refused submission changes nothing.
-not-idle : (w : World) (k : Command) (d response : List ℕ) (r : InRange k) (b : Below 256 d) → isIdle (w .controller .stage) ≡ false → called w (submits k d response r b) ≡ w
+pub not-idle : (w : World) (k : Command) (d response : List ℕ) (r : InRange k) (b : Below 256 d) → isIdle (w .controller .stage) ≡ false → called w (submits k d response r b) ≡ w
 not-idle w k d response r b e =
     let s : submitting (w .controller) k (length d) (length response) ≡ refused 1 = rw e in
     λ i. record { controller = kept (s i) (withCommand (w .controller) k (length d)) (w .controller); units = w .units; lent = kept (s i) d (w .lent); response = kept (s i) response (w .response) }

@@ -5,7 +5,7 @@
 use Prim.Native.Nat.{ℕ, suc, _+_, _*_, _≤_}
 use mathlib.Core.Path.{_≡_}
 use mathlib.Core.Bool.{Bool, true, false}
-use mathlib.Core.List.{List}
+use mathlib.Core.List.{List, [], _∷_}
 use lib.ListN.{length}
 use Rattle.bus.specs.Bus.{stationStep}
 use Rattle.bus.specs.declared.Station.{Station}
@@ -143,9 +143,14 @@ NobodyElse =
 abbrev pub longest : Frame → ℕ → ℕ
 longest f timeout = 4 * lastNibble f + 6 + listeningTime f timeout
 
+abbrev pub calledAll : World → List Call → World
+calledAll w [] = w
+calledAll w (call ∷ calls) = calledAll (called w call) calls
+
+-- It ends in the next such round, or, whatever is called behind it, later.
 pub data Ends : ℕ → World → Type 0 where
   ends-now : {n : ℕ} {w : World} → round w quietly .controller .stage ≡ Resting true → Ends (suc n) w
-  ends-later : {n : ℕ} {w : World} → Ends n (round w quietly) → Ends (suc n) w
+  ends-later : {n : ℕ} {w : World} → ((calls : List Call) → Ends n (calledAll (round w quietly) calls)) → Ends (suc n) w
 
 abbrev pub FramesEnd : Type 0
 FramesEnd = (f : Frame) (found : List ℕ) (w : World) → InFrame f found w → Ends (longest f (w .controller .timeout)) w
