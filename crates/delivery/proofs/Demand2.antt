@@ -19,7 +19,7 @@ use Rattle.delivery.proofs.Fixes.{part-fixes}
 use Rattle.controller.specs.declared.Controller.{Controller}
 use Rattle.frame.specs.Frame.{over, isSubmitted}
 use Rattle.frame.specs.declared.Moved.{Moved}
-use Rattle.delivery.specs.Demand2.{longest, Ends, ends-now, ends-later, FramesEnd, isAnswered, FixedBy, Fixes, calledAll}
+use Rattle.delivery.specs.Demand2.{longest, Ends, ends-now, ends-later, FramesEnd, isAnswered, FixedBy, Fixes, calledAll, Returned, returned, Back, from-one, from-nobody, DeliveryBack}
 use Rattle.delivery.specs.Ends.{left, quietly}
 use Rattle.delivery.specs.Stages.{Sits, Goes, on, answered, unanswered, Finishes, movedIn}
 use Rattle.delivery.proofs.Frame.{talk-bound, sits-left}
@@ -361,3 +361,54 @@ fixes f found w (hears ear taken quiet framed d l o) host =
     (λ st p. not-fixed st (levels w) host (apart-open (st .unit .own) (st .unit .serial) (levels w) host (st .buffer) (st .input) (subst Apart (sym (p .0 .0)) a-sitting))) o
 fixes f found w (waits quiet framed d a why) host =
     all-map (λ st p. not-fixed st (levels w) host (apart-open (st .unit .own) (st .unit .serial) (levels w) host (st .buffer) (st .input) (subst Apart (sym (p .0 .0)) a-sitting))) a
+
+-- What a listening stage says.
+abbrev frameHeard : Frame → Stage → Frame
+frameHeard g Free = g
+frameHeard g (Resting first) = g
+frameHeard g (Waiting f) = g
+frameHeard g (Sending f i sender wait) = g
+frameHeard g (Listening f ear taken quiet) = f
+
+abbrev takenIn : Response → Stage → Response
+takenIn x Free = x
+takenIn x (Resting first) = x
+takenIn x (Waiting f) = x
+takenIn x (Sending f i sender wait) = x
+takenIn x (Listening f ear taken quiet) = taken
+
+abbrev isListening : Stage → Bool
+isListening Free = false
+isListening (Resting first) = false
+isListening (Waiting f) = false
+isListening (Sending f i sender wait) = false
+isListening (Listening f ear taken quiet) = true
+
+rest-hears : {stage : Stage} → AtRest stage → isListening stage ≡ false
+rest-hears is-free = refl
+rest-hears is-resting = refl
+
+give-back : {c : Command} {d : List ℕ} {stores : Bool} {found : List ℕ} {ear : Listener} {taken : Response} {quiet : ℕ} {buffer : List ℕ} (st : Station) → Talk c d stores found ear taken quiet buffer st → Returned c d taken st
+give-back st (talks r j t sender wait e p fits g b l w c q own) = let n : t ≤ 1 = fits-count fits in returned r j (j + t) sender wait e p (omega arith) (omega arith) g
+
+one-back : {c : Command} {d : List ℕ} {stores : Bool} {found : List ℕ} {ear : Listener} {taken : Response} {quiet : ℕ} {buffer : List ℕ} {ss : List Station} → One (λ (st : Station). Talk c d stores found ear taken quiet buffer st × Sound st) (λ (st : Station). Sits st × Sound st) ss → One (Returned c d taken) Sits ss
+one-back (this {x = st} p a) = this (give-back st (p .0)) (all-map (λ x q. q .0) a)
+one-back (that q o) = that (q .0) (one-back o)
+
+back-as : {g : Frame} (lent : List ℕ) {taken′ : Response} {units : List Station} (f : Frame) (taken : Response) → g ≡ f → taken′ ≡ taken → Back (g .command) (dataOf g lent) taken′ units → Back (f .command) (dataOf f lent) taken units
+back-as {g} lent {taken′} {units} f taken e q b = subst (λ (x : Response). Back (f .command) (dataOf f lent) x units) q (subst (λ (h : Frame). Back (h .command) (dataOf h lent) taken′ units) e b)
+
+in-frame-back : {g : Frame} {found : List ℕ} {v : World} (f : Frame) (ear : Listener) (taken : Response) (quiet : ℕ) → v .controller .stage ≡ Listening f ear taken quiet → InFrame g found v → Back (f .command) (dataOf f (v .lent)) taken (v .units)
+in-frame-back f ear taken quiet e (begins framed d a) = absurd (false≢true (ap isListening e))
+in-frame-back f ear taken quiet e (sends j s framed d x l a) = absurd (false≢true (ap isListening e))
+in-frame-back {g} f ear taken quiet e (hears ear′ taken′ quiet′ {lent = lent} framed d l o) = back-as lent f taken (ap (frameHeard g) e) (ap (takenIn taken′) e) (from-one (one-back o))
+in-frame-back {g} f ear taken quiet e (waits quiet′ {lent = lent} framed d a why) = back-as lent f taken (ap (frameHeard g) e) (ap (takenIn nothingTaken) e) (from-nobody (all-map (λ st p. p .0) a) refl)
+
+on-back : {v : World} (f : Frame) (ear : Listener) (taken : Response) (quiet : ℕ) → v .controller .stage ≡ Listening f ear taken quiet → On v → Back (f .command) (dataOf f (v .lent)) taken (v .units)
+on-back f ear taken quiet e (rests r eight codes d a) = absurd (false≢true (sym (rest-hears r) ∙ ap isListening e))
+on-back f ear taken quiet e (submitted g framed codes d a) = absurd (false≢true (ap isListening e))
+on-back f ear taken quiet e (ended eight codes d a) = absurd (false≢true (ap isListening e))
+on-back f ear taken quiet e (runs g found x codes) = in-frame-back f ear taken quiet e x
+
+pub delivery-back : DeliveryBack
+delivery-back w v f ear taken quiet q r e = on-back f ear taken quiet e (every-run w v q r)

@@ -7,6 +7,9 @@ use mathlib.Core.Path.{_≡_}
 use mathlib.Core.Bool.{Bool, true, false}
 use mathlib.Core.List.{List, [], _∷_}
 use lib.ListN.{length}
+use Rattle.whole.specs.Back.{takenAt}
+use Rattle.answer.specs.declared.Response.{Response}
+use Rattle.answer.specs.Answer.{nothingTaken}
 use Rattle.bus.specs.Bus.{stationStep}
 use Rattle.bus.specs.declared.Station.{Station}
 use Rattle.controller.specs.Calls.{stepping}
@@ -15,7 +18,7 @@ use Rattle.turn.specs.declared.Event.{Event}
 use Rattle.controller.specs.Controller.{newController}
 use Rattle.frame.specs.Frame.{dataOf, lastNibble}
 use Rattle.frame.specs.declared.Frame.{Frame}
-use Rattle.frame.specs.declared.Stage.the-variants.{Sending, Resting}
+use Rattle.frame.specs.declared.Stage.the-variants.{Sending, Resting, Listening}
 use Rattle.header.specs.declared.Command.{Command}
 use Rattle.line.specs.declared.Listener.{Listener}
 use Rattle.line.specs.declared.Sender.{Sender}
@@ -34,9 +37,9 @@ use Rattle.whole.specs.Whole.{bytesFor, storedOf}
 use Rattle.delivery.specs.Calls.{Call, called}
 use Rattle.delivery.specs.Ends.{listening as listeningTime, quietly}
 use Rattle.delivery.specs.Heard.{Heard}
-use Rattle.delivery.specs.Lists.{All}
+use Rattle.delivery.specs.Lists.{All, One}
 use Rattle.delivery.specs.Promised.{Promised}
-use Rattle.delivery.specs.Stages.{Sound, addressed, InFrame, Goes, On}
+use Rattle.delivery.specs.Stages.{Sound, addressed, InFrame, Goes, On, answerBytes, Sits}
 use Rattle.delivery.specs.World.{World, Busy, levels, round, Different}
 
 -- A quiet start: every party is new, and each unit is lent its memory. The time-out is the controller's own setting.
@@ -99,6 +102,25 @@ Delivery =
     → Run w v
     → v .controller .stage ≡ Sending f i sender false
     → All (Delivered (f .command) (dataOf f (v .lent)) i) (v .units)
+
+-- The same for the response. While the controller listens, one unit responds, and the controller has taken the first j nibbles of its
+-- response, which count as sent, or one more: each once and in order. Or nobody does, and nothing was taken.
+pub data Returned (c : Command) (d : List ℕ) (taken : Response) (st : Station) : Type 0 where
+  returned :
+      (r : Reply) (j k : ℕ) (sender : Sender) (wait : Bool) → st .unit .phase ≡ Responding r j sender wait → (p : Promised c d r (st .unit .serial) (st .input)) → j ≤ k → k ≤ suc j
+      → taken ≡ takenAt (answerBytes p) (c .«buffer_length») k → Returned c d taken st
+
+pub data Back (c : Command) (d : List ℕ) (taken : Response) (ss : List Station) : Type 0 where
+  from-one : One (Returned c d taken) Sits ss → Back c d taken ss
+  from-nobody : All Sits ss → taken ≡ nothingTaken → Back c d taken ss
+
+abbrev pub DeliveryBack : Type 0
+DeliveryBack =
+    (w v : World) (f : Frame) (ear : Listener) (taken : Response) (quiet : ℕ)
+    → QuietStart w
+    → Run w v
+    → v .controller .stage ≡ Listening f ear taken quiet
+    → Back (f .command) (dataOf f (v .lent)) taken (v .units)
 
 -- The response. In the round in which a unit takes the last nibble its reply is fixed, by the whole-message definition in the state that
 -- it is in, and the effects happen.
