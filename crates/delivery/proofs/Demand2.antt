@@ -289,7 +289,7 @@ ends-in (suc n) f found w h x = by (λ calls y l. ends-in n f found (calledAll (
     by : ((calls : List Call) → InFrame f found (round w quietly) → left (round w quietly) < n → Ends n (calledAll (round w quietly) calls)) → Goes f found w quietly → Ends (suc n) w
     by go (on r y less) = ends-later (λ calls. go calls y (let l = less refl in omega arith))
     by go (answered fin d o) = ends-now (over-rests f w (spoke-moved o .0) fin (spoke-moved o .1))
-    by go (unanswered fin m b d a why) = ends-now (over-rests f w nothingTaken fin m)
+    by go (unanswered fin m b d a why still) = ends-now (over-rests f w nothingTaken fin m)
 
 flag : (b : Bool) → cond b 1 0 ≤ 1
 flag true = omega arith

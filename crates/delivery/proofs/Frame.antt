@@ -318,7 +318,7 @@ module _ (f : Frame) (found : List ℕ) (timeout : ℕ) (ring : Ring) (units : L
     wait-round : (t : Bool) → leb timeout (quiet + 1) ≡ t → Goes f found u busy
     wait-round true e =
         unanswered (control (u .controller) (levels u) (busy .here) lent found silent-small (framed .fits) refl) (waited-on ∙ ap (λ (x : Bool). cond (x || false) (over f nothingTaken) (stays (Listening f Ready nothingTaken (quiet + 1)))) e)
-        (control-buffer (u .controller) (levels u) (busy .here) lent found silent-small (framed .fits) ∙ same-buffer) (different-kept (levels u) (busy .there) different) (units-sit Ready (busy .there) units a) (hushed-kept (levels u) (busy .there) why)
+        (control-buffer (u .controller) (levels u) (busy .here) lent found silent-small (framed .fits) ∙ same-buffer) (different-kept (levels u) (busy .there) different) (units-sit Ready (busy .there) units a) (hushed-kept (levels u) (busy .there) why) (all-map (λ st p. p .0) a)
     wait-round false e =
         let m : movedIn u busy ≡ stays (Listening f Ready nothingTaken (quiet + 1)) = waited-on ∙ ap (λ (x : Bool). cond (x || false) (over f nothingTaken) (stays (Listening f Ready nothingTaken (quiet + 1)))) e in
         go-on (after (Listening f Ready nothingTaken quiet) (Listening f Ready nothingTaken (quiet + 1)) found found silent-small (framed .fits) refl m same-buffer) refl (waits (quiet + 1) framed (different-kept (levels u) (busy .there) different) (units-sit Ready (busy .there) units a) (hushed-kept (levels u) (busy .there) why)) (λ q.

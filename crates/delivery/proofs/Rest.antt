@@ -251,7 +251,7 @@ finish f found w busy r x codes fin m d a =
 frame-on : (f : Frame) (found : List ℕ) (w : World) (busy : Busy) → InFrame f found w → Codes (w .controller .ring) → Goes f found w busy → On (round w busy)
 frame-on f found w busy x codes (on r y less) = runs f found y (subst Codes (sym r) codes)
 frame-on f found w busy x codes (answered fin d o) = let m = spoke-moved o in finish f found w busy (m .0) x codes fin (m .1) d (one-all spoke-sits (λ st p. p) o)
-frame-on f found w busy x codes (unanswered fin m b d a why) = finish f found w busy nothingTaken x codes fin m d a
+frame-on f found w busy x codes (unanswered fin m b d a why still) = finish f found w busy nothingTaken x codes fin m d a
 
 -- Every round of a run.
 rest-on : (timeout : ℕ) (stage : Stage) (ring : Ring) (units : List Station) (lent response : List ℕ) (busy : Busy) → AtRest stage → 8 ≤ timeout → Codes ring → Different units → All (λ (st : Station). Fresh st × Sound st) units → On (round (world timeout stage ring units lent response) busy)

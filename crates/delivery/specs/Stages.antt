@@ -145,7 +145,7 @@ pub data InFrame (f : Frame) (found : List ℕ) : World → Type 0 where
       → All (Hushed (f .command) (dataOf f lent)) units
       → InFrame f found (world timeout (Listening f Ready nothingTaken quiet) ring units lent found)
 
--- What a round of it comes to.
+-- What a round of it comes to. A frame ends unanswered only where no unit was responding: no response is lost to the time-out.
 abbrev pub movedIn : World → Busy → Moved
 movedIn w busy = frameOf (w .controller) (levels w) (busy .here) (w .lent)
 
@@ -161,6 +161,7 @@ pub data Goes (f : Frame) (found : List ℕ) (w : World) (busy : Busy) : Type 0 
   unanswered :
       Finishes w busy → movedIn w busy ≡ over f nothingTaken → round w busy .response ≡ found → Different (round w busy .units) → All (λ (st : Station). Sits st × Sound st) (round w busy .units)
       → All (Hushed (f .command) (dataOf f (w .lent))) (round w busy .units)
+      → All Sits (w .units)
       → Goes f found w busy
 
 -- Codes of a ring are bytes.
