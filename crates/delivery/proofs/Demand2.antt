@@ -102,7 +102,7 @@ fits-count f-holds = omega arith
 fits-count f-waits = omega arith
 
 delivered : {c : Command} {d : List ℕ} {i : ℕ} {sender : Sender} (st : Station) → Part (Promised c d) c d i sender st → Delivered c d i st
-delivered {i = i} st (listens ear t f h a q) = let n : t ≤ 1 = fits-count f in listening ear (i + t) (omega arith) (omega arith) h
+delivered {i = i} st (listens ear t f h a q) = let n : t ≤ 1 = fits-count f in listening ear (i + t) (omega arith) (omega arith) a h
 delivered st (answers ear r f l a e p q) = whole ear r a l e p
 delivered st (sits now a e k q) = sitting now a e
 

@@ -89,7 +89,7 @@ FramesCalled = (f : Frame) (found : List ℕ) (w : World) → InFrame f found w 
 -- Delivery. While nibble i of a command is sent, each unit has taken the first i nibbles of it, or one more: each once and in order. A
 -- unit that the command does not address sits out behind the device code. When the last is taken, the reply is fixed.
 pub data Delivered (c : Command) (d : List ℕ) (i : ℕ) (st : Station) : Type 0 where
-  listening : (ear : Listener) (k : ℕ) → i ≤ k → k ≤ suc i → Heard (bytesFor c d) ear k (st .unit .phase) (st .buffer) → Delivered c d i st
+  listening : (ear : Listener) (k : ℕ) → i ≤ k → k ≤ suc i → (2 ≤ k → addressed c (st .unit .own) ≡ true) → Heard (bytesFor c d) ear k (st .unit .phase) (st .buffer) → Delivered c d i st
   whole :
       (ear : Listener) (r : Reply) → addressed c (st .unit .own) ≡ true → suc i ≡ 2 * length (bytesFor c d) → st .unit .phase ≡ Receiving ear (Answered r)
       → Promised c d r (st .unit .serial) (st .input) → Delivered c d i st
