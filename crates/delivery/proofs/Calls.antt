@@ -28,7 +28,7 @@ use Rattle.unit.specs.declared.Unit.{Unit}
 use Rattle.delivery.specs.Stages.{Fresh, Part, Sits, Sound, Talk, addressed, answers, idles, listens, selects, sits, talks}
 use Rattle.delivery.specs.Calls.{HostCall, feeds, takes, raises, calledBy, calledAt, unitTaken}
 use Rattle.delivery.specs.Lists.{All, none, also, One, this, that}
-use Rattle.delivery.specs.Promised.{Promised, Enough}
+use Rattle.delivery.specs.Promised.{Moment, Promised, Enough}
 use Rattle.answer.specs.declared.Response.{Response}
 use Rattle.line.specs.declared.Listener.{Listener}
 use Rattle.line.specs.declared.Sender.{Sender}
@@ -136,10 +136,11 @@ pub sound-called : {st after : Station} → Called st after → Sound st → Sou
 sound-called c s = record { room = subst (λ (x : List ℕ). 256 ≤ length x) (sym (c .buffer)) (s .room); memory = c .memory ∙ s .memory; bytes = c .bytes (s .bytes) }
 
 -- A promise outlasts it.
-abbrev pub promise-called : {c : Command} {d : List ℕ} {r : Reply} {st after : Station} → Called st after → Promised c d r (st .unit .serial) (st .input) → Promised c d r (after .unit .serial) (after .input)
-promise-called {r = r} {st = st} {after = after} k p = record {
+abbrev pub promise-called : (T : Moment) {c : Command} {d : List ℕ} {r : Reply} {st after : Station} → Called st after → Promised (T (st .unit .own)) c d r (st .unit .serial) (st .input) → Promised (T (after .unit .own)) c d r (after .unit .serial) (after .input)
+promise-called T {r = r} {st = st} {after = after} k p = record {
   given = p .given;
   memory = p .memory;
+  took = subst (λ (own : ℕ). T own (p .given) (p .memory)) (sym (k .own)) (p .took);
   said = p .said;
   stands = stands-longer r (st .unit .serial .input) (after .unit .serial .input) (st .input) (after .input) (k .fed) (p .enough) (k .grown) (k .count) .0 ∙ p .stands;
   long = stands-longer r (st .unit .serial .input) (after .unit .serial .input) (st .input) (after .input) (k .fed) (p .enough) (k .grown) (k .count) .1 .0 ∙ p .long;
@@ -148,16 +149,16 @@ promise-called {r = r} {st = st} {after = after} k p = record {
 }
 
 -- So every part of a frame does.
-pub part-called : {c : Command} {d : List ℕ} {i : ℕ} {sender : Sender} {st after : Station} → Called st after → Part (Promised c d) c d i sender st → Part (Promised c d) c d i sender after
-part-called {c} {d} {i} {sender} {st} {after} k (listens ear t f h a q) =
+pub part-called : (T : Moment) {c : Command} {d : List ℕ} {i : ℕ} {sender : Sender} {st after : Station} → Called st after → Part (Promised (T (st .unit .own)) c d) c d i sender st → Part (Promised (T (after .unit .own)) c d) c d i sender after
+part-called T {c} {d} {i} {sender} {st} {after} k (listens ear t f h a q) =
     listens ear t f (subst (λ (x : Phase). Heard (bytesFor c d) ear (i + t) x (after .buffer)) (sym (k .phase)) (subst (Heard (bytesFor c d) ear (i + t) (st .unit .phase)) (sym (k .buffer)) h))
     (λ l. ap (addressed c) (k .own) ∙ a l) (λ l. k .asking ∙ q l)
-part-called {c} k (answers ear r f l a e p q) = answers ear r f l (ap (addressed c) (k .own) ∙ a) (k .phase ∙ e) (promise-called k p) (k .asking ∙ q)
-part-called {c} k (sits now a e n q) = sits now (ap (addressed c) (k .own) ∙ a) (k .phase ∙ e) n (k .asking ∙ q)
+part-called T {c} k (answers ear r f l a e p q) = answers ear r f l (ap (addressed c) (k .own) ∙ a) (k .phase ∙ e) (promise-called T k p) (k .asking ∙ q)
+part-called T {c} k (sits now a e n q) = sits now (ap (addressed c) (k .own) ∙ a) (k .phase ∙ e) n (k .asking ∙ q)
 
-pub talk-called : {c : Command} {d : List ℕ} {stores : Bool} {found : List ℕ} {ear : Listener} {taken : Response} {quiet : ℕ} {buffer : List ℕ} {st after : Station} → Called st after
-    → Talk c d stores found ear taken quiet buffer st → Talk c d stores found ear taken quiet buffer after
-talk-called {c} k (talks r j t sender wait e p f g b l w z q own) = talks r j t sender wait (k .phase ∙ e) (promise-called k p) f g b l w z (k .asking ∙ q) (ap (addressed c) (k .own) ∙ own)
+pub talk-called : {T : Moment} {c : Command} {d : List ℕ} {stores : Bool} {found : List ℕ} {ear : Listener} {taken : Response} {quiet : ℕ} {buffer : List ℕ} {st after : Station} → Called st after
+    → Talk T c d stores found ear taken quiet buffer st → Talk T c d stores found ear taken quiet buffer after
+talk-called {T} {c} k (talks r j t sender wait e p f g b l w z q own) = talks r j t sender wait (k .phase ∙ e) (promise-called T k p) f g b l w z (k .asking ∙ q) (ap (addressed c) (k .own) ∙ own)
 
 pub sits-called : {st after : Station} → Called st after → Sits st → Sits after
 sits-called k s = (k .phase ∙ s .0, k .asking ∙ s .1)

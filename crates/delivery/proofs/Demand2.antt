@@ -2,33 +2,33 @@
 use Prim.Native.Nat.{ℕ, zero, suc, _+_, _-_, _<_, _≤_}
 use native.Mathlib.Omega.{arith}
 use mathlib.Core.Path.{_≡_, refl, sym, _∙_, ap, subst}
-use mathlib.Core.Bool.{Bool, true, false, cond, true≢false, false≢true, _||_}
+use mathlib.Core.Bool.{Bool, true, false, cond, true≢false, false≢true}
 use mathlib.Core.List.{List, [], _∷_}
-use lib.Dec.{ltb, lit<, eqb}
+use lib.Dec.{ltb, lit<}
 use lib.ListN.{length}
 use native.Mathlib.Nat.{not-suc-le-zero}
 use Rattle.delivery.proofs.Left.{left-called}
-use Rattle.delivery.specs.Calls.{Call}
+use Rattle.delivery.specs.Calls.{HostCall, Call, host as at-unit, submits, acknowledges, calledAt, called}
+use Rattle.delivery.proofs.Calls.{called as unit-called}
 use Rattle.whole.specs.Whole.{bytesFor}
-use Rattle.reply.specs.Reply.{lastNibble as lastOf}
-use Rattle.field.specs.Field.{byteFrom}
-use Rattle.line.specs.Line.{takenOf, hearOf, sentOf}
+use Rattle.reply.specs.Reply.{isSilent, lastNibble as lastOf}
+use Rattle.line.specs.Line.{isReady, hearOf, sentOf}
 use Rattle.phase.specs.declared.Moved.{Moved as Step}
-use Rattle.delivery.proofs.Part.{low-step}
-use Rattle.delivery.proofs.Fixes.{part-fixes}
+use Rattle.delivery.proofs.Part.{Stepped, low-step}
+use Rattle.delivery.proofs.Changes.{fresh-changes, sits-changes, talk-changes, part-changes}
 use Rattle.controller.specs.declared.Controller.{Controller}
-use Rattle.frame.specs.Frame.{over, isSubmitted}
+use Rattle.frame.specs.Frame.{over}
 use Rattle.frame.specs.declared.Moved.{Moved}
-use Rattle.delivery.specs.Demand2.{longest, Ends, ends-now, ends-later, FramesEnd, isAnswered, FixedBy, Fixes, calledAll, Returned, returned, Back, from-one, from-nobody, DeliveryBack}
+use Rattle.delivery.specs.Demand2.{longest, Ends, ends-now, ends-later, FramesEnd, calledAll, Changed, unchanged, fixed-now, done-now, Changes, Returned, returned, Back, from-one, from-nobody, DeliveryBack}
 use Rattle.delivery.specs.Ends.{left, quietly}
 use Rattle.delivery.specs.Stages.{Sits, Goes, on, answered, unanswered, Finishes, movedIn}
-use Rattle.delivery.proofs.Frame.{talk-bound, sits-left}
+use Rattle.delivery.proofs.Frame.{sits-left}
 use Rattle.delivery.proofs.Listening.{one-less}
 use Rattle.delivery.proofs.Rest.{spoke-moved}
-use Rattle.delivery.proofs.Talk.{talkLeft, place-most}
+use Rattle.delivery.proofs.Talk.{place-most}
 use Rattle.answer.specs.Answer.{nothingTaken}
 use Rattle.answer.specs.declared.Response.{Response}
-use Rattle.bus.specs.Bus.{stationStep, unitAfter}
+use Rattle.bus.specs.Bus.{stationStep, isOdd}
 use Rattle.bus.specs.declared.Station.{Station}
 use Rattle.controller.specs.Controller.{newController}
 use Rattle.frame.specs.Frame.{dataOf}
@@ -39,38 +39,38 @@ use Rattle.header.specs.declared.Command.{Command}
 use Rattle.line.specs.declared.Listener.{Listener}
 use Rattle.line.specs.declared.Sender.{Sender}
 use Rattle.line.specs.declared.Lines.{Lines}
-use Rattle.message.specs.Answer.{gives, refused, kept}
-use Rattle.phase.specs.Phase.{phaseStep, phaseOutput, selected, respondingStep}
+use Rattle.message.specs.Answer.{gives}
+use Rattle.phase.specs.Phase.{phaseStep, moves}
 use Rattle.phase.specs.declared.Phase.{Phase}
-use Rattle.phase.specs.declared.Phase.the-variants.{Idle, Selecting, SittingOut}
+use Rattle.phase.specs.declared.Phase.the-variants.{Idle, Selecting, Receiving, Responding, SittingOut}
+use Rattle.phase.specs.declared.Progress.the-variants.{Taking, Answered}
 use Rattle.serial.specs.declared.Reply.{Reply}
+use Rattle.serial.specs.Serial.{finished}
 use Rattle.serial.specs.declared.Serial.{Serial}
-use Rattle.unit.specs.Unit.{lowStep, highStep}
 use Rattle.unit.specs.declared.Unit.{Unit}
-use Rattle.delivery.specs.Heard.{Fits, f-next, f-placed, f-holds, f-waits, Heard, h-none, h-first, h-byte, h-half}
-use Rattle.delivery.specs.Lists.{All, none, One, this, that}
-use Rattle.delivery.specs.Promised.{Promised}
-use Rattle.delivery.specs.Stages.{Sound, addressed, Talk, talks, Part, listens, answers, sits, InFrame, begins, sends, hears, waits, Fresh, idles, selects, On, AtRest, is-free, is-resting, rests, submitted, ended, runs}
-use Rattle.delivery.specs.World.{World, levels, round}
-use Rattle.delivery.specs.Demand2.{New, QuietStart, start, a-round, a-call, Runs, Frames, FramesCalled, Delivered, listening, whole, sitting, Delivery, Untouched, NobodyElse}
+use Rattle.delivery.specs.Heard.{Fits, f-next, f-placed, f-holds, f-waits}
+use Rattle.delivery.specs.Lists.{All, none, also, One, this, that}
+use Rattle.delivery.specs.Promised.{Moment, Promised}
+use Rattle.delivery.specs.Stages.{isAnswered, Noted, Hushed, not-its-own, by-the-rule, Sound, addressed, Talk, talks, Part, listens, answers, sits, InFrame, begins, sends, hears, waits, Fresh, idles, On, AtRest, is-free, is-resting, rests, submitted, ended, runs}
+use Rattle.delivery.specs.World.{World, Busy, levels, round, Becomes, in-front, behind, Different, another}
+use Rattle.delivery.specs.Demand2.{New, QuietStart, Run, start, a-round, a-call, Took, takes-it, took-it, inFrame, Runs, Frames, Responses, TakenOnce, FramesCalled, Delivered, listening, whole, sitting, Delivery, Untouched, NobodyElse}
 use borrow.Author.Tests.{le-ltb}
 use Rattle.controller.specs.Calls.{stepping}
 use Rattle.controller.specs.Controller.{eventIn}
 use Rattle.frame.specs.Frame.{lentAt, lentTo, pullsOf}
 use Rattle.frame.specs.declared.Lent.the-variants.{Fits as AsLent}
-use Rattle.line.specs.declared.Listener.the-variants.{Ready, Holding}
+use Rattle.line.specs.declared.Listener.the-variants.{Ready}
 use Rattle.line.specs.declared.Sender.the-variants.{Next}
 use Rattle.unit.specs.Calls.{stepping as unitStepping}
 use Rattle.unit.specs.Unit.{unitStep, pullsNibble}
 use Rattle.delivery.specs.Demand2.{Steps}
 use Rattle.delivery.proofs.Lines.{nibble-kept, hsk-own, bav-kept}
-use Rattle.delivery.proofs.Frame.{fresh-nibble}
 use Rattle.delivery.proofs.Stage.{sending, sent-nibble, shows, nibble-below}
-use Rattle.delivery.proofs.Listening.{heard-nibble, still-nibble}
+use Rattle.delivery.proofs.Listening.{heard-nibble, still-nibble, hearing}
 use Rattle.delivery.proofs.Rest.{released, rest-nibble}
 use Rattle.bus.specs.Bus.{levelsWith}
-use Rattle.delivery.proofs.Frame.{frame-round}
-use Rattle.delivery.proofs.Lists.{all-map, one-all, all-zip}
+use Rattle.delivery.proofs.Frame.{frame-round, own-kept, begin-nibble, begin-high, one-bound}
+use Rattle.delivery.proofs.Lists.{all-map, one-all, all-zip, all-step, all-becomes, one-map}
 use Rattle.delivery.proofs.Rest.{on-round}
 use Rattle.delivery.proofs.Run.{on-called, in-frame-called}
 
@@ -78,21 +78,65 @@ use Rattle.delivery.proofs.Run.{on-called, in-frame-called}
 new-fresh : (st : Station) → New st → Fresh st × Sound st
 new-fresh st n = (idles (ap (λ (u : Unit). u .phase) (n .is-new)), n .lent)
 
-starts : (w : World) → QuietStart w → On w
-starts w q =
+starts : (T : Moment) (w : World) → QuietStart w → On T w
+starts T w q =
     let eq : w ≡ record { controller = newController (q .timeout); units = w .units; lent = w .lent; response = w .response } = λ k. record { controller = q .is-new k; units = w .units; lent = w .lent; response = w .response } in
-    subst On (sym eq) (rests is-free (q .least) none (q .codes) (all-map new-fresh (q .units)))
+    subst (On T) (sym eq) (rests is-free (q .least) none (q .codes) (all-map new-fresh (q .units)))
+
+-- What was known of the moments is known still.
+abbrev Wider : Moment → Moment → Type 0
+Wider T U = (own : ℕ) (s : Serial) (m : List ℕ) → T own s m → U own s m
+
+abbrev wider-promise : {T U : Serial → List ℕ → Type 0} {c : Command} {d : List ℕ} {r : Reply} {s : Serial} {input : List ℕ} → ((x : Serial) (m : List ℕ) → T x m → U x m) → Promised T c d r s input → Promised U c d r s input
+wider-promise g p = record { given = p .given; memory = p .memory; took = g (p .given) (p .memory) (p .took); said = p .said; stands = p .stands; long = p .long; enough = p .enough; fits = p .fits }
+
+wider-frame : {T U : Moment} {f : Frame} {found : List ℕ} {w : World} → Wider T U → InFrame T f found w → InFrame U f found w
+wider-frame g (begins framed d a) = begins framed d a
+wider-frame {T} {U} g (sends i sender framed d s l a) = sends i sender framed d s l (all-map (λ st p. (part st (p .0), p .1)) a)
+  where
+    part : {c : Command} {e : List ℕ} {k : ℕ} {x : Sender} (st : Station) → Part (Promised (T (st .unit .own)) c e) c e k x st → Part (Promised (U (st .unit .own)) c e) c e k x st
+    part st (listens ear t f h a q) = listens ear t f h a q
+    part st (answers ear r f l a e p q) = answers ear r f l a e (wider-promise (g (st .unit .own)) p) q
+    part st (sits now a e k q) = sits now a e k q
+wider-frame {T} {U} g (hears ear taken quiet framed d l o) = hears ear taken quiet framed d l (one-map (λ st p. (talk st (p .0), p .1)) o)
+  where
+    talk : {c : Command} {e : List ℕ} {stores : Bool} {found : List ℕ} {ear : Listener} {taken : Response} {quiet : ℕ} {buffer : List ℕ} (st : Station) → Talk T c e stores found ear taken quiet buffer st → Talk U c e stores found ear taken quiet buffer st
+    talk st (talks r j t sender wait e p fits h b l w z q own) = talks r j t sender wait e (wider-promise (g (st .unit .own)) p) fits h b l w z q own
+wider-frame {T} {U} g (waits quiet framed d a why) = waits quiet framed d a (all-map hush why)
+  where
+    hush : {c : Command} {e : List ℕ} (st : Station) → Hushed T c e st → Hushed U c e st
+    hush st (not-its-own e) = not-its-own e
+    hush st (by-the-rule given memory t e) = by-the-rule given memory (g (st .unit .own) given memory t) e
+
+frame-runs : {T : Moment} {f : Frame} {found : List ℕ} {w : World} → InFrame T f found w → inFrame (w .controller .stage) ≡ true
+frame-runs (begins framed d a) = refl
+frame-runs (sends i sender framed d s l a) = refl
+frame-runs (hears ear taken quiet framed d l o) = refl
+frame-runs (waits quiet framed d a why) = refl
+
+wider-on : {T U : Moment} {w : World} → (inFrame (w .controller .stage) ≡ true → Wider T U) → On T w → On U w
+wider-on g (rests r eight codes d a) = rests r eight codes d a
+wider-on g (submitted f framed codes d a) = submitted f framed codes d a
+wider-on g (ended eight codes d a) = ended eight codes d a
+wider-on g (runs f found x codes) = runs f found (wider-frame (g (frame-runs x)) x) codes
+
+-- What a run has noted.
+notes : {w v : World} (r : Run w v) (busy : Busy) → Noted (Took (a-round r busy)) v busy
+notes r busy st after becomes e now = takes-it st after becomes e now refl refl refl
 
 pub every-run : Runs
-every-run w v q start = starts w q
-every-run w v q (a-round r busy) = on-round (every-run w _ q r) busy
-every-run w v q (a-call r call) = on-called (every-run w _ q r) call
+every-run w v q start = starts _ w q
+every-run w _ q (a-round {v = v} r busy) = on-round (Took (a-round r busy)) busy (notes r busy) (wider-on (λ e own s m t. took-it e t) (every-run w v q r))
+every-run w _ q (a-call {v = v} r call) = on-called (every-run w v q r) call
 
 pub every-frame : Frames
-every-frame f found w x busy = frame-round f found x busy
+every-frame T f found w busy noted x = frame-round T f found busy noted x
+
+pub every-response : Responses
+every-response w v r f found x busy = frame-round (Took (a-round r busy)) f found busy (notes r busy) (wider-frame (λ own s m t. took-it (frame-runs x) t) x)
 
 pub every-call : FramesCalled
-every-call f found w x call = in-frame-called call x
+every-call T f found w x call = in-frame-called call x
 
 -- What a unit's part says of what it has taken.
 fits-count : {n t : ℕ} {sender : Sender} {ear : Listener} → Fits n sender ear t → t ≤ 1
@@ -101,10 +145,10 @@ fits-count f-placed = omega arith
 fits-count f-holds = omega arith
 fits-count f-waits = omega arith
 
-delivered : {c : Command} {d : List ℕ} {i : ℕ} {sender : Sender} (st : Station) → Part (Promised c d) c d i sender st → Delivered c d i st
-delivered {i = i} st (listens ear t f h a q) = let n : t ≤ 1 = fits-count f in listening ear (i + t) (omega arith) (omega arith) a h
-delivered st (answers ear r f l a e p q) = whole ear r a l e p
-delivered st (sits now a e k q) = sitting now a e
+delivered : (T : Moment) {c : Command} {d : List ℕ} {i : ℕ} {sender : Sender} (st : Station) → Part (Promised (T (st .unit .own)) c d) c d i sender st → Delivered T c d i st
+delivered T {i = i} st (listens ear t f h a q) = let n : t ≤ 1 = fits-count f in listening ear (i + t) (omega arith) (omega arith) a h
+delivered T st (answers ear r f l a e p q) = whole ear r a l e p
+delivered T st (sits now a e k q) = sitting now a e
 
 -- What a sending stage says.
 abbrev indexIn : Stage → ℕ
@@ -119,7 +163,7 @@ frameIn g Free = g
 frameIn g (Resting first) = g
 frameIn g (Waiting f) = g
 frameIn g (Sending f i sender wait) = f
-frameIn g (Listening f ear taken quiet) = g
+frameIn g (Listening f ear taken quiet) = f
 
 abbrev isSending : Stage → Bool
 isSending Free = false
@@ -133,16 +177,16 @@ rest-sends : {stage : Stage} → AtRest stage → isSending stage ≡ false
 rest-sends is-free = refl
 rest-sends is-resting = refl
 
-in-frame-delivers : {g : Frame} {found : List ℕ} {v : World} (f : Frame) (i : ℕ) (sender : Sender) → v .controller .stage ≡ Sending f i sender false → InFrame g found v → All (Delivered (f .command) (dataOf f (v .lent)) i) (v .units)
+in-frame-delivers : {T : Moment} {g : Frame} {found : List ℕ} {v : World} (f : Frame) (i : ℕ) (sender : Sender) → v .controller .stage ≡ Sending f i sender false → InFrame T g found v → All (Delivered T (f .command) (dataOf f (v .lent)) i) (v .units)
 in-frame-delivers f i sender e (begins framed d a) = absurd (false≢true (ap isSending e))
-in-frame-delivers {g} f i sender e (sends j s {units = units} {lent = lent} framed d x l a) =
+in-frame-delivers {T} {g} f i sender e (sends j s {units = units} {lent = lent} framed d x l a) =
     let frames : g ≡ f = ap (frameIn g) e in
     let places : j ≡ i = ap indexIn e in
-    subst (λ (k : ℕ). All (Delivered (f .command) (dataOf f lent) k) units) places (subst (λ (h : Frame). All (Delivered (h .command) (dataOf h lent) j) units) frames (all-map (λ st p. delivered st (p .0)) a))
+    subst (λ (k : ℕ). All (Delivered T (f .command) (dataOf f lent) k) units) places (subst (λ (h : Frame). All (Delivered T (h .command) (dataOf h lent) j) units) frames (all-map (λ st p. delivered T st (p .0)) a))
 in-frame-delivers f i sender e (hears ear taken quiet framed d l o) = absurd (false≢true (ap isSending e))
 in-frame-delivers f i sender e (waits quiet framed d a why) = absurd (false≢true (ap isSending e))
 
-on-delivers : {v : World} (f : Frame) (i : ℕ) (sender : Sender) → v .controller .stage ≡ Sending f i sender false → On v → All (Delivered (f .command) (dataOf f (v .lent)) i) (v .units)
+on-delivers : {T : Moment} {v : World} (f : Frame) (i : ℕ) (sender : Sender) → v .controller .stage ≡ Sending f i sender false → On T v → All (Delivered T (f .command) (dataOf f (v .lent)) i) (v .units)
 on-delivers f i sender e (rests r eight codes d a) = absurd (false≢true (sym (rest-sends r) ∙ ap isSending e))
 on-delivers f i sender e (submitted g framed codes d a) = absurd (false≢true (ap isSending e))
 on-delivers f i sender e (ended eight codes d a) = absurd (false≢true (ap isSending e))
@@ -151,79 +195,20 @@ on-delivers f i sender e (runs g found x codes) = in-frame-delivers f i sender e
 pub delivery : Delivery
 delivery w v f i sender q r e = on-delivers f i sender e (every-run w v q r)
 
--- A unit that does not receive and does not respond is not changed.
-data Apart : Phase → Type 0 where
-  a-idle : Apart Idle
-  a-selecting : {ear : Listener} {half : Bool} {low : ℕ} → Apart (Selecting ear half low)
-  a-sitting : {now : Bool} → Apart (SittingOut now)
-
-apart-serial : {x : Phase} (own : ℕ) (s : Serial) (seen : Lines) (busy : Bool) (buffer input : List ℕ) → Apart x → phaseStep x own s seen busy buffer input .serial ≡ s
-apart-serial own s seen busy buffer input a-idle = refl
-apart-serial own s seen busy buffer input a-selecting = refl
-apart-serial own s seen busy buffer input a-sitting = refl
-
-apart-output : {x : Phase} (s : Serial) (seen : Lines) (buffer output : List ℕ) → Apart x → phaseOutput x s seen buffer output ≡ output
-apart-output s seen buffer output a-idle = refl
-apart-output s seen buffer output a-selecting = refl
-apart-output s seen buffer output a-sitting = refl
-
-untouched : (st : Station) (seen : Lines) (busy : Bool) → Apart (st .unit .phase) → Untouched st (stationStep st seen busy)
-untouched st seen busy x = (
-  serial-by (ltb 15 (seen .nibble)) (ltb (length (st .buffer)) 256) (seen .bav),
-  (refl, output-by (ltb 15 (seen .nibble)) (ltb (length (st .buffer)) 256) (seen .bav)),
-)
-  where
-    serial-by : (a b c : Bool) → unitAfter (cond a (refused 5) (cond b (refused 11) (gives (cond c (lowStep (st .unit) (seen .hsk) (phaseStep (st .unit .phase) (st .unit .own) (st .unit .serial) seen busy (st .buffer) (st .input))) (highStep (st .unit) (seen .hsk)))))) (st .unit) .serial ≡ st .unit .serial
-    serial-by true b c = refl
-    serial-by false true c = refl
-    serial-by false false true = apart-serial (st .unit .own) (st .unit .serial) seen busy (st .buffer) (st .input) x
-    serial-by false false false = refl
-
-    output-by : (a b c : Bool) → kept (cond a (refused 5) (cond b (refused 11) (gives (cond c (lowStep (st .unit) (seen .hsk) (phaseStep (st .unit .phase) (st .unit .own) (st .unit .serial) seen busy (st .buffer) (st .input))) (highStep (st .unit) (seen .hsk)))))) (cond c (phaseOutput (st .unit .phase) (st .unit .serial) seen (st .buffer) (st .output)) (st .output)) (st .output) ≡ st .output
-    output-by true b c = refl
-    output-by false true c = refl
-    output-by false false true = apart-output (st .unit .serial) seen (st .buffer) (st .output) x
-    output-by false false false = refl
-
-heard-apart : {bytes : List ℕ} {ear : Listener} {k : ℕ} {phase : Phase} {buffer : List ℕ} → Heard bytes ear k phase buffer → (2 ≤ k → ⊥) → Apart phase
-heard-apart (h-none room) n = a-selecting
-heard-apart (h-first room) n = a-selecting
-heard-apart (h-byte j buffer room g h) n = absurd (n (omega arith))
-heard-apart (h-half j buffer room g h) n = absurd (n (omega arith))
-
-part-apart : {P : Reply → Serial → List ℕ → Type 0} {c : Command} {d : List ℕ} {i : ℕ} {sender : Sender} (st : Station) → Part P c d i sender st → addressed c (st .unit .own) ≡ false → Apart (st .unit .phase)
-part-apart st (listens ear t f h a q) e = heard-apart h (λ l. true≢false (sym (a l) ∙ e))
-part-apart st (answers ear r f l a g p q) e = absurd (true≢false (sym a ∙ e))
-part-apart st (sits now a g k q) e = subst Apart (sym g) a-sitting
-
-fresh-apart : (st : Station) → Fresh st → Apart (st .unit .phase)
-fresh-apart st (idles e) = subst Apart (sym e) a-idle
-fresh-apart st (selects e) = subst Apart (sym e) a-selecting
-
-talk-addressed : {c : Command} {d : List ℕ} {stores : Bool} {found : List ℕ} {ear : Listener} {taken : Response} {quiet : ℕ} {buffer : List ℕ} (st : Station) → Talk c d stores found ear taken quiet buffer st → addressed c (st .unit .own) ≡ true
-talk-addressed st (talks r j t sender wait e p fits g b l w c q own) = own
-
-pub nobody-else : NobodyElse
-nobody-else f found w (begins framed d a) host = all-map (λ st p e. untouched st (levels w) host (fresh-apart st (p .0))) a
-nobody-else f found w (sends i sender framed d s l a) host = all-map (λ st p e. untouched st (levels w) host (part-apart st (p .0) e)) a
-nobody-else f found w (hears ear taken quiet framed d l o) host =
-    one-all (λ st p e. absurd (true≢false (sym (talk-addressed st (p .0)) ∙ e))) (λ st p e. untouched st (levels w) host (subst Apart (sym (p .0 .0)) a-sitting)) o
-nobody-else f found w (waits quiet framed d a why) host = all-map (λ st p e. untouched st (levels w) host (subst Apart (sym (p .0 .0)) a-sitting)) a
-
 -- No step is refused: the nibble that is seen is one, what is lent fits, and each unit has room for a command.
-in-frame-nibble : {f : Frame} {found : List ℕ} {w : World} → InFrame f found w → levels w .nibble < 16
-in-frame-nibble (begins framed d a) = subst (λ (x : ℕ). x < 16) (sym (nibble-kept (sending Next) (lit< tt) (all-map (λ st p. fresh-nibble (p .0)) a))) (lit< tt)
-in-frame-nibble {f} (sends i sender {units = units} {lent = lent} framed d s l a) = sent-nibble (f .command) (dataOf f lent) (framed .sent) i sender units 0 s a
-in-frame-nibble {f} {found} (hears ear taken quiet {timeout = timeout} {units = units} {lent = lent} {response = response} framed d l o) = heard-nibble f (dataOf f lent) found timeout (framed .eight) (framed .room) false 0 ear taken quiet response units o
+in-frame-nibble : {T : Moment} {f : Frame} {found : List ℕ} {w : World} → InFrame T f found w → levels w .nibble < 16
+in-frame-nibble (begins framed d a) = begin-nibble a
+in-frame-nibble {T} {f} (sends i sender {units = units} {lent = lent} framed d s l a) = sent-nibble T (f .command) (dataOf f lent) (framed .sent) i sender units 0 s a
+in-frame-nibble {T} {f} {found} (hears ear taken quiet {timeout = timeout} {units = units} {lent = lent} {response = response} framed d l o) = heard-nibble T f (dataOf f lent) found timeout (framed .eight) (framed .room) false 0 ear taken quiet response units o
 in-frame-nibble (waits quiet {units = units} framed d a why) = subst (λ (x : ℕ). x < 16) (sym (still-nibble Ready 0 units a)) (lit< tt)
 
-in-frame-lent : {f : Frame} {found : List ℕ} {w : World} → InFrame f found w → lentAt (w .controller .stage) (length (w .lent)) (length (w .response)) ≡ AsLent
+in-frame-lent : {T : Moment} {f : Frame} {found : List ℕ} {w : World} → InFrame T f found w → lentAt (w .controller .stage) (length (w .lent)) (length (w .response)) ≡ AsLent
 in-frame-lent (begins framed d a) = framed .fits
 in-frame-lent (sends i sender framed d s l a) = framed .fits
-in-frame-lent {f} (hears ear taken quiet {lent = lent} framed d l o) = ap (lentTo f (length lent)) l ∙ framed .fits
+in-frame-lent {T} {f} (hears ear taken quiet {lent = lent} framed d l o) = ap (lentTo f (length lent)) l ∙ framed .fits
 in-frame-lent (waits quiet framed d a why) = framed .fits
 
-in-frame-sound : {f : Frame} {found : List ℕ} {w : World} → InFrame f found w → All Sound (w .units)
+in-frame-sound : {T : Moment} {f : Frame} {found : List ℕ} {w : World} → InFrame T f found w → All Sound (w .units)
 in-frame-sound (begins framed d a) = all-map (λ st p. p .1) a
 in-frame-sound (sends i sender framed d s l a) = all-map (λ st p. p .1) a
 in-frame-sound (hears ear taken quiet framed d l o) = one-all (λ st p. p .1) (λ st p. p .1) o
@@ -237,19 +222,19 @@ rest-lent : {stage : Stage} (n room : ℕ) → AtRest stage → lentAt stage n r
 rest-lent n room is-free = refl
 rest-lent n room is-resting = refl
 
-on-nibble : {v : World} → On v → levels v .nibble < 16
+on-nibble : {T : Moment} {v : World} → On T v → levels v .nibble < 16
 on-nibble (rests {units = units} r eight codes d a) = subst (λ (l : Lines). levelsWith l units .nibble < 16) (sym (rest-pulls r)) (rest-nibble units a)
 on-nibble (submitted f {units = units} framed codes d a) = rest-nibble units a
 on-nibble (ended eight codes d a) = subst (λ (x : ℕ). x < 16) (sym (nibble-kept released (lit< tt) (all-map (λ st p. ap pullsNibble (p .0 .0)) a))) (lit< tt)
 on-nibble (runs f found x codes) = in-frame-nibble x
 
-on-lent : {v : World} → On v → lentAt (v .controller .stage) (length (v .lent)) (length (v .response)) ≡ AsLent
+on-lent : {T : Moment} {v : World} → On T v → lentAt (v .controller .stage) (length (v .lent)) (length (v .response)) ≡ AsLent
 on-lent (rests {lent = lent} {response = response} r eight codes d a) = rest-lent (length lent) (length response) r
 on-lent (submitted f framed codes d a) = framed .fits
 on-lent (ended eight codes d a) = refl
 on-lent (runs f found x codes) = in-frame-lent x
 
-on-sound : {v : World} → On v → All Sound (v .units)
+on-sound : {T : Moment} {v : World} → On T v → All Sound (v .units)
 on-sound (rests r eight codes d a) = all-map (λ st p. p .1) a
 on-sound (submitted f framed codes d a) = all-map (λ st p. p .1) a
 on-sound (ended eight codes d a) = all-map (λ st p. p .1) a
@@ -274,102 +259,195 @@ every-step w v q r busy =
 over-rests : (f : Frame) (w : World) (r : Response) → Finishes w quietly → movedIn w quietly ≡ over f r → round w quietly .controller .stage ≡ Resting true
 over-rests f w r fin m = ap (λ (c : Controller). c .stage) fin ∙ ap (λ (x : Moved). x .stage) m
 
-all-in : {f : Frame} {found : List ℕ} {v : World} (calls : List Call) → InFrame f found v → InFrame f found (calledAll v calls)
+all-in : {T : Moment} {f : Frame} {found : List ℕ} {v : World} (calls : List Call) → InFrame T f found v → InFrame T f found (calledAll v calls)
 all-in [] y = y
 all-in (call ∷ calls) y = all-in calls (in-frame-called call y)
 
-all-left : {f : Frame} {found : List ℕ} {v : World} (calls : List Call) → InFrame f found v → left (calledAll v calls) ≡ left v
+all-left : {T : Moment} {f : Frame} {found : List ℕ} {v : World} (calls : List Call) → InFrame T f found v → left (calledAll v calls) ≡ left v
 all-left [] y = refl
 all-left (call ∷ calls) y = all-left calls (in-frame-called call y) ∙ left-called call y
 
-ends-in : (n : ℕ) (f : Frame) (found : List ℕ) (w : World) → left w < n → InFrame f found w → Ends n w
+-- Where nothing is asked of the moments.
+abbrev Any : Moment
+Any own s m = own ≡ own
+
+ends-in : (n : ℕ) (f : Frame) (found : List ℕ) (w : World) → left w < n → InFrame Any f found w → Ends n w
 ends-in zero f found w h x = absurd (not-suc-le-zero h)
-ends-in (suc n) f found w h x = by (λ calls y l. ends-in n f found (calledAll (round w quietly) calls) (subst (λ (k : ℕ). k < n) (sym (all-left calls y)) l) (all-in calls y)) (frame-round f found x quietly)
+ends-in (suc n) f found w h x =
+    by (λ calls y l. ends-in n f found (calledAll (round w quietly) calls) (subst (λ (k : ℕ). k < n) (sym (all-left calls y)) l) (all-in calls y)) (frame-round Any f found quietly (λ st after b e now. refl) x)
   where
-    by : ((calls : List Call) → InFrame f found (round w quietly) → left (round w quietly) < n → Ends n (calledAll (round w quietly) calls)) → Goes f found w quietly → Ends (suc n) w
+    by : ((calls : List Call) → InFrame Any f found (round w quietly) → left (round w quietly) < n → Ends n (calledAll (round w quietly) calls)) → Goes Any f found w quietly → Ends (suc n) w
     by go (on r y less) = ends-later (λ calls. go calls y (let l = less refl in omega arith))
     by go (answered fin d o) = ends-now (over-rests f w (spoke-moved o .0) fin (spoke-moved o .1))
     by go (unanswered fin m b d a why still) = ends-now (over-rests f w nothingTaken fin m)
 
-flag : (b : Bool) → cond b 1 0 ≤ 1
-flag true = omega arith
-flag false = omega arith
-
-at-most : (f : Frame) (found : List ℕ) (w : World) → InFrame f found w → left w < longest f (w .controller .timeout)
+at-most : {T : Moment} (f : Frame) (found : List ℕ) (w : World) → InFrame T f found w → left w < longest f (w .controller .timeout)
 at-most f found w (begins framed d a) = omega arith
 at-most f found w (sends i sender framed d s l a) = let four = place-most sender (levels w .hsk) in omega arith
-at-most f found w (hears ear taken quiet {timeout = timeout} {units = units} framed d l o) = one-less (longest f timeout) (timeout - quiet) (bounded o)
-  where
-    bounded : {s : List Station} {buffer : List ℕ} {e : List ℕ} → One (λ (st : Station). Talk (f .command) e (isSubmitted (f .kind)) found ear taken quiet buffer st × Sound st) (λ (st : Station). Sits st × Sound st) s
-        → One (λ (st : Station). (Talk (f .command) e (isSubmitted (f .kind)) found ear taken quiet buffer st × (talkLeft ear st < longest f timeout)) × Sound st) (λ (st : Station). Sits st × Sound st) s
-    bounded (this {x = st} p a) = this ((p .0, (let b = talk-bound st (p .0) in omega arith)), p .1) a
-    bounded (that q o) = that q (bounded o)
+at-most f found w (hears ear taken quiet {timeout = timeout} {units = units} framed d l o) = one-less (longest f timeout) (timeout - quiet) (one-bound f (omega arith) o)
 at-most f found w (waits quiet {timeout = timeout} framed d a why) = let k = sits-left (levels w .hsk) (timeout - quiet) a in omega arith
 
 pub frames-end : FramesEnd
-frames-end f found w x = ends-in (longest f (w .controller .timeout)) f found w (at-most f found w x) x
+frames-end T f found w x = ends-in (longest f (w .controller .timeout)) f found w (at-most f found w x) (wider-frame (λ own s m t. refl) x)
 
--- The reply is fixed in the round of the last nibble, and in no other.
-open-cond : (t : Bool) (a b : Phase) → isAnswered a ≡ false → isAnswered b ≡ false → isAnswered (cond t a b) ≡ false
-open-cond true a b e g = e
-open-cond false a b e g = g
+-- What a round of a frame makes of its units.
+talk-addressed : {T : Moment} {c : Command} {d : List ℕ} {stores : Bool} {found : List ℕ} {ear : Listener} {taken : Response} {quiet : ℕ} {buffer : List ℕ} (st : Station) → Talk T c d stores found ear taken quiet buffer st → addressed c (st .unit .own) ≡ true
+talk-addressed st (talks r j t sender wait e p fits g b l w c q own) = own
 
-apart-open : {x : Phase} (own : ℕ) (s : Serial) (seen : Lines) (busy : Bool) (buffer input : List ℕ) → Apart x → isAnswered (phaseStep x own s seen busy buffer input .phase) ≡ false
-apart-open own s seen busy buffer input a-idle = open-cond (seen .hsk) (SittingOut false) (Selecting Ready false 0) refl refl
-apart-open own s seen busy buffer input (a-selecting {ear = ear} {half = half} {low = low}) =
-    open-cond (takenOf ear (seen .hsk)) (cond half (selected own (byteFrom low (seen .nibble))) (Selecting Holding true (seen .nibble))) (Selecting (hearOf ear (seen .hsk) busy) half low)
-    (open-cond half (selected own (byteFrom low (seen .nibble))) (Selecting Holding true (seen .nibble)) (open-cond (eqb (byteFrom low (seen .nibble)) own || eqb (byteFrom low (seen .nibble)) 0) _ (SittingOut true) refl refl) refl) refl
-apart-open own s seen busy buffer input a-sitting = refl
+in-frame-low : {T : Moment} {f : Frame} {found : List ℕ} {w : World} → InFrame T f found w → levels w .bav ≡ true
+in-frame-low (begins {units = units} framed d a) = bav-kept (sending Next) units refl
+in-frame-low (sends i sender {units = units} framed d s l a) = bav-kept (sending sender) units refl
+in-frame-low (hears ear taken quiet {units = units} framed d l o) = bav-kept (hearing ear) units refl
+in-frame-low (waits quiet {units = units} framed d a why) = bav-kept (hearing Ready) units refl
 
-moved-open : (t : Bool) (a b : Step) → isAnswered (a .phase) ≡ false → isAnswered (b .phase) ≡ false → isAnswered (cond t a b .phase) ≡ false
-moved-open true a b e g = e
-moved-open false a b e g = g
+in-frame-step : {T : Moment} {f : Frame} {found : List ℕ} {w : World} → InFrame T f found w → (st : Station) (host : Bool) → Sound st → Stepped st (levels w) host (stationStep st (levels w) host)
+in-frame-step {w = w} x st host s = low-step st (levels w) host (in-frame-nibble x) (s .room) (in-frame-low x)
 
-responding-open : (s : Serial) (r : Reply) (j : ℕ) (sender : Sender) (wait hsk : Bool) (input : List ℕ) → isAnswered (respondingStep s r j sender wait hsk input .phase) ≡ false
-responding-open s r j sender wait hsk input =
-    moved-open wait _ _ refl (moved-open (sentOf sender hsk) _ _ (moved-open (ltb j (lastOf (s .input) r)) _ _ refl refl) refl)
+changes-by : (T : Moment) (f : Frame) (found : List ℕ) (w : World) (host : Bool) → InFrame T f found w → ((st : Station) → Sound st → Stepped st (levels w) host (stationStep st (levels w) host))
+    → All (λ (st : Station). Changed (f .command) (dataOf f (w .lent)) st (stationStep st (levels w) host)) (w .units)
+changes-by T f found w host (begins {lent = lent} framed d a) step = all-map (λ st p. fresh-changes (f .command) (dataOf f lent) (step st (p .1)) (begin-high a) (p .0)) a
+changes-by T f found w host (sends i sender {units = units} {lent = lent} framed d s l a) step =
+    all-map (λ st p.
+    part-changes (Promised (T (st .unit .own)) (f .command) (dataOf f lent)) (f .command) (dataOf f lent) (framed .sent) i sender st (stationStep st (levels w) host) (levels w) host (step st (p .0 .1))
+    (shows sender units (nibble-below (bytesFor (f .command) (dataOf f lent)) i) s a) (p .1) l (p .0 .0)) (all-zip a (hsk-own (sending sender) units))
+changes-by T f found w host (hears ear taken quiet {lent = lent} framed d l o) step =
+    one-all (λ st p. talk-changes (f .command) (dataOf f lent) (step st (p .1)) (talk-addressed st (p .0)) (p .0)) (λ st p. sits-changes (f .command) (dataOf f lent) (step st (p .1)) (p .0 .0)) o
+changes-by T f found w host (waits quiet {lent = lent} framed d a why) step = all-map (λ st p. sits-changes (f .command) (dataOf f lent) (step st (p .1)) (p .0 .0)) a
 
--- A round that does not fix a reply.
-open-step : (st : Station) (seen : Lines) (busy : Bool) → isAnswered (st .unit .phase) ≡ false → isAnswered (phaseStep (st .unit .phase) (st .unit .own) (st .unit .serial) seen busy (st .buffer) (st .input) .phase) ≡ false → isAnswered (stationStep st seen busy .unit .phase) ≡ false
-open-step st seen busy before e = by (ltb 15 (seen .nibble)) (ltb (length (st .buffer)) 256) (seen .bav)
+pub changes : Changes
+changes T f found w x host = changes-by T f found w host x (λ st s. in-frame-step x st host s)
+
+pub nobody-else : NobodyElse
+nobody-else T f found w x host = all-map (λ st y e. by e y) (changes T f found w x host)
   where
-    by : (a b c : Bool) → isAnswered (unitAfter (cond a (refused 5) (cond b (refused 11) (gives (cond c (lowStep (st .unit) (seen .hsk) (phaseStep (st .unit .phase) (st .unit .own) (st .unit .serial) seen busy (st .buffer) (st .input))) (highStep (st .unit) (seen .hsk)))))) (st .unit) .phase) ≡ false
-    by true b c = before
-    by false true c = before
-    by false false true = e
-    by false false false = refl
+    by : {c : Command} {d : List ℕ} {st after : Station} → addressed c (st .unit .own) ≡ false → Changed c d st after → Untouched st after
+    by e (unchanged same as-before) = same
+    by e (fixed-now a old new) = absurd (true≢false (sym a ∙ e))
+    by e (done-now a r j sender p phase serial input output) = absurd (true≢false (sym a ∙ e))
 
-not-fixed : {c : Command} {d : List ℕ} (st : Station) (seen : Lines) (busy : Bool) → isAnswered (phaseStep (st .unit .phase) (st .unit .own) (st .unit .serial) seen busy (st .buffer) (st .input) .phase) ≡ false
-    → isAnswered (st .unit .phase) ≡ false → isAnswered (stationStep st seen busy .unit .phase) ≡ true → FixedBy c d st (stationStep st seen busy)
-not-fixed st seen busy e before now = absurd (true≢false (sym now ∙ open-step st seen busy before e))
+-- A unit that has taken the last nibble takes no other in that frame.
+data Past : Phase → Type 0 where
+  has-answered : {ear : Listener} {r : Reply} → Past (Receiving ear (Answered r))
+  responds : {r : Reply} {j : ℕ} {sender : Sender} {wait : Bool} → Past (Responding r j sender wait)
+  sits-out : {now : Bool} → Past (SittingOut now)
 
-talk-open : {c : Command} {d : List ℕ} {stores : Bool} {found : List ℕ} {ear : Listener} {taken : Response} {quiet : ℕ} {buffer : List ℕ} (st : Station) (seen : Lines) (busy : Bool) → Talk c d stores found ear taken quiet buffer st
-    → isAnswered (phaseStep (st .unit .phase) (st .unit .own) (st .unit .serial) seen busy (st .buffer) (st .input) .phase) ≡ false
-talk-open st seen busy (talks r j t sender wait e p fits g b l w c q own) =
-    ap (λ (x : Phase). isAnswered (phaseStep x (st .unit .own) (st .unit .serial) seen busy (st .buffer) (st .input) .phase)) e ∙ responding-open (st .unit .serial) r j sender wait (seen .hsk) (st .input)
+past-cond : (t : Bool) (a b : Phase) → Past a → Past b → Past (cond t a b)
+past-cond true a b p q = p
+past-cond false a b p q = q
 
-pub fixes : Fixes
-fixes f found w (begins framed d a) host =
-    all-map (λ st p. not-fixed st (levels w) host (apart-open (st .unit .own) (st .unit .serial) (levels w) host (st .buffer) (st .input) (fresh-apart st (p .0)))) a
-fixes f found w (sends i sender {units = units} {lent = lent} framed d s l a) host =
-    all-map (λ st p before now.
-    part-fixes (Promised (f .command) (dataOf f lent)) (f .command) (dataOf f lent) (framed .sent) i sender st (stationStep st (levels w) host) (levels w) host
-    (low-step st (levels w) host (sent-nibble (f .command) (dataOf f lent) (framed .sent) i sender units 0 s a) (p .0 .1 .room) (bav-kept (sending sender) units refl)) now
-    (shows sender units (nibble-below (bytesFor (f .command) (dataOf f lent)) i) s a) (p .1) l before (p .0 .0)) (all-zip a (hsk-own (sending sender) units))
-fixes f found w (hears ear taken quiet framed d l o) host =
-    one-all (λ st p. not-fixed st (levels w) host (talk-open st (levels w) host (p .0)))
-    (λ st p. not-fixed st (levels w) host (apart-open (st .unit .own) (st .unit .serial) (levels w) host (st .buffer) (st .input) (subst Apart (sym (p .0 .0)) a-sitting))) o
-fixes f found w (waits quiet framed d a why) host =
-    all-map (λ st p. not-fixed st (levels w) host (apart-open (st .unit .own) (st .unit .serial) (levels w) host (st .buffer) (st .input) (subst Apart (sym (p .0 .0)) a-sitting))) a
+past-moved : (t : Bool) (a b : Step) → Past (a .phase) → Past (b .phase) → Past (cond t a b .phase)
+past-moved true a b p q = p
+past-moved false a b p q = q
+
+past-step : {x : Phase} (own : ℕ) (s : Serial) (seen : Lines) (busy : Bool) (buffer input : List ℕ) → Past x → Past (phaseStep x own s seen busy buffer input .phase)
+past-step own s seen busy buffer input (has-answered {ear = ear} {r = r}) = past-cond (isReady (hearOf ear (seen .hsk) busy)) _ _ (past-cond (isSilent r) _ _ sits-out responds) has-answered
+past-step own s seen busy buffer input (responds {r = r} {j = j} {sender = sender} {wait = wait}) =
+    past-moved wait _ _ responds (past-moved (sentOf sender (seen .hsk)) _ _ (past-moved (ltb j (lastOf (s .input) r)) _ _ responds sits-out) responds)
+past-step own s seen busy buffer input sits-out = sits-out
+
+past-answered : {x : Phase} (own : ℕ) (s : Serial) (seen : Lines) (busy : Bool) (buffer input : List ℕ) → Past x → isAnswered x ≡ false → isAnswered (phaseStep x own s seen busy buffer input .phase) ≡ false
+past-answered own s seen busy buffer input has-answered e = absurd (true≢false e)
+past-answered own s seen busy buffer input (responds {r = r} {j = j} {sender = sender} {wait = wait}) e = by wait (sentOf sender (seen .hsk)) (ltb j (lastOf (s .input) r)) j (j + 1) j _
+  where
+    by : (a b c : Bool) (x y z : ℕ) (k : Sender) → isAnswered (cond a (moves (Responding r x sender false) s) (cond b (cond c (moves (Responding r y Next false) s) (moves (SittingOut false) (finished s r))) (moves (Responding r z k false) s)) .phase) ≡ false
+    by true b c x y z k = refl
+    by false true true x y z k = refl
+    by false true false x y z k = refl
+    by false false c x y z k = refl
+past-answered own s seen busy buffer input sits-out e = refl
+
+answered-past : (x : Phase) → isAnswered x ≡ true → Past x
+answered-past Idle e = absurd (false≢true e)
+answered-past (Selecting ear half low) e = absurd (false≢true e)
+answered-past (Receiving ear (Taking p)) e = absurd (false≢true e)
+answered-past (Receiving ear (Answered r)) e = has-answered
+answered-past (Responding r j sender wait) e = responds
+answered-past (SittingOut last) e = sits-out
+
+-- Units that a round moves, by their codes.
+becomes-own : {seen : Lines} {hosts : ℕ} {ss : List Station} {P : Station → Type 0} {st after : Station} → All P ss → Becomes seen hosts ss st after → P st
+becomes-own (also p a) in-front = p
+becomes-own (also p a) (behind b) = becomes-own a b
+
+becomes-step : {seen : Lines} {hosts : ℕ} {ss : List Station} {st after : Station} → Becomes seen hosts ss st after → (busy : Bool) × (after ≡ stationStep st seen busy)
+becomes-step {hosts = hosts} in-front = (isOdd hosts, refl)
+becomes-step (behind b) = becomes-step b
+
+same-unit : {seen : Lines} {hosts : ℕ} {ss : List Station} {st after st′ after′ : Station} → Different ss → Becomes seen hosts ss st after → Becomes seen hosts ss st′ after′ → st .unit .own ≡ st′ .unit .own → (st ≡ st′) × (after ≡ after′)
+same-unit d in-front in-front e = (refl, refl)
+same-unit (another a d) in-front (behind b) e = absurd (becomes-own a b (sym e))
+same-unit (another a d) (behind b) in-front e = absurd (becomes-own a b e)
+same-unit (another a d) (behind b) (behind b′) e = same-unit d b b′ e
+
+in-frame-different : {T : Moment} {f : Frame} {found : List ℕ} {w : World} → InFrame T f found w → Different (w .units)
+in-frame-different (begins framed d a) = d
+in-frame-different (sends i sender framed d s l a) = d
+in-frame-different (hears ear taken quiet framed d l o) = d
+in-frame-different (waits quiet framed d a why) = d
+
+on-different : {T : Moment} {v : World} → On T v → Different (v .units)
+on-different (rests r eight codes d a) = d
+on-different (submitted f framed codes d a) = d
+on-different (ended eight codes d a) = d
+on-different (runs f found x codes) = in-frame-different x
+
+rest-free : {stage : Stage} → AtRest stage → inFrame stage ≡ false
+rest-free is-free = refl
+rest-free is-resting = refl
+
+on-step : {T : Moment} {v : World} → On T v → inFrame (v .controller .stage) ≡ true → (st : Station) (host : Bool) → Sound st → Stepped st (levels v) host (stationStep st (levels v) host)
+on-step (rests r eight codes d a) e = absurd (false≢true (sym (rest-free r) ∙ e))
+on-step (submitted f framed codes d a) e = absurd (false≢true e)
+on-step (ended eight codes d a) e = absurd (false≢true e)
+on-step (runs f found x codes) e = in-frame-step x
+
+abbrev PastAt : ℕ → Station → Type 0
+PastAt own st = st .unit .own ≡ own → Past (st .unit .phase)
+
+past-round : {T : Moment} {v : World} (own : ℕ) (busy : Busy) → On T v → inFrame (v .controller .stage) ≡ true → All (PastAt own) (v .units) → All (PastAt own) (round v busy .units)
+past-round {T} {v} own busy o e a =
+    all-step (levels v) (λ st host p g.
+    let step = on-step o e st host (p .1) in
+    subst Past (sym (step .phase)) (past-step (st .unit .own) (st .unit .serial) (levels v) host (st .buffer) (st .input) (p .0 (sym (step .own) ∙ g)))) (busy .there) (all-zip a (on-sound o))
+
+past-called : (own i : ℕ) (call : HostCall) {ss : List Station} → All Sound ss → All (PastAt own) ss → All (PastAt own) (calledAt i call ss)
+past-called own i call none none = none
+past-called own zero call (also {x = st} s b) (also p a) = let k = unit-called call st s in also (λ e. subst Past (sym (k .phase)) (p (sym (k .own) ∙ e))) a
+past-called own (suc i) call (also s b) (also p a) = also p (past-called own i call b a)
+
+past-call : {T : Moment} {v : World} (own : ℕ) (call : Call) → On T v → All (PastAt own) (v .units) → All (PastAt own) (called v call .units)
+past-call own (at-unit i call) o a = past-called own i call (on-sound o) a
+past-call own (submits k d response r b) o a = a
+past-call own (acknowledges code h) o a = a
+
+took-past : (w v : World) → QuietStart w → (r : Run w v) (own : ℕ) (s : Serial) (m : List ℕ) → Took r own s m → All (PastAt own) (v .units)
+took-past w v q start own s m t = absurd t
+took-past w _ q (a-round {v = v} r busy) own s m (takes-it st after b e now o x y) =
+    all-becomes (levels v) (busy .there) (λ st′ host b′ d g.
+    let mine = same-unit (on-different (every-run w v q r)) b b′ (o ∙ sym g ∙ own-kept st′ (levels v) host) in
+    subst (λ (z : Station). Past (z .unit .phase)) (mine .1) (answered-past (after .unit .phase) now)) (on-sound (every-run w v q r))
+took-past w _ q (a-round {v = v} r busy) own s m (took-it e t) = past-round own busy (every-run w v q r) e (took-past w v q r own s m t)
+took-past w _ q (a-call {v = v} r call) own s m t = past-call own call (every-run w v q r) (took-past w v q r own s m t)
+
+not-again : (w v : World) → QuietStart w → (r : Run w v) (busy : Busy) (own : ℕ) (s : Serial) (m : List ℕ) → inFrame (v .controller .stage) ≡ true → Took r own s m
+    → (st after : Station) → Becomes (levels v) (busy .there) (v .units) st after → isAnswered (st .unit .phase) ≡ false → isAnswered (after .unit .phase) ≡ true → st .unit .own ≡ own → ⊥
+not-again w v q r busy own s m i t st after b e now o =
+    let p = becomes-own (took-past w v q r own s m t) b o in
+    let k = becomes-step b in
+    let step = on-step (every-run w v q r) i st (k .0) (becomes-own (on-sound (every-run w v q r)) b) in
+    true≢false (sym now ∙ ap (λ (x : Station). isAnswered (x .unit .phase)) (k .1) ∙ ap isAnswered (step .phase) ∙ past-answered (st .unit .own) (st .unit .serial) (levels v) (k .0) (st .buffer) (st .input) p e)
+
+pub taken-once : TakenOnce
+taken-once w v q start own s t m n u u′ = absurd u
+taken-once w _ q (a-round {v = v} r busy) own s t m n (takes-it st after b e now o x y) (takes-it st′ after′ b′ e′ now′ o′ x′ y′) =
+    let same = same-unit (on-different (every-run w v q r)) b b′ (o ∙ sym o′) in
+    (sym x ∙ ap (λ (z : Station). z .unit .serial) (same .0) ∙ x′, sym y ∙ ap (λ (z : Station). z .input) (same .0) ∙ y′)
+taken-once w _ q (a-round {v = v} r busy) own s t m n (takes-it st after b e now o x y) (took-it i u) = absurd (not-again w v q r busy own t n i u st after b e now o)
+taken-once w _ q (a-round {v = v} r busy) own s t m n (took-it i u) (takes-it st after b e now o x y) = absurd (not-again w v q r busy own s m i u st after b e now o)
+taken-once w _ q (a-round {v = v} r busy) own s t m n (took-it i u) (took-it i′ u′) = taken-once w v q r own s t m n u u′
+taken-once w _ q (a-call {v = v} r call) own s t m n u u′ = taken-once w v q r own s t m n u u′
 
 -- What a listening stage says.
-abbrev frameHeard : Frame → Stage → Frame
-frameHeard g Free = g
-frameHeard g (Resting first) = g
-frameHeard g (Waiting f) = g
-frameHeard g (Sending f i sender wait) = g
-frameHeard g (Listening f ear taken quiet) = f
-
 abbrev takenIn : Response → Stage → Response
 takenIn x Free = x
 takenIn x (Resting first) = x
@@ -388,23 +466,23 @@ rest-hears : {stage : Stage} → AtRest stage → isListening stage ≡ false
 rest-hears is-free = refl
 rest-hears is-resting = refl
 
-give-back : {c : Command} {d : List ℕ} {stores : Bool} {found : List ℕ} {ear : Listener} {taken : Response} {quiet : ℕ} {buffer : List ℕ} (st : Station) → Talk c d stores found ear taken quiet buffer st → Returned c d taken st
-give-back st (talks r j t sender wait e p fits g b l w c q own) = let n : t ≤ 1 = fits-count fits in returned r j (j + t) sender wait e p (omega arith) (omega arith) g
+give-back : (T : Moment) {c : Command} {d : List ℕ} {stores : Bool} {found : List ℕ} {ear : Listener} {taken : Response} {quiet : ℕ} {buffer : List ℕ} (st : Station) → Talk T c d stores found ear taken quiet buffer st → Returned T c d taken st
+give-back T st (talks r j t sender wait e p fits g b l w c q own) = let n : t ≤ 1 = fits-count fits in returned r j (j + t) sender wait e p (omega arith) (omega arith) g
 
-one-back : {c : Command} {d : List ℕ} {stores : Bool} {found : List ℕ} {ear : Listener} {taken : Response} {quiet : ℕ} {buffer : List ℕ} {ss : List Station} → One (λ (st : Station). Talk c d stores found ear taken quiet buffer st × Sound st) (λ (st : Station). Sits st × Sound st) ss → One (Returned c d taken) Sits ss
-one-back (this {x = st} p a) = this (give-back st (p .0)) (all-map (λ x q. q .0) a)
-one-back (that q o) = that (q .0) (one-back o)
+one-back : (T : Moment) {c : Command} {d : List ℕ} {stores : Bool} {found : List ℕ} {ear : Listener} {taken : Response} {quiet : ℕ} {buffer : List ℕ} {ss : List Station} → One (λ (st : Station). Talk T c d stores found ear taken quiet buffer st × Sound st) (λ (st : Station). Sits st × Sound st) ss → One (Returned T c d taken) Sits ss
+one-back T (this {x = st} p a) = this (give-back T st (p .0)) (all-map (λ x q. q .0) a)
+one-back T (that q o) = that (q .0) (one-back T o)
 
-back-as : {g : Frame} (lent : List ℕ) {taken′ : Response} {units : List Station} (f : Frame) (taken : Response) → g ≡ f → taken′ ≡ taken → Back (g .command) (dataOf g lent) taken′ units → Back (f .command) (dataOf f lent) taken units
-back-as {g} lent {taken′} {units} f taken e q b = subst (λ (x : Response). Back (f .command) (dataOf f lent) x units) q (subst (λ (h : Frame). Back (h .command) (dataOf h lent) taken′ units) e b)
+back-as : {T : Moment} {g : Frame} (lent : List ℕ) {taken′ : Response} {units : List Station} (f : Frame) (taken : Response) → g ≡ f → taken′ ≡ taken → Back T (g .command) (dataOf g lent) taken′ units → Back T (f .command) (dataOf f lent) taken units
+back-as {T} {g} lent {taken′} {units} f taken e q b = subst (λ (x : Response). Back T (f .command) (dataOf f lent) x units) q (subst (λ (h : Frame). Back T (h .command) (dataOf h lent) taken′ units) e b)
 
-in-frame-back : {g : Frame} {found : List ℕ} {v : World} (f : Frame) (ear : Listener) (taken : Response) (quiet : ℕ) → v .controller .stage ≡ Listening f ear taken quiet → InFrame g found v → Back (f .command) (dataOf f (v .lent)) taken (v .units)
+in-frame-back : {T : Moment} {g : Frame} {found : List ℕ} {v : World} (f : Frame) (ear : Listener) (taken : Response) (quiet : ℕ) → v .controller .stage ≡ Listening f ear taken quiet → InFrame T g found v → Back T (f .command) (dataOf f (v .lent)) taken (v .units)
 in-frame-back f ear taken quiet e (begins framed d a) = absurd (false≢true (ap isListening e))
 in-frame-back f ear taken quiet e (sends j s framed d x l a) = absurd (false≢true (ap isListening e))
-in-frame-back {g} f ear taken quiet e (hears ear′ taken′ quiet′ {lent = lent} framed d l o) = back-as lent f taken (ap (frameHeard g) e) (ap (takenIn taken′) e) (from-one (one-back o))
-in-frame-back {g} f ear taken quiet e (waits quiet′ {lent = lent} framed d a why) = back-as lent f taken (ap (frameHeard g) e) (ap (takenIn nothingTaken) e) (from-nobody (all-map (λ st p. p .0) a) refl)
+in-frame-back {T} {g} f ear taken quiet e (hears ear′ taken′ quiet′ {lent = lent} framed d l o) = back-as lent f taken (ap (frameIn g) e) (ap (takenIn taken′) e) (from-one (one-back T o))
+in-frame-back {T} {g} f ear taken quiet e (waits quiet′ {lent = lent} framed d a why) = back-as lent f taken (ap (frameIn g) e) (ap (takenIn nothingTaken) e) (from-nobody (all-map (λ st p. p .0) a) refl)
 
-on-back : {v : World} (f : Frame) (ear : Listener) (taken : Response) (quiet : ℕ) → v .controller .stage ≡ Listening f ear taken quiet → On v → Back (f .command) (dataOf f (v .lent)) taken (v .units)
+on-back : {T : Moment} {v : World} (f : Frame) (ear : Listener) (taken : Response) (quiet : ℕ) → v .controller .stage ≡ Listening f ear taken quiet → On T v → Back T (f .command) (dataOf f (v .lent)) taken (v .units)
 on-back f ear taken quiet e (rests r eight codes d a) = absurd (false≢true (sym (rest-hears r) ∙ ap isListening e))
 on-back f ear taken quiet e (submitted g framed codes d a) = absurd (false≢true (ap isListening e))
 on-back f ear taken quiet e (ended eight codes d a) = absurd (false≢true (ap isListening e))

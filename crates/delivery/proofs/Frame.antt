@@ -40,11 +40,11 @@ use Rattle.ring.specs.declared.Ring.{Ring}
 use Rattle.unit.specs.Unit.{pullsHsk, pullsNibble, lowStep, highStep}
 use Rattle.whole.specs.Whole.{bytesFor}
 use Rattle.whole.proofs.Whole.{length-bytes}
-use Rattle.delivery.specs.Stages.{Hushed, not-its-own, by-the-rule, addressed, Framed, Fresh, Goes, InFrame, Part, Sends, Sits, Sound, Spoke, Talk, answered, begins, hears, idles, listens, movedIn, on, s-next, selects, sends, unanswered, waits, world, talks, s-placed, s-kept}
+use Rattle.delivery.specs.Stages.{Hushed, not-its-own, by-the-rule, addressed, Framed, Fresh, Goes, InFrame, Noted, Part, Sends, Sits, Sound, Spoke, Talk, answered, begins, hears, idles, listens, movedIn, on, s-next, selects, sends, unanswered, waits, world, talks, s-placed, s-kept}
 use Rattle.delivery.specs.Ends.{place, phaseLeft, unitsLeft, listening, left, quietly}
 use Rattle.delivery.specs.Heard.{f-next, Heard, h-none}
 use Rattle.delivery.specs.Lists.{All, One, none, also, this, that}
-use Rattle.delivery.specs.Promised.{Promised}
+use Rattle.delivery.specs.Promised.{Moment, Promised}
 use Rattle.delivery.specs.World.{World, Busy, levels, round, Different, nobody, another}
 use Rattle.delivery.proofs.Lines.{hsk-high, bav-kept, nibble-kept}
 use Rattle.delivery.proofs.Lists.{all-map, all-step}
@@ -53,7 +53,7 @@ use Rattle.delivery.proofs.Talk.{talkLeft, talk-left, last-is as last-o
 use Rattle.reply.specs.Reply.{lastNibble as lastOf}
 use Rattle.delivery.proofs.Listening.{one-less, Heard′, goes-on, comes-to-its-end, heard-nibble, units-heard, still-nibble, still-hsk, units-sit, hearing}
 use Rattle.delivery.proofs.Part.{Stepped, low-step}
-use Rattle.delivery.proofs.Stage.{sound-low, sends-on, sending, sent-nibble, units-rest, units-sent, units-over}
+use Rattle.delivery.proofs.Stage.{cond-length, sound-low, sends-on, sending, sent-nibble, units-rest, units-sent, units-over}
 use Rattle.delivery.proofs.Turned.{Answering, somebody, nobody-does, answering}
 
 pub fresh-hsk : {st : Station} → Fresh st → pullsHsk (st .unit .phase) ≡ false
@@ -71,6 +71,13 @@ fresh-selects {st} {st′} {seen} {busy} s h (idles e) =
 fresh-selects {st} {st′} {seen} {busy} s h (selects e) =
     s .phase ∙ ap (λ (x : Phase). phaseStep x (st .unit .own) (st .unit .serial) seen busy (st .buffer) (st .input) .phase) e ∙ rw h
 
+-- What the lines show as a frame begins.
+pub begin-nibble : {units : List Station} → All (λ (st : Station). Fresh st × Sound st) units → levelsWith (sending Next) units .nibble < 16
+begin-nibble a = subst (λ (x : ℕ). x < 16) (sym (nibble-kept (sending Next) (lit< tt) (all-map (λ st p. fresh-nibble (p .0)) a))) (lit< tt)
+
+pub begin-high : {units : List Station} → All (λ (st : Station). Fresh st × Sound st) units → levelsWith (sending Next) units .hsk ≡ false
+begin-high a = hsk-high (sending Next) refl (all-map (λ st p. fresh-hsk (p .0)) a)
+
 -- A step of the controller in a frame that is not refused.
 control : (c : Controller) (seen : Lines) (host : Bool) (lent response : List ℕ) → seen .nibble < 16 → lentAt (c .stage) (length lent) (length response) ≡ AsLent → isIdle (c .stage) ≡ false
     → controllerStepped c seen host lent response ≡ controllerOf (c .timeout) (frameOf c seen host lent .stage) (ringAfter (c .ring) (frameOf c seen host lent .end))
@@ -81,7 +88,7 @@ control-buffer : (c : Controller) (seen : Lines) (host : Bool) (lent response : 
 control-buffer c seen host lent response n e = let a : ltb 15 (seen .nibble) ≡ false = le-ltb 15 (seen .nibble) (omega arith) in rw (a, e)
 
 -- A unit keeps its code.
-own-kept : (st : Station) (seen : Lines) (busy : Bool) → stationStep st seen busy .unit .own ≡ st .unit .own
+pub own-kept : (st : Station) (seen : Lines) (busy : Bool) → stationStep st seen busy .unit .own ≡ st .unit .own
 own-kept st seen busy = by (ltb 15 (seen .nibble)) (ltb (length (st .buffer)) 256) (seen .bav)
   where
     by : (a b c : Bool) → unitAfter (cond a (refused 5) (cond b (refused 11) (gives (cond c (lowStep (st .unit) (seen .hsk) (phaseStep (st .unit .phase) (st .unit .own) (st .unit .serial) seen busy (st .buffer) (st .input))) (highStep (st .unit) (seen .hsk)))))) (st .unit) .own ≡ st .unit .own
@@ -98,15 +105,15 @@ different-kept seen hosts nobody = nobody
 different-kept seen hosts (another {st = st} a d) =
     another (all-map (λ x p e. p (e ∙ own-kept st seen (isOdd hosts))) (apart-kept (st .unit .own) seen (hosts / 2) a)) (different-kept seen (hosts / 2) d)
 
-hushed-kept : {c : Command} {d : List ℕ} (seen : Lines) (hosts : ℕ) {ss : List Station} → All (Hushed c d) ss → All (Hushed c d) (unitsAfter seen hosts ss)
-hushed-kept {c} {d} seen hosts a = all-step seen (λ st busy p. by st busy p) hosts a
+hushed-kept : {T : Moment} {c : Command} {d : List ℕ} (seen : Lines) (hosts : ℕ) {ss : List Station} → All (Hushed T c d) ss → All (Hushed T c d) (unitsAfter seen hosts ss)
+hushed-kept {T} {c} {d} seen hosts a = all-step seen (λ st busy p. by st busy p) hosts a
   where
-    by : (st : Station) (busy : Bool) → Hushed c d st → Hushed c d (stationStep st seen busy)
+    by : (st : Station) (busy : Bool) → Hushed T c d st → Hushed T c d (stationStep st seen busy)
     by st busy (not-its-own e) = not-its-own (ap (addressed c) (own-kept st seen busy) ∙ e)
-    by st busy (by-the-rule given e) = by-the-rule given e
+    by st busy (by-the-rule given memory t e) = by-the-rule given memory (subst (λ (own : ℕ). T own given memory) (sym (own-kept st seen busy)) t) e
 
-go-on : {f : Frame} {found : List ℕ} {w v : World} {busy : Busy} → round w busy ≡ v → v .controller .ring ≡ w .controller .ring → InFrame f found v → (busy ≡ quietly → left v < left w) → Goes f found w busy
-go-on {f} {found} {w} eq r y less = on (ap (λ (x : World). x .controller .ring) eq ∙ r) (subst (InFrame f found) (sym eq) y) (λ q. subst (λ (x : World). left x < left w) (sym eq) (less q))
+go-on : {T : Moment} {f : Frame} {found : List ℕ} {w v : World} {busy : Busy} → round w busy ≡ v → v .controller .ring ≡ w .controller .ring → InFrame T f found v → (busy ≡ quietly → left v < left w) → Goes T f found w busy
+go-on {T} {f} {found} {w} eq r y less = on (ap (λ (x : World). x .controller .ring) eq ∙ r) (subst (InFrame T f found) (sym eq) y) (λ q. subst (λ (x : World). left x < left w) (sym eq) (less q))
 
 -- The rounds that are left: the nibble under way comes nearer to being sent.
 place-less : {n : ℕ} {sender : Sender} (low now : Bool) → Sends n sender → sentOf sender low ≡ false → ((m : ℕ) → sender ≡ Kept m → now ≡ false) → place (sendOf sender low n) now < place sender low
@@ -119,7 +126,7 @@ pub sits-left : {ss : List Station} (low : Bool) (rest : ℕ) → All (λ (st : 
 sits-left low rest none = refl
 sits-left low rest (also {x = st} {xs = ss} p a) = ap (λ (x : Phase). phaseLeft x (st .unit .serial .input) low (unitsLeft ss low rest)) (p .0 .0) ∙ sits-left low rest a
 
-pub talk-bound : {c : Command} {d : List ℕ} {stores : Bool} {found : List ℕ} {ear : Listener} {taken : Response} {quiet : ℕ} {buffer : List ℕ} (st : Station) → Talk c d stores found ear taken quiet buffer st → talkLeft ear st ≤ 4 * (2 * (3 + c .«buffer_length»)) + 1
+talk-bound : {T : Moment} {c : Command} {d : List ℕ} {stores : Bool} {found : List ℕ} {ear : Listener} {taken : Response} {quiet : ℕ} {buffer : List ℕ} (st : Station) → Talk T c d stores found ear taken quiet buffer st → talkLeft ear st ≤ 4 * (2 * (3 + c .«buffer_length»)) + 1
 talk-bound {c} {ear = ear} st (talks r j t sender wait e p fits g b l w z q own) =
     let last = last-of p in
     let short = p .fits .fits in
@@ -132,6 +139,12 @@ talk-bound {c} {ear = ear} st (talks r j t sender wait e p fits g b l w z q own)
     flag true = omega arith
     flag false = omega arith
 
+pub one-bound : {T : Moment} (f : Frame) {d found : List ℕ} {most : ℕ} {taken : Response} {quiet : ℕ} {buffer : List ℕ} {ear : Listener} {ss : List Station} → 4 * (2 * (3 + f .command .«buffer_length»)) + 1 < most
+    → One (λ (st : Station). Talk T (f .command) d (isSubmitted (f .kind)) found ear taken quiet buffer st × Sound st) (λ (st : Station). Sits st × Sound st) ss
+    → One (λ (st : Station). (Talk T (f .command) d (isSubmitted (f .kind)) found ear taken quiet buffer st × (talkLeft ear st < most)) × Sound st) (λ (st : Station). Sits st × Sound st) ss
+one-bound f h (this {x = st} p a) = this ((p .0, (let b = talk-bound st (p .0) in omega arith)), p .1) a
+one-bound f h (that q o) = that q (one-bound f h o)
+
 begin-less : (n l : ℕ) → 4 * (n - 0) + 4 + 0 + l < 4 * (n - 0) + 4 + 1 + l
 begin-less n l = omega arith
 
@@ -139,10 +152,6 @@ leb-less : (a b : ℕ) → leb a b ≡ false → b < a
 leb-less a b e = leb-false a b e
 
 -- No step of the controller changes the length of the response buffer.
-cond-length : (t : Bool) (a b : List ℕ) (n : ℕ) → length a ≡ n → length b ≡ n → length (cond t a b) ≡ n
-cond-length true a b n e g = e
-cond-length false a b n e g = g
-
 put-length : (p : Partial) (x : ℕ) (stores : Bool) (b : List ℕ) → length (byteBuffer p x stores b) ≡ length b
 put-length p x stores b =
     cond-length (ltb (p .place) 2) b (bodyBuffer p x stores b) (length b) refl
@@ -156,7 +165,7 @@ taken-length TooLarge nibble stores b = refl
 heard-length : (f : Frame) (ear : Listener) (taken : Response) (seen : Lines) (b : List ℕ) → length (listeningBuffer f ear taken seen b) ≡ length b
 heard-length f ear taken seen b = cond-length (takenOf ear (seen .hsk)) (bufferWith taken (seen .nibble) (isSubmitted (f .kind)) b) b (length b) (taken-length taken (seen .nibble) (isSubmitted (f .kind)) b) refl
 
-module _ (f : Frame) (found : List ℕ) (timeout : ℕ) (ring : Ring) (units : List Station) (lent : List ℕ) (framed : Framed f lent found timeout) (different : Different units) (busy : Busy) where
+module _ (T : Moment) (f : Frame) (found : List ℕ) (timeout : ℕ) (ring : Ring) (units : List Station) (lent : List ℕ) (framed : Framed f lent found timeout) (different : Different units) (busy : Busy) where
   abbrev c : Command
   c = f .command
 
@@ -177,12 +186,11 @@ module _ (f : Frame) (found : List ℕ) (timeout : ℕ) (ring : Ring) (units : L
       λ k. record { controller = c1 k; units = unitsAfter (levels w) (busy .there) units; lent = lent; response = b1 k }
 
   -- The frame begins: every unit selects.
-  begin-round : All (λ (st : Station). Fresh st × Sound st) units → Goes f found (world timeout (begun f) ring units lent found) busy
+  begin-round : All (λ (st : Station). Fresh st × Sound st) units → Goes T f found (world timeout (begun f) ring units lent found) busy
   begin-round a =
       let seen = levelsWith (sending Next) units in
-      let n : seen .nibble ≡ 15 = nibble-kept (sending Next) (lit< tt) (all-map (λ st p. fresh-nibble (p .0)) a) in
-      let small : seen .nibble < 16 = subst (λ (x : ℕ). x < 16) (sym n) (lit< tt) in
-      let high : seen .hsk ≡ false = hsk-high (sending Next) refl (all-map (λ st p. fresh-hsk (p .0)) a) in
+      let small = begin-nibble a in
+      let high = begin-high a in
       let low : seen .bav ≡ true = bav-kept (sending Next) units refl in
       let long : length (bytesFor c d) ≡ 9 + length d = length-bytes c d in
       go-on (after (begun f) (Sending f 0 Next false) found found small (framed .fits) refl refl refl) refl (sends 0 Next framed (different-kept seen (busy .there) different) s-next (omega arith)
@@ -193,26 +201,20 @@ module _ (f : Frame) (found : List ℕ) (timeout : ℕ) (ring : Ring) (units : L
         ok,
       )) (busy .there) a)) (λ q. begin-less (lastNibble f) (listening f timeout))
 
-  one-bound : {most : ℕ} {taken : Response} {quiet : ℕ} {buffer : List ℕ} {ear : Listener} {ss : List Station} → 4 * (2 * (3 + c .«buffer_length»)) + 1 < most
-      → One (λ (st : Station). Talk c d (isSubmitted (f .kind)) found ear taken quiet buffer st × Sound st) (λ (st : Station). Sits st × Sound st) ss
-      → One (λ (st : Station). (Talk c d (isSubmitted (f .kind)) found ear taken quiet buffer st × (talkLeft ear st < most)) × Sound st) (λ (st : Station). Sits st × Sound st) ss
-  one-bound h (this {x = st} p a) = this ((p .0, (let b = talk-bound st (p .0) in omega arith)), p .1) a
-  one-bound h (that q o) = that q (one-bound h o)
-
   plain-one : {X : Station → Type 0} {taken : Response} {quiet : ℕ} {buffer : List ℕ} {ear : Listener} {ss : List Station}
-      → One (λ (st : Station). (Talk c d (isSubmitted (f .kind)) found ear taken quiet buffer st × X st) × Sound st) (λ (st : Station). Sits st × Sound st) ss
-      → One (λ (st : Station). Talk c d (isSubmitted (f .kind)) found ear taken quiet buffer st × Sound st) (λ (st : Station). Sits st × Sound st) ss
+      → One (λ (st : Station). (Talk T c d (isSubmitted (f .kind)) found ear taken quiet buffer st × X st) × Sound st) (λ (st : Station). Sits st × Sound st) ss
+      → One (λ (st : Station). Talk T c d (isSubmitted (f .kind)) found ear taken quiet buffer st × Sound st) (λ (st : Station). Sits st × Sound st) ss
   plain-one (this p a) = this (p .0 .0, p .1) a
   plain-one (that q o) = that q (plain-one o)
 
   free-one : {most : ℕ} {host : Bool} {taken : Response} {quiet : ℕ} {buffer : List ℕ} {ear : Listener} {ss : List Station} → host ≡ false
-      → One (λ (st : Station). (Talk c d (isSubmitted (f .kind)) found ear taken quiet buffer st × (host ≡ false → talkLeft ear st < most)) × Sound st) (λ (st : Station). Sits st × Sound st) ss
-      → One (λ (st : Station). (Talk c d (isSubmitted (f .kind)) found ear taken quiet buffer st × (talkLeft ear st < most)) × Sound st) (λ (st : Station). Sits st × Sound st) ss
+      → One (λ (st : Station). (Talk T c d (isSubmitted (f .kind)) found ear taken quiet buffer st × (host ≡ false → talkLeft ear st < most)) × Sound st) (λ (st : Station). Sits st × Sound st) ss
+      → One (λ (st : Station). (Talk T c d (isSubmitted (f .kind)) found ear taken quiet buffer st × (talkLeft ear st < most)) × Sound st) (λ (st : Station). Sits st × Sound st) ss
   free-one e (this p a) = this ((p .0 .0, p .0 .1 e), p .1) a
   free-one e (that q o) = that q (free-one e o)
 
   -- A round while the command is sent.
-  module _ (i : ℕ) (sender : Sender) (s : Sends (nibbleIn (bytesFor c d) i) sender) (less : i < total) (a : All (λ (st : Station). Part (Promised c d) c d i sender st × Sound st) units) where
+  module _ (i : ℕ) (sender : Sender) (s : Sends (nibbleIn (bytesFor c d) i) sender) (less : i < total) (a : All (λ (st : Station). Part (Promised (T (st .unit .own)) c d) c d i sender st × Sound st) units) (noted : Noted T (world timeout (Sending f i sender false) ring units lent found) busy) where
     abbrev w : World
     w = world timeout (Sending f i sender false) ring units lent found
 
@@ -220,7 +222,7 @@ module _ (f : Frame) (found : List ℕ) (timeout : ℕ) (ring : Ring) (units : L
     seen = levelsWith (sending sender) units
 
     small : seen .nibble < 16
-    small = sent-nibble c d (framed .sent) i sender units (busy .there) s a
+    small = sent-nibble T c d (framed .sent) i sender units (busy .there) s a
 
     abbrev whenNot : Stage
     whenNot = Sending f i (sendOf sender (seen .hsk) (nibbleIn (bytesFor c d) i)) false
@@ -233,7 +235,7 @@ module _ (f : Frame) (found : List ℕ) (timeout : ℕ) (ring : Ring) (units : L
     all-let-go m e z =
         hsk-high (sending (Kept m)) refl
         (subst (λ (k : ℕ). All (λ (st : Station). pullsHsk (st .unit .phase) ≡ false) (unitsAfter seen k units)) (sym z)
-        (free-step seen (λ st p. part-lets-go (low-step st seen false small (p .1 .room) (bav-kept (sending sender) units refl)) (subst (λ (k : Sender). Part (Promised c d) c d i k st) e (p .0))) a))
+        (free-step seen (λ st p. part-lets-go (low-step st seen false small (p .1 .room) (bav-kept (sending sender) units refl)) (subst (λ (k : Sender). Part (Promised (T (st .unit .own)) c d) c d i k st) e (p .0))) a))
 
     send-less : sentOf sender (seen .hsk) ≡ false → busy .there ≡ 0
         → 4 * (lastNibble f - i) + place (sendOf sender (seen .hsk) (nibbleIn (bytesFor c d) i)) (levelsWith (sending (sendOf sender (seen .hsk) (nibbleIn (bytesFor c d) i))) (unitsAfter seen (busy .there) units) .hsk) + 0 + listening f timeout
@@ -251,17 +253,17 @@ module _ (f : Frame) (found : List ℕ) (timeout : ℕ) (ring : Ring) (units : L
         kept-stays : (m : ℕ) → sender ≡ Kept m → sentOf sender (seen .hsk) ≡ false → sendOf sender (seen .hsk) (nibbleIn (bytesFor c d) i) ≡ Kept m
         kept-stays m g e = stays-by (seen .hsk) sender m g e
 
-    send-round : (t u : Bool) → sentOf sender (seen .hsk) ≡ t → ltb i (lastNibble f) ≡ u → Goes f found w busy
+    send-round : (t u : Bool) → sentOf sender (seen .hsk) ≡ t → ltb i (lastNibble f) ≡ u → Goes T f found w busy
     send-round false u e g =
         let m : movedIn w busy ≡ stays whenNot = ap (λ (x : Bool). stays (cond x (nextNibble f i) whenNot)) e in
-        go-on (after (Sending f i sender false) whenNot found found small (framed .fits) refl m refl) refl (sends i (sendOf sender (seen .hsk) (nibbleIn (bytesFor c d) i)) framed (different-kept seen (busy .there) different) (sends-on (seen .hsk) s e) less (units-rest c d (framed .sent) i sender units (busy .there) s a e less)) (λ q. send-less e (ap (λ (x : Busy). x .there) q))
+        go-on (after (Sending f i sender false) whenNot found found small (framed .fits) refl m refl) refl (sends i (sendOf sender (seen .hsk) (nibbleIn (bytesFor c d) i)) framed (different-kept seen (busy .there) different) (sends-on (seen .hsk) s e) less (units-rest T c d (framed .sent) i sender units (busy .there) s a noted e less)) (λ q. send-less e (ap (λ (x : Busy). x .there) q))
     send-round true true e g =
         let more : i < lastNibble f = ltb-true i (lastNibble f) g in
         let l = last-is in
         let next : i + 1 ≡ suc i = omega arith in
         let m : movedIn w busy ≡ stays (Sending f (suc i) Next false) =
         ap (λ (x : Bool). stays (cond x (nextNibble f i) whenNot)) e ∙ ap (λ (x : Bool). stays (cond x (Sending f (i + 1) Next false) (Listening f Ready nothingTaken 0))) g ∙ ap (λ (x : ℕ). stays (Sending f x Next false)) next in
-        go-on (after (Sending f i sender false) (Sending f (suc i) Next false) found found small (framed .fits) refl m refl) refl (sends (suc i) Next framed (different-kept seen (busy .there) different) s-next (omega arith) (units-sent c d (framed .sent) i sender units (busy .there) s a e (omega arith))) (λ q. let some = place-some sender (seen .hsk) in omega arith)
+        go-on (after (Sending f i sender false) (Sending f (suc i) Next false) found found small (framed .fits) refl m refl) refl (sends (suc i) Next framed (different-kept seen (busy .there) different) s-next (omega arith) (units-sent T c d (framed .sent) i sender units (busy .there) s a e (omega arith))) (λ q. let some = place-some sender (seen .hsk) in omega arith)
     send-round true false e g =
         let least : lastNibble f ≤ i = ltb-false i (lastNibble f) g in
         let l = last-is in
@@ -269,15 +271,15 @@ module _ (f : Frame) (found : List ℕ) (timeout : ℕ) (ring : Ring) (units : L
         ap (λ (x : Bool). stays (cond x (nextNibble f i) whenNot)) e ∙ ap (λ (x : Bool). stays (cond x (Sending f (i + 1) Next false) (Listening f Ready nothingTaken 0))) g in
         let d′ = different-kept seen (busy .there) different in
         let eq = after (Sending f i sender false) (Listening f Ready nothingTaken 0) found found small (framed .fits) refl m refl in
-        turn eq d′ (answering c d (isSubmitted (f .kind)) found d′ (units-over c d (framed .sent) i sender units (busy .there) s a e (omega arith)))
+        turn eq d′ (answering T c d (isSubmitted (f .kind)) found d′ (units-over T c d (framed .sent) i sender units (busy .there) s a e (omega arith)))
       where
         turn : round w busy ≡ world timeout (Listening f Ready nothingTaken 0) ring (unitsAfter seen (busy .there) units) lent found → Different (unitsAfter seen (busy .there) units)
-            → Answering c d (isSubmitted (f .kind)) found (unitsAfter seen (busy .there) units) → Goes f found w busy
-        turn eq d′ (somebody o) = go-on eq refl (hears Ready nothingTaken 0 framed d′ refl o) (λ q. one-less (left w) (timeout - 0) (one-bound (let some = place-some sender (seen .hsk) in omega arith) o))
+            → Answering T c d (isSubmitted (f .kind)) found (unitsAfter seen (busy .there) units) → Goes T f found w busy
+        turn eq d′ (somebody o) = go-on eq refl (hears Ready nothingTaken 0 framed d′ refl o) (λ q. one-less (left w) (timeout - 0) (one-bound f (let some = place-some sender (seen .hsk) in omega arith) o))
         turn eq d′ (nobody-does b h) = go-on eq refl (waits 0 framed d′ b h) (λ q. let k = sits-left (levelsWith (hearing Ready) (unitsAfter seen (busy .there) units) .hsk) (timeout - 0) b in omega arith)
 
   -- A round while one unit responds.
-  module _ (ear : Listener) (taken : Response) (quiet : ℕ) (response : List ℕ) (long : length response ≡ length found) (o : One (λ (st : Station). Talk c d (isSubmitted (f .kind)) found ear taken quiet response st × Sound st) (λ (st : Station). Sits st × Sound st) units) where
+  module _ (ear : Listener) (taken : Response) (quiet : ℕ) (response : List ℕ) (long : length response ≡ length found) (o : One (λ (st : Station). Talk T c d (isSubmitted (f .kind)) found ear taken quiet response st × Sound st) (λ (st : Station). Sits st × Sound st) units) where
     abbrev v : World
     v = world timeout (Listening f ear taken quiet) ring units lent response
 
@@ -285,21 +287,21 @@ module _ (f : Frame) (found : List ℕ) (timeout : ℕ) (ring : Ring) (units : L
     as-lent = ap (λ (x : ℕ). lentTo f (length lent) x) long ∙ framed .fits
 
     heard-small : levels v .nibble < 16
-    heard-small = heard-nibble f d found timeout (framed .eight) (framed .room) (busy .here) (busy .there) ear taken quiet response units o
+    heard-small = heard-nibble T f d found timeout (framed .eight) (framed .room) (busy .here) (busy .there) ear taken quiet response units o
 
-    hear-by : Heard′ f d found (movedIn v busy) (listeningBuffer f ear taken (levels v) response) (busy .here) (unitsLeft units (levels v .hsk) (timeout - quiet)) (unitsAfter (levels v) (busy .there) units) → Goes f found v busy
+    hear-by : Heard′ T f d found (movedIn v busy) (listeningBuffer f ear taken (levels v) response) (busy .here) (unitsLeft units (levels v .hsk) (timeout - quiet)) units (unitsAfter (levels v) (busy .there) units) → Goes T f found v busy
     hear-by (goes-on ear′ taken′ quiet′ e o′) =
         go-on (after (Listening f ear taken quiet) (Listening f ear′ taken′ quiet′) response (listeningBuffer f ear taken (levels v) response) heard-small as-lent refl e refl) refl (hears ear′ taken′ quiet′ framed (different-kept (levels v) (busy .there) different) (heard-length f ear taken (levels v) response ∙ long) (plain-one o′)) (λ q. one-less (left v) (timeout - quiet′) (free-one (ap (λ (x : Busy). x .here) q) o′))
     hear-by (comes-to-its-end o′) =
         let b : round v busy .response ≡ listeningBuffer f ear taken (levels v) response = control-buffer (v .controller) (levels v) (busy .here) lent response heard-small as-lent in
         answered (control (v .controller) (levels v) (busy .here) lent response heard-small as-lent refl) (different-kept (levels v) (busy .there) different)
-        (subst (λ (x : List ℕ). One (λ (st : Station). Spoke f d found (movedIn v busy) x st × Sound st) (λ (st : Station). Sits st × Sound st) (unitsAfter (levels v) (busy .there) units)) (sym b) o′)
+        (subst (λ (x : List ℕ). One (λ (st : Station). Spoke T f d found (movedIn v busy) x units st × Sound st) (λ (st : Station). Sits st × Sound st) (unitsAfter (levels v) (busy .there) units)) (sym b) o′)
 
-    hear-round : Goes f found v busy
-    hear-round = hear-by (units-heard f d found timeout (framed .eight) (framed .room) (busy .here) (busy .there) ear taken quiet response units o)
+    hear-round : Goes T f found v busy
+    hear-round = hear-by (units-heard T f d found timeout (framed .eight) (framed .room) (busy .here) (busy .there) ear taken quiet response units o)
 
   -- A round while nobody responds.
-  module _ (quiet : ℕ) (a : All (λ (st : Station). Sits st × Sound st) units) (why : All (Hushed c d) units) where
+  module _ (quiet : ℕ) (a : All (λ (st : Station). Sits st × Sound st) units) (why : All (Hushed T c d) units) where
     abbrev u : World
     u = world timeout (Listening f Ready nothingTaken quiet) ring units lent found
 
@@ -315,7 +317,7 @@ module _ (f : Frame) (found : List ℕ) (timeout : ℕ) (ring : Ring) (units : L
     waited-on : movedIn u busy ≡ cond (leb timeout (quiet + 1) || false) (over f nothingTaken) (stays (Listening f Ready nothingTaken (quiet + 1)))
     waited-on = rw high
 
-    wait-round : (t : Bool) → leb timeout (quiet + 1) ≡ t → Goes f found u busy
+    wait-round : (t : Bool) → leb timeout (quiet + 1) ≡ t → Goes T f found u busy
     wait-round true e =
         unanswered (control (u .controller) (levels u) (busy .here) lent found silent-small (framed .fits) refl) (waited-on ∙ ap (λ (x : Bool). cond (x || false) (over f nothingTaken) (stays (Listening f Ready nothingTaken (quiet + 1)))) e)
         (control-buffer (u .controller) (levels u) (busy .here) lent found silent-small (framed .fits) ∙ same-buffer) (different-kept (levels u) (busy .there) different) (units-sit Ready (busy .there) units a) (hushed-kept (levels u) (busy .there) why) (all-map (λ st p. p .0) a)
@@ -328,11 +330,11 @@ module _ (f : Frame) (found : List ℕ) (timeout : ℕ) (ring : Ring) (units : L
         omega arith)
 
 -- Every round of a frame.
-pub frame-round : (f : Frame) (found : List ℕ) {w : World} → InFrame f found w → (busy : Busy) → Goes f found w busy
-frame-round f found (begins {timeout = timeout} {ring = ring} {units = units} {lent = lent} framed different a) busy = begin-round f found timeout ring units lent framed different busy a
-frame-round f found (sends i sender {timeout = timeout} {ring = ring} {units = units} {lent = lent} framed different s less a) busy =
-    send-round f found timeout ring units lent framed different busy i sender s less a (sentOf sender (levelsWith (sending sender) units .hsk)) (ltb i (lastNibble f)) refl refl
-frame-round f found (hears ear taken quiet {timeout = timeout} {ring = ring} {units = units} {lent = lent} {response = response} framed different long o) busy =
-    hear-round f found timeout ring units lent framed different busy ear taken quiet response long o
-frame-round f found (waits quiet {timeout = timeout} {ring = ring} {units = units} {lent = lent} framed different a why) busy =
-    wait-round f found timeout ring units lent framed different busy quiet a why (leb timeout (quiet + 1)) refl
+pub frame-round : (T : Moment) (f : Frame) (found : List ℕ) {w : World} (busy : Busy) → Noted T w busy → InFrame T f found w → Goes T f found w busy
+frame-round T f found busy noted (begins {timeout = timeout} {ring = ring} {units = units} {lent = lent} framed different a) = begin-round T f found timeout ring units lent framed different busy a
+frame-round T f found busy noted (sends i sender {timeout = timeout} {ring = ring} {units = units} {lent = lent} framed different s less a) =
+    send-round T f found timeout ring units lent framed different busy i sender s less a noted (sentOf sender (levelsWith (sending sender) units .hsk)) (ltb i (lastNibble f)) refl refl
+frame-round T f found busy noted (hears ear taken quiet {timeout = timeout} {ring = ring} {units = units} {lent = lent} {response = response} framed different long o) =
+    hear-round T f found timeout ring units lent framed different busy ear taken quiet response long o
+frame-round T f found busy noted (waits quiet {timeout = timeout} {ring = ring} {units = units} {lent = lent} framed different a why) =
+    wait-round T f found timeout ring units lent framed different busy quiet a why (leb timeout (quiet + 1)) refl

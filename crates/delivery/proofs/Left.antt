@@ -19,6 +19,7 @@ use Rattle.reply.specs.Reply.{lastNibble}
 use Rattle.unit.specs.Unit.{pullsOf, pullsHsk, pullsNibble}
 use Rattle.delivery.specs.Calls.{HostCall, Call, host, submits, acknowledges, calledAt, called}
 use Rattle.delivery.specs.Ends.{left, place, phaseLeft, unitsLeft, stageLeft}
+use Rattle.delivery.specs.Promised.{Moment}
 use Rattle.delivery.specs.Lists.{All, none, also, One, this, that}
 use Rattle.delivery.specs.Stages.{Sound, Sits, Talk, talks, InFrame, begins, sends, hears, waits}
 use Rattle.delivery.specs.World.{World, levels}
@@ -36,7 +37,7 @@ levels-called l zero call (also {x = st} {xs = ss} s a) = ap (λ (x : Lines). le
 levels-called l (suc i) call (also {x = st} s a) = levels-called (wired l (pullsOf (st .unit))) i call a
 
 -- How long the unit that responds still takes is not either.
-talk-same : {c : Command} {d : List ℕ} {stores : Bool} {found : List ℕ} {ear : Listener} {taken : Response} {quiet : ℕ} {buffer : List ℕ} {st after : Station} (low : Bool) (rest rest′ : ℕ) → Called st after → Talk c d stores found ear taken quiet buffer st
+talk-same : {T : Moment} {c : Command} {d : List ℕ} {stores : Bool} {found : List ℕ} {ear : Listener} {taken : Response} {quiet : ℕ} {buffer : List ℕ} {st after : Station} (low : Bool) (rest rest′ : ℕ) → Called st after → Talk T c d stores found ear taken quiet buffer st
     → phaseLeft (after .unit .phase) (after .unit .serial .input) low rest ≡ phaseLeft (st .unit .phase) (st .unit .serial .input) low rest′
 talk-same {st = st} {after = after} low rest rest′ k (talks r j t sender wait e p fits g b l w c q own) =
     let same : lastNibble (after .unit .serial .input) r ≡ lastNibble (st .unit .serial .input) r =
@@ -53,26 +54,26 @@ sits-units low rest i call none = refl
 sits-units low rest zero call (also {x = st} {xs = ss} p a) = sits-same low (unitsLeft ss low rest) (unit-called call st (p .1)) (p .0)
 sits-units low rest (suc i) call (also {x = st} p a) = ap (phaseLeft (st .unit .phase) (st .unit .serial .input) low) (sits-units low rest i call a)
 
-one-units : {c : Command} {d : List ℕ} {stores : Bool} {found : List ℕ} {ear : Listener} {taken : Response} {quiet : ℕ} {buffer : List ℕ} (low : Bool) (rest : ℕ) (i : ℕ) (call : HostCall) {ss : List Station}
-    → One (λ (st : Station). Talk c d stores found ear taken quiet buffer st × Sound st) (λ (st : Station). Sits st × Sound st) ss → unitsLeft (calledAt i call ss) low rest ≡ unitsLeft ss low rest
+one-units : {T : Moment} {c : Command} {d : List ℕ} {stores : Bool} {found : List ℕ} {ear : Listener} {taken : Response} {quiet : ℕ} {buffer : List ℕ} (low : Bool) (rest : ℕ) (i : ℕ) (call : HostCall) {ss : List Station}
+    → One (λ (st : Station). Talk T c d stores found ear taken quiet buffer st × Sound st) (λ (st : Station). Sits st × Sound st) ss → unitsLeft (calledAt i call ss) low rest ≡ unitsLeft ss low rest
 one-units low rest zero call (this {x = st} {xs = ss} p a) = talk-same low (unitsLeft ss low rest) (unitsLeft ss low rest) (unit-called call st (p .1)) (p .0)
 one-units low rest (suc i) call (this {x = st} p a) = ap (phaseLeft (st .unit .phase) (st .unit .serial .input) low) (sits-units low rest i call a)
 one-units low rest zero call (that {x = st} {xs = ss} q o) = sits-same low (unitsLeft ss low rest) (unit-called call st (q .1)) (q .0)
 one-units low rest (suc i) call (that {x = st} q o) = ap (phaseLeft (st .unit .phase) (st .unit .serial .input) low) (one-units low rest i call o)
 
-host-left : {f : Frame} {found : List ℕ} {w : World} (i : ℕ) (call : HostCall) → InFrame f found w → left (called w (host i call)) ≡ left w
-host-left {f} {found} {w} i call (begins {timeout = timeout} {units = units} framed d a) = ap (λ (l : Lines). stageLeft (w .controller .stage) timeout units (l .hsk)) (levels-called (framePulls (w .controller .stage)) i call (all-map (λ st p. p .1) a))
-host-left {f} {found} {w} i call (sends j sender {timeout = timeout} {units = units} framed d s l a) = ap (λ (x : Lines). stageLeft (w .controller .stage) timeout units (x .hsk)) (levels-called (framePulls (w .controller .stage)) i call (all-map (λ st p. p .1) a))
-host-left {f} {found} {w} i call (hears ear taken quiet {timeout = timeout} {units = units} framed d l o) =
+host-left : {T : Moment} {f : Frame} {found : List ℕ} {w : World} (i : ℕ) (call : HostCall) → InFrame T f found w → left (called w (host i call)) ≡ left w
+host-left {T} {f} {found} {w} i call (begins {timeout = timeout} {units = units} framed d a) = ap (λ (l : Lines). stageLeft (w .controller .stage) timeout units (l .hsk)) (levels-called (framePulls (w .controller .stage)) i call (all-map (λ st p. p .1) a))
+host-left {T} {f} {found} {w} i call (sends j sender {timeout = timeout} {units = units} framed d s l a) = ap (λ (x : Lines). stageLeft (w .controller .stage) timeout units (x .hsk)) (levels-called (framePulls (w .controller .stage)) i call (all-map (λ st p. p .1) a))
+host-left {T} {f} {found} {w} i call (hears ear taken quiet {timeout = timeout} {units = units} framed d l o) =
     ap (λ (x : Lines). unitsLeft (calledAt i call units) (x .hsk) (timeout - quiet)) (levels-called (framePulls (w .controller .stage)) i call (one-all (λ st p. p .1) (λ st p. p .1) o)) ∙ one-units (levels w .hsk) (timeout - quiet) i call o
-host-left {f} {found} {w} i call (waits quiet {timeout = timeout} {units = units} framed d a why) =
+host-left {T} {f} {found} {w} i call (waits quiet {timeout = timeout} {units = units} framed d a why) =
     ap (λ (x : Lines). unitsLeft (calledAt i call units) (x .hsk) (timeout - quiet)) (levels-called (framePulls (w .controller .stage)) i call (all-map (λ st p. p .1) a)) ∙ sits-units (levels w .hsk) (timeout - quiet) i call a
 
 acknowledged-left : (w : World) (code : ℕ) (a : Answer Done) → left (record { controller = kept a (withoutMark (w .controller) code) (w .controller); units = w .units; lent = w .lent; response = w .response }) ≡ left w
 acknowledged-left w code (gives x) = refl
 acknowledged-left w code (refused k) = refl
 
-pub left-called : {f : Frame} {found : List ℕ} {w : World} (call : Call) → InFrame f found w → left (called w call) ≡ left w
+pub left-called : {T : Moment} {f : Frame} {found : List ℕ} {w : World} (call : Call) → InFrame T f found w → left (called w call) ≡ left w
 left-called (host i call) x = host-left i call x
 left-called {w = w} (submits k d buffer range bytes) x = ap left (not-idle w k d buffer range bytes (frame-busy x))
 left-called {w = w} (acknowledges code h) x = acknowledged-left w code (acknowledging (w .controller) code)

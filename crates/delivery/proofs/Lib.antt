@@ -1,4 +1,5 @@
 pub mod Lists
+pub mod World
 pub mod Heard
 pub mod Lines
 pub mod Part
@@ -12,7 +13,7 @@ pub mod Frame
 pub mod Calls
 pub mod Rest
 pub mod Run
-pub mod Fixes
+pub mod Changes
 pub mod Left
 pub mod Demand2
 pub mod Example

@@ -23,9 +23,10 @@ use Rattle.unit.specs.Unit.{pullsOf, pullsHsk, pullsNibble}
 use Rattle.delivery.specs.Stages.{Sits, Sound, Spoke, Talk, answerBytes, spoke, talks}
 use Rattle.delivery.specs.Ends.{phaseLeft, unitsLeft}
 use Rattle.delivery.specs.Heard.{Fits, f-next, f-placed, f-holds, f-waits}
-use Rattle.delivery.specs.Lists.{All, none, also, One, this, that}
+use Rattle.delivery.specs.Promised.{Moment}
+use Rattle.delivery.specs.Lists.{Has, All, none, also, One, this, that}
 use Rattle.delivery.proofs.Lines.{free-wired, bav-kept, nibble-kept}
-use Rattle.delivery.proofs.Lists.{all-map, all-step, one-step}
+use Rattle.delivery.proofs.Lists.{one-has, one-map, all-map, all-step, one-step}
 use Rattle.delivery.proofs.Part.{low-step}
 use Rattle.delivery.proofs.Stage.{sound-low, nibble-below}
 use Rattle.delivery.proofs.Talk.{talkLeft, Talked, still, done, talk-step}
@@ -43,10 +44,6 @@ sits-nibble p = ap pullsNibble (p .0 .0)
 hsk-same : (l : Lines) {ss : List Station} → All (λ (st : Station). Sits st × Sound st) ss → levelsWith l ss .hsk ≡ l .hsk
 hsk-same l none = refl
 hsk-same l (also {x = st} p a) = hsk-same (wired l (pullsOf (st .unit))) a ∙ ap (λ (b : Bool). l .hsk || b) (sits-hsk p) ∙ or-false (l .hsk)
-
-one-map {ℓ κ} : {A : Type ℓ} {P Q P′ : A → Type κ} → ((x : A) → P x → P′ x) → {xs : List A} → One P Q xs → One P′ Q xs
-one-map f (this {x = x} p a) = this (f x p) a
-one-map f (that q o) = that q (one-map f o)
 
 -- The one unit, and what is seen of it.
 abbrev pub Seen : Lines → Bool → Station → Type 0
@@ -70,7 +67,7 @@ fits-nibble h f-placed = h
 fits-nibble h f-holds = h
 fits-nibble h f-waits = h
 
-talk-nibble : {c : Command} {d : List ℕ} {stores : Bool} {found : List ℕ} {ear : Listener} {taken : Response} {quiet : ℕ} {buffer : List ℕ} {st : Station} → Talk c d stores found ear taken quiet buffer st → pullsNibble (st .unit .phase) < 16
+talk-nibble : {T : Moment} {c : Command} {d : List ℕ} {stores : Bool} {found : List ℕ} {ear : Listener} {taken : Response} {quiet : ℕ} {buffer : List ℕ} {st : Station} → Talk T c d stores found ear taken quiet buffer st → pullsNibble (st .unit .phase) < 16
 talk-nibble (talks r j t sender wait e p fits g b l w c q own) = subst (λ (x : ℕ). x < 16) (sym (ap pullsNibble e)) (fits-nibble (nibble-below (answerBytes p) j) fits)
 
 -- A unit that sits out goes on to.
@@ -85,7 +82,7 @@ sits-step seen low n st busy p =
     )
 
 -- How long it takes goes by the one unit that responds.
-talk-phase : {c : Command} {d : List ℕ} {stores : Bool} {found : List ℕ} {ear : Listener} {taken : Response} {quiet : ℕ} {buffer : List ℕ} (st : Station) → Talk c d stores found ear taken quiet buffer st
+talk-phase : {T : Moment} {c : Command} {d : List ℕ} {stores : Bool} {found : List ℕ} {ear : Listener} {taken : Response} {quiet : ℕ} {buffer : List ℕ} (st : Station) → Talk T c d stores found ear taken quiet buffer st
     → (low : Bool) → low ≡ (listenerHsk ear || pullsHsk (st .unit .phase)) → (rest : ℕ) → phaseLeft (st .unit .phase) (st .unit .serial .input) low rest ≡ talkLeft ear st
 talk-phase {ear = ear} st (talks r j t sender wait e p fits g b l w c q own) low h rest =
     ap (λ (x : Bool). phaseLeft (st .unit .phase) (st .unit .serial .input) x rest) h
@@ -98,43 +95,43 @@ one-left ear low rest f (this {x = st} {xs = ss} p a) = this (p, f st p (unitsLe
 one-left ear low rest f (that {x = st} {xs = ss} q o) =
     that q (one-map (λ x p. (p .0, ap (λ (y : Phase). phaseLeft y (st .unit .serial .input) low (unitsLeft ss low rest)) (q .0 .0) ∙ p .1)) (one-left ear low rest f o))
 
-pub one-less : {c : Command} {d : List ℕ} {stores : Bool} {found : List ℕ} {ear : Listener} {taken : Response} {quiet : ℕ} {buffer : List ℕ} (most rest : ℕ) {ss : List Station}
-    → One (λ (st : Station). (Talk c d stores found ear taken quiet buffer st × (talkLeft ear st < most)) × Sound st) (λ (st : Station). Sits st × Sound st) ss → unitsLeft ss (levelsWith (hearing ear) ss .hsk) rest < most
-one-less {c} {d} {stores} {found} {ear} {taken} {quiet} {buffer} most rest {ss} o =
+pub one-less : {T : Moment} {c : Command} {d : List ℕ} {stores : Bool} {found : List ℕ} {ear : Listener} {taken : Response} {quiet : ℕ} {buffer : List ℕ} (most rest : ℕ) {ss : List Station}
+    → One (λ (st : Station). (Talk T c d stores found ear taken quiet buffer st × (talkLeft ear st < most)) × Sound st) (λ (st : Station). Sits st × Sound st) ss → unitsLeft ss (levelsWith (hearing ear) ss .hsk) rest < most
+one-less {T} {c} {d} {stores} {found} {ear} {taken} {quiet} {buffer} most rest {ss} o =
     pick (one-left ear (levelsWith (hearing ear) ss .hsk) rest (λ st p k. talk-phase st (p .0 .0 .0) (levelsWith (hearing ear) ss .hsk) (p .1 .0) k) (one-seen (hearing ear) refl (λ st p. talk-nibble (p .0 .0)) o))
   where
-    pick : {s : List Station} {n : ℕ} {X : Station → Type 0} → One (λ (st : Station). (((Talk c d stores found ear taken quiet buffer st × (talkLeft ear st < most)) × Sound st) × X st) × (n ≡ talkLeft ear st)) (λ (st : Station). Sits st × Sound st) s → n < most
+    pick : {s : List Station} {n : ℕ} {X : Station → Type 0} → One (λ (st : Station). (((Talk T c d stores found ear taken quiet buffer st × (talkLeft ear st < most)) × Sound st) × X st) × (n ≡ talkLeft ear st)) (λ (st : Station). Sits st × Sound st) s → n < most
     pick (this p a) = subst (λ (x : ℕ). x < most) (sym (p .1)) (p .0 .0 .0 .1)
     pick (that q o) = pick o
 
 -- What a round comes to while one unit responds, where its response took at most `most` rounds before.
-pub data Heard′ (f : Frame) (d found : List ℕ) (m : Moved) (buffer : List ℕ) (host : Bool) (most : ℕ) (ss : List Station) : Type 0 where
+pub data Heard′ (T : Moment) (f : Frame) (d found : List ℕ) (m : Moved) (buffer : List ℕ) (host : Bool) (most : ℕ) (old ss : List Station) : Type 0 where
   goes-on :
       (ear : Listener) (taken : Response) (quiet : ℕ) → m ≡ stays (Listening f ear taken quiet)
-      → One (λ (st : Station). (Talk (f .command) d (isSubmitted (f .kind)) found ear taken quiet buffer st × (host ≡ false → talkLeft ear st < most)) × Sound st) (λ (st : Station). Sits st × Sound st) ss
-      → Heard′ f d found m buffer host most ss
-  comes-to-its-end : One (λ (st : Station). Spoke f d found m buffer st × Sound st) (λ (st : Station). Sits st × Sound st) ss → Heard′ f d found m buffer host most ss
+      → One (λ (st : Station). (Talk T (f .command) d (isSubmitted (f .kind)) found ear taken quiet buffer st × (host ≡ false → talkLeft ear st < most)) × Sound st) (λ (st : Station). Sits st × Sound st) ss
+      → Heard′ T f d found m buffer host most old ss
+  comes-to-its-end : One (λ (st : Station). Spoke T f d found m buffer old st × Sound st) (λ (st : Station). Sits st × Sound st) ss → Heard′ T f d found m buffer host most old ss
 
-parted : {f : Frame} {d found : List ℕ} {m : Moved} {buffer : List ℕ} {host : Bool} {most : ℕ} {ss : List Station} → One (λ (st : Station). Talked f d found m buffer host most st × Sound st) (λ (st : Station). Sits st × Sound st) ss → Heard′ f d found m buffer host most ss
-parted (this (still ear taken quiet e t n, s) a) = goes-on ear taken quiet e (this ((t, n), s) a)
-parted (this (done r s p e b phase serial q, x) a) = comes-to-its-end (this (spoke r s p e b serial (phase, q), x) a)
+parted : {T : Moment} {f : Frame} {d found : List ℕ} {m : Moved} {buffer : List ℕ} {host : Bool} {most : ℕ} {old ss : List Station} → One (λ (st : Station). ((before : Station) × (Has before old × Talked T f d found m buffer host most before st)) × Sound st) (λ (st : Station). Sits st × Sound st) ss → Heard′ T f d found m buffer host most old ss
+parted (this ((before, (has, still ear taken quiet e t n)), s) a) = goes-on ear taken quiet e (this ((t, n), s) a)
+parted (this ((before, (has, done r p e b phase serial q own input a)), x) all) = comes-to-its-end (this (spoke r before has own a p e b serial input (phase, q), x) all)
 parted (that q o) = behind q (parted o)
   where
-    behind : {f : Frame} {d found : List ℕ} {m : Moved} {buffer : List ℕ} {host : Bool} {most : ℕ} {st : Station} {ss : List Station} → Sits st × Sound st → Heard′ f d found m buffer host most ss → Heard′ f d found m buffer host most (st ∷ ss)
+    behind : {T : Moment} {f : Frame} {d found : List ℕ} {m : Moved} {buffer : List ℕ} {host : Bool} {most : ℕ} {old : List Station} {st : Station} {ss : List Station} → Sits st × Sound st → Heard′ T f d found m buffer host most old ss → Heard′ T f d found m buffer host most old (st ∷ ss)
     behind q (goes-on ear taken quiet e o) = goes-on ear taken quiet e (that q o)
     behind q (comes-to-its-end o) = comes-to-its-end (that q o)
 
-module _ (f : Frame) (d found : List ℕ) (timeout : ℕ) (eight : 8 ≤ timeout) (room : f .command .«buffer_length» ≤ length found) (host : Bool) (hosts : ℕ) (ear : Listener) (taken : Response) (quiet : ℕ) (buffer : List ℕ) (ss : List Station) (o : One (λ (st : Station). Talk (f .command) d (isSubmitted (f .kind)) found ear taken quiet buffer st × Sound st) (λ (st : Station). Sits st × Sound st) ss) where
+module _ (T : Moment) (f : Frame) (d found : List ℕ) (timeout : ℕ) (eight : 8 ≤ timeout) (room : f .command .«buffer_length» ≤ length found) (host : Bool) (hosts : ℕ) (ear : Listener) (taken : Response) (quiet : ℕ) (buffer : List ℕ) (ss : List Station) (o : One (λ (st : Station). Talk T (f .command) d (isSubmitted (f .kind)) found ear taken quiet buffer st × Sound st) (λ (st : Station). Sits st × Sound st) ss) where
   abbrev seen : Lines
   seen = levelsWith (hearing ear) ss
 
-  known : One (λ (st : Station). (Talk (f .command) d (isSubmitted (f .kind)) found ear taken quiet buffer st × Sound st) × Seen seen (listenerHsk ear) st) (λ (st : Station). Sits st × Sound st) ss
+  known : One (λ (st : Station). (Talk T (f .command) d (isSubmitted (f .kind)) found ear taken quiet buffer st × Sound st) × Seen seen (listenerHsk ear) st) (λ (st : Station). Sits st × Sound st) ss
   known = one-seen (hearing ear) refl (λ st p. talk-nibble (p .0)) o
 
   bav : seen .bav ≡ true
   bav = bav-kept (hearing ear) ss refl
 
-  small : {s : List Station} → One (λ (st : Station). (Talk (f .command) d (isSubmitted (f .kind)) found ear taken quiet buffer st × Sound st) × Seen seen (listenerHsk ear) st) (λ (st : Station). Sits st × Sound st) s → seen .nibble < 16
+  small : {s : List Station} → One (λ (st : Station). (Talk T (f .command) d (isSubmitted (f .kind)) found ear taken quiet buffer st × Sound st) × Seen seen (listenerHsk ear) st) (λ (st : Station). Sits st × Sound st) s → seen .nibble < 16
   small (this p a) = subst (λ (x : ℕ). x < 16) (sym (p .1 .1)) (talk-nibble (p .0 .0))
   small (that q o) = small o
 
@@ -144,17 +141,23 @@ module _ (f : Frame) (d found : List ℕ) (timeout : ℕ) (eight : 8 ≤ timeout
   abbrev most : ℕ
   most = unitsLeft ss (seen .hsk) (timeout - quiet)
 
-  counted : One (λ (st : Station). ((Talk (f .command) d (isSubmitted (f .kind)) found ear taken quiet buffer st × Sound st) × Seen seen (listenerHsk ear) st) × (most ≡ talkLeft ear st)) (λ (st : Station). Sits st × Sound st) ss
+  counted : One (λ (st : Station). ((Talk T (f .command) d (isSubmitted (f .kind)) found ear taken quiet buffer st × Sound st) × Seen seen (listenerHsk ear) st) × (most ≡ talkLeft ear st)) (λ (st : Station). Sits st × Sound st) ss
   counted = one-left ear (seen .hsk) (timeout - quiet) (λ st p k. talk-phase st (p .0 .0) (seen .hsk) (p .1 .0) k) known
 
-  pub units-heard : Heard′ f d found (listeningStep f ear taken quiet timeout seen host) (listeningBuffer f ear taken seen buffer) host most (unitsAfter seen hosts ss)
+  pub units-heard : Heard′ T f d found (listeningStep f ear taken quiet timeout seen host) (listeningBuffer f ear taken seen buffer) host most ss (unitsAfter seen hosts ss)
   units-heard =
       parted (one-step seen (λ st busy p.
-      let step = low-step st seen busy heard-nibble (p .0 .0 .1 .room) bav in (
-        subst (λ (k : ℕ). Talked f d found (listeningStep f ear taken quiet timeout seen host) (listeningBuffer f ear taken seen buffer) host k (stationStep st seen busy)) (sym (p .1))
-            (talk-step f d found timeout eight room st (stationStep st seen busy) seen host busy step ear taken quiet buffer (p .0 .0 .0) (p .0 .1 .0) (p .0 .1 .1)),
-        sound-low step (p .0 .0 .1),
-      )) (sits-step seen bav heard-nibble) hosts counted)
+      let step = low-step st seen busy heard-nibble (p .0 .0 .0 .1 .room) bav in (
+        (
+          st,
+          (
+            p .1,
+            subst (λ (k : ℕ). Talked T f d found (listeningStep f ear taken quiet timeout seen host) (listeningBuffer f ear taken seen buffer) host k st (stationStep st seen busy)) (sym (p .0 .1))
+                (talk-step T f d found timeout eight room st (stationStep st seen busy) seen host busy step ear taken quiet buffer (p .0 .0 .0 .0) (p .0 .0 .1 .0) (p .0 .0 .1 .1)),
+          ),
+        ),
+        sound-low step (p .0 .0 .0 .1),
+      )) (sits-step seen bav heard-nibble) hosts (one-has counted))
 
 -- What a round comes to while nobody responds.
 module _ (ear : Listener) (hosts : ℕ) (ss : List Station) (a : All (λ (st : Station). Sits st × Sound st) ss) where

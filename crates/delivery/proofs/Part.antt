@@ -27,7 +27,7 @@ use Rattle.serial.specs.declared.Serial.{Serial}
 use Rattle.unit.specs.Unit.{pullsHsk, pullsNibble}
 use Rattle.whole.specs.Whole.{bytesFor, headerFor, withData, Sent}
 use Rattle.whole.proofs.Whole.{length-bytes}
-use Rattle.delivery.specs.Stages.{Part, addressed, answers, listens, sits}
+use Rattle.delivery.specs.Stages.{isAnswered, Part, addressed, answers, listens, sits}
 use Rattle.delivery.specs.Heard.{Fits, f-next, f-holds, f-waits, Sees, Heard, h-none, h-first, h-byte, h-half}
 use Rattle.delivery.proofs.Heard.{Pair, rests, takes, sends, pair, Round, Waits, waits, heard-waits, Takes, takes-it, Fixed, heard-takes, heard-last, heard-other}
 
@@ -107,6 +107,13 @@ part-high (listens ear t f h a q) = heard-hsk h ∙ fits-next f
 part-high (answers ear r f l a e k q) = ap pullsHsk e ∙ fits-next f
 part-high (sits true a e k q) = absurd (kept-next (k refl .1))
 part-high (sits false a e k q) = ap pullsHsk e
+
+-- A unit that still takes has not answered.
+pub heard-open : {bytes : List ℕ} {ear : Listener} {k : ℕ} {phase : Phase} {buffer : List ℕ} → Heard bytes ear k phase buffer → isAnswered phase ≡ false
+heard-open (h-none room) = refl
+heard-open (h-first room) = refl
+heard-open (h-byte j buffer room g h) = refl
+heard-open (h-half j buffer room g h) = refl
 
 fits-one : {n : ℕ} {sender : Sender} {ear : Listener} → Fits n sender ear 1 → isReady ear ≡ false
 fits-one f-holds = refl
@@ -211,7 +218,7 @@ module _ (P : Reply → Serial → List ℕ → Type 0) (c : Command) (d : List 
   part-over shows own sent all nine (sits now a e k q) = silent (still-sits e) (not-asking q) (not-mine (same-own a))
 
   -- A nibble that does not count as sent yet.
-  module _ (ok : Sent c d) (fixes : (b : List ℕ) → st′ .unit .serial ≡ answered (st .unit .serial) (headerFor c d) (withData d b) .serial → P (replyTo (st .unit .serial) c d b) (st′ .unit .serial) (st′ .input)) where
+  module _ (ok : Sent c d) (fixes : (b : List ℕ) → isAnswered (st .unit .phase) ≡ false → isAnswered (st′ .unit .phase) ≡ true → st′ .unit .serial ≡ answered (st .unit .serial) (headerFor c d) (withData d b) .serial → P (replyTo (st .unit .serial) c d b) (st′ .unit .serial) (st′ .input)) where
     takes-more : Fits n (sendOf sender (seen .hsk) n) Holding 1 → seen .hsk ≡ true
         → Takes (bytesFor c d) i (st .unit .phase) (st .unit .own) (st .unit .serial) seen busy (st .buffer) (st .input) (st .output)
         → (2 ≤ suc i → addressed c (st .unit .own) ≡ true)
@@ -221,10 +228,11 @@ module _ (P : Reply → Serial → List ℕ → Type 0) (c : Command) (d : List 
         listens Holding 1 g (subst (λ (x : ℕ). Heard (bytesFor c d) Holding x (st′ .unit .phase) (st′ .buffer)) k (moved-heard r h)) (λ l. same-own (a (omega arith))) (λ l. asked-low low)
 
     takes-last : Fits n (sendOf sender (seen .hsk) n) Holding 1 → seen .hsk ≡ true → suc i ≡ 2 * length (bytesFor c d) → addressed c (st .unit .own) ≡ true
+        → isAnswered (st .unit .phase) ≡ false
         → (b : List ℕ) × (256 ≤ length b) × Fixed (headerFor c d) (withData d b) (st .unit .phase) (st .unit .own) (st .unit .serial) seen busy (st .buffer) (st .input) (st .output)
         → Part P c d i (sendOf sender (seen .hsk) n) st′
-    takes-last g low all a x =
-        answers Holding (replyTo (st .unit .serial) c d (x .0)) g all (same-own a) (step .phase ∙ x .2 .round .phase) (fixes (x .0) (step .serial ∙ x .2 .round .serial)) (asked-low low)
+    takes-last g low all a before x =
+        answers Holding (replyTo (st .unit .serial) c d (x .0)) g all (same-own a) (step .phase ∙ x .2 .round .phase) (fixes (x .0) before (ap isAnswered (step .phase ∙ x .2 .round .phase)) (step .serial ∙ x .2 .round .serial)) (asked-low low)
 
     takes-by : (b t : Bool) → addressed c (st .unit .own) ≡ b → ltb (suc i) (2 * length (bytesFor c d)) ≡ t → i < 2 * length (bytesFor c d)
         → (2 ≤ i → addressed c (st .unit .own) ≡ true) → Fits n (sendOf sender (seen .hsk) n) Holding 1 → (m : ℕ) → sendOf sender (seen .hsk) n ≡ Kept m → seen .hsk ≡ true → seen .nibble ≡ n
@@ -233,7 +241,7 @@ module _ (P : Reply → Serial → List ℕ → Type 0) (c : Command) (d : List 
         takes-more g low (heard-takes c d ok (st .unit .own) (st .unit .serial) seen busy (st .input) (st .output) low x q (ltb-true (suc i) (2 * length (bytesFor c d)) l) (λ e. a)) (λ e. a)
     takes-by true false a l h z g m keeps low q x =
         let all : 2 * length (bytesFor c d) ≤ suc i = ltb-false (suc i) (2 * length (bytesFor c d)) l in
-        takes-last g low (omega arith) a (heard-last c d ok (st .unit .own) (st .unit .serial) seen busy (st .input) (st .output) low x q (omega arith))
+        takes-last g low (omega arith) a (heard-open x) (heard-last c d ok (st .unit .own) (st .unit .serial) seen busy (st .input) (st .output) low x q (omega arith))
     takes-by false t a l h z g m keeps low q x = other i refl
       where
         nine : length (bytesFor c d) ≡ 9 + length d

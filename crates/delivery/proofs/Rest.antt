@@ -34,8 +34,9 @@ use Rattle.ring.proofs.Laws.{live-ring, live-below}
 use Rattle.turn.specs.Turn.{turnOf, ringBy, ringEnded}
 use Rattle.unit.specs.Unit.{pullsNibble}
 use Rattle.whole.specs.Whole.{Sent}
-use Rattle.delivery.specs.Stages.{AtRest, Codes, Finishes, Framed, Fresh, Goes, InFrame, On, Sits, Sound, Spoke, answerData, answered, begins, ended, hears, idles, is-free, is-resting, movedIn, on, rests, runs, selects, sends, spoke, submitted, unanswered, waits, world}
+use Rattle.delivery.specs.Stages.{AtRest, Codes, Finishes, Framed, Fresh, Goes, InFrame, Noted, On, Sits, Sound, Spoke, answerData, answered, begins, ended, hears, idles, is-free, is-resting, movedIn, on, rests, runs, selects, sends, spoke, submitted, unanswered, waits, world}
 use Rattle.delivery.specs.Calls.{host}
+use Rattle.delivery.specs.Promised.{Moment}
 use Rattle.delivery.specs.Lists.{All, none, also, One, this, that}
 use Rattle.delivery.specs.World.{World, Busy, round, Different}
 use Rattle.delivery.proofs.Lists.{all-map, all-step, one-all}
@@ -168,7 +169,7 @@ turn-framed e lent found timeout h eight = by (e .marked)
     by true = record { sent = empty (record { device = lit< tt; command = lit< tt; unit = lit< tt; number = lit< tt; buffer = lit< tt }); announced = refl; room = omega arith; fits = refl; eight = eight }
     by false = record { sent = empty (record { device = h; command = lit< tt; unit = lit< tt; number = lit< tt; buffer = lit< tt }); announced = refl; room = omega arith; fits = refl; eight = eight }
 
-module _ (timeout : ℕ) (ring : Ring) (units : List Station) (lent response : List ℕ) (busy : Busy) (codes : Codes ring) (different : Different units) where
+module _ (T : Moment) (timeout : ℕ) (ring : Ring) (units : List Station) (lent response : List ℕ) (busy : Busy) (codes : Codes ring) (different : Different units) where
   abbrev unitsNext : List Station
   unitsNext = unitsAfter (levelsWith released units) (busy .there) units
 
@@ -186,80 +187,80 @@ module _ (timeout : ℕ) (ring : Ring) (units : List Station) (lent response : L
     nibble-fine = le-ltb 15 (levelsWith released units .nibble) (let n = rest-nibble units a in omega arith)
 
     -- Idle: nothing, or a service frame begins.
-    free-round : (t u : Bool) → levelsWith released units .bav ≡ t → eqb (counted ring) 0 ≡ u → On (round (world timeout Free ring units lent response) busy)
+    free-round : (t u : Bool) → levelsWith released units .bav ≡ t → eqb (counted ring) 0 ≡ u → On T (round (world timeout Free ring units lent response) busy)
     free-round false u b e =
         let eq : round (world timeout Free ring units lent response) busy ≡ world timeout Free ring unitsNext lent response = next-world Free Free ring (rw (nibble-fine, b)) (rw nibble-fine) in
-        subst On (sym eq) (rests is-free eight codes different′ (units-rest-on units a (busy .there)))
+        subst (On T) (sym eq) (rests is-free eight codes different′ (units-rest-on units a (busy .there)))
     free-round true true b e =
         let eq : round (world timeout Free ring units lent response) busy ≡ world timeout Free ring unitsNext lent response = next-world Free Free ring (rw (nibble-fine, b, e)) (rw nibble-fine) in
-        subst On (sym eq) (rests is-free eight codes different′ (units-rest-on units a (busy .there)))
+        subst (On T) (sym eq) (rests is-free eight codes different′ (units-rest-on units a (busy .there)))
     free-round true false b e =
         let f = turnOf (getD (live ring) 0 nobody-there) in
         let eq : round (world timeout Free ring units lent response) busy ≡ world timeout (begun f) (ringOf (turned (live ring))) unitsNext lent response = next-world Free (begun f) (ringOf (turned (live ring))) (rw (nibble-fine, b, e)) (rw nibble-fine) in
-        subst On (sym eq)
+        subst (On T) (sym eq)
         (runs f response (begins (turn-framed (getD (live ring) 0 nobody-there) lent response timeout (all-at 0 codes (lit< tt)) eight) different′ (units-rest-on units a (busy .there))) (codes-turned ring codes))
 
-    rest-round : On (round (world timeout (Resting false) ring units lent response) busy)
+    rest-round : On T (round (world timeout (Resting false) ring units lent response) busy)
     rest-round =
         let eq : round (world timeout (Resting false) ring units lent response) busy ≡ world timeout Free ring unitsNext lent response = next-world (Resting false) Free ring (rw nibble-fine) (rw nibble-fine) in
-        subst On (sym eq) (rests is-free eight codes different′ (units-rest-on units a (busy .there)))
+        subst (On T) (sym eq) (rests is-free eight codes different′ (units-rest-on units a (busy .there)))
 
   -- A submitted command begins its frame.
-  submitted-round : (f : Frame) → Framed f lent response timeout → All (λ (st : Station). Fresh st × Sound st) units → On (round (world timeout (Waiting f) ring units lent response) busy)
+  submitted-round : (f : Frame) → Framed f lent response timeout → All (λ (st : Station). Fresh st × Sound st) units → On T (round (world timeout (Waiting f) ring units lent response) busy)
   submitted-round f framed a =
       let eq : round (world timeout (Waiting f) ring units lent response) busy ≡ world timeout (begun f) ring unitsNext lent response = next-world (Waiting f) (begun f) ring (rw (nibble-fine a (framed .eight), framed .fits)) (rw (nibble-fine a (framed .eight), framed .fits)) in
-      subst On (sym eq) (runs f response (begins framed different′ (units-rest-on units a (busy .there))) codes)
+      subst (On T) (sym eq) (runs f response (begins framed different′ (units-rest-on units a (busy .there))) codes)
 
   -- The first round of a rest: BAV is high, and every unit is idle.
-  ended-round : 8 ≤ timeout → All (λ (st : Station). Sits st × Sound st) units → On (round (world timeout (Resting true) ring units lent response) busy)
+  ended-round : 8 ≤ timeout → All (λ (st : Station). Sits st × Sound st) units → On T (round (world timeout (Resting true) ring units lent response) busy)
   ended-round eight a =
       let n : levelsWith released units .nibble ≡ 15 = nibble-kept released (lit< tt) (all-map (λ st p. ap pullsNibble (p .0 .0)) a) in
       let small : levelsWith released units .nibble < 16 = subst (λ (x : ℕ). x < 16) (sym n) (lit< tt) in
       let fine : ltb 15 (levelsWith released units .nibble) ≡ false = le-ltb 15 (levelsWith released units .nibble) (omega arith) in
       let high : levelsWith released units .bav ≡ false = bav-high released refl (all-map (λ st p. p .0 .1) a) in
       let eq : round (world timeout (Resting true) ring units lent response) busy ≡ world timeout (Resting false) ring unitsNext lent response = next-world (Resting true) (Resting false) ring (rw fine) (rw fine) in
-      subst On (sym eq) (rests is-resting eight codes different′ (all-step (levelsWith released units) (λ st host p. idle-step (levelsWith released units) small high st host (p .1)) (busy .there) a))
+      subst (On T) (sym eq) (rests is-resting eight codes different′ (all-step (levelsWith released units) (λ st host p. idle-step (levelsWith released units) small high st host (p .1)) (busy .there) a))
 
 -- The round that ends a frame.
-frame-timeout : {f : Frame} {found : List ℕ} {w : World} → InFrame f found w → 8 ≤ w .controller .timeout
+frame-timeout : {T : Moment} {f : Frame} {found : List ℕ} {w : World} → InFrame T f found w → 8 ≤ w .controller .timeout
 frame-timeout (begins framed d a) = framed .eight
 frame-timeout (sends i sender framed d s l a) = framed .eight
 frame-timeout (hears ear taken quiet framed d l o) = framed .eight
 frame-timeout (waits quiet framed d a why) = framed .eight
 
-frame-device : {f : Frame} {found : List ℕ} {w : World} → InFrame f found w → f .command .device < 256
+frame-device : {T : Moment} {f : Frame} {found : List ℕ} {w : World} → InFrame T f found w → f .command .device < 256
 frame-device (begins framed d a) = framed .sent .fields .device
 frame-device (sends i sender framed d s l a) = framed .sent .fields .device
 frame-device (hears ear taken quiet framed d l o) = framed .sent .fields .device
 frame-device (waits quiet framed d a why) = framed .sent .fields .device
 
-pub spoke-moved : {f : Frame} {d found : List ℕ} {m : Moved} {buffer : List ℕ} {ss : List Station} → One (λ (st : Station). Spoke f d found m buffer st × Sound st) (λ (st : Station). Sits st × Sound st) ss → (r : Response) × (m ≡ over f r)
-spoke-moved (this (spoke r s p e b serial x, y) a) = (Complete (replyStatus r) (length (answerData p)), e)
+pub spoke-moved : {T : Moment} {f : Frame} {d found : List ℕ} {m : Moved} {buffer : List ℕ} {old ss : List Station} → One (λ (st : Station). Spoke T f d found m buffer old st × Sound st) (λ (st : Station). Sits st × Sound st) ss → (r : Response) × (m ≡ over f r)
+spoke-moved (this (spoke r before has own a p e b serial input x, y) all) = (Complete (replyStatus r) (length (answerData p)), e)
 spoke-moved (that q o) = spoke-moved o
 
-spoke-sits : {f : Frame} {d found : List ℕ} {m : Moved} {buffer : List ℕ} (st : Station) → Spoke f d found m buffer st × Sound st → Sits st × Sound st
-spoke-sits st (spoke r s p e b serial x, y) = (x, y)
+spoke-sits : {T : Moment} {f : Frame} {d found : List ℕ} {m : Moved} {buffer : List ℕ} {old : List Station} (st : Station) → Spoke T f d found m buffer old st × Sound st → Sits st × Sound st
+spoke-sits st (spoke r before has own a p e b serial input x, y) = (x, y)
 
-finish : (f : Frame) (found : List ℕ) (w : World) (busy : Busy) (r : Response) → InFrame f found w → Codes (w .controller .ring) → Finishes w busy → movedIn w busy ≡ over f r → Different (round w busy .units) → All (λ (st : Station). Sits st × Sound st) (round w busy .units) → On (round w busy)
-finish f found w busy r x codes fin m d a =
+finish : {T : Moment} (f : Frame) (found : List ℕ) (w : World) (busy : Busy) (r : Response) → InFrame T f found w → Codes (w .controller .ring) → Finishes w busy → movedIn w busy ≡ over f r → Different (round w busy .units) → All (λ (st : Station). Sits st × Sound st) (round w busy .units) → On T (round w busy)
+finish {T} f found w busy r x codes fin m d a =
     let c : round w busy .controller ≡ controllerOf (w .controller .timeout) (Resting true) (ringEnded (w .controller .ring) f (statusOf r)) =
     fin ∙ ap (λ (y : Moved). controllerOf (w .controller .timeout) (y .stage) (ringAfter (w .controller .ring) (y .end))) m in
     let eq : round w busy ≡ world (w .controller .timeout) (Resting true) (ringEnded (w .controller .ring) f (statusOf r)) (round w busy .units) (w .lent) (round w busy .response) =
     λ k. record { controller = c k; units = round w busy .units; lent = w .lent; response = round w busy .response } in
-    subst On (sym eq) (ended (frame-timeout x) (codes-ended (w .controller .ring) codes f (statusOf r) (frame-device x)) d a)
+    subst (On T) (sym eq) (ended (frame-timeout x) (codes-ended (w .controller .ring) codes f (statusOf r) (frame-device x)) d a)
 
-frame-on : (f : Frame) (found : List ℕ) (w : World) (busy : Busy) → InFrame f found w → Codes (w .controller .ring) → Goes f found w busy → On (round w busy)
+frame-on : {T : Moment} (f : Frame) (found : List ℕ) (w : World) (busy : Busy) → InFrame T f found w → Codes (w .controller .ring) → Goes T f found w busy → On T (round w busy)
 frame-on f found w busy x codes (on r y less) = runs f found y (subst Codes (sym r) codes)
 frame-on f found w busy x codes (answered fin d o) = let m = spoke-moved o in finish f found w busy (m .0) x codes fin (m .1) d (one-all spoke-sits (λ st p. p) o)
 frame-on f found w busy x codes (unanswered fin m b d a why still) = finish f found w busy nothingTaken x codes fin m d a
 
 -- Every round of a run.
-rest-on : (timeout : ℕ) (stage : Stage) (ring : Ring) (units : List Station) (lent response : List ℕ) (busy : Busy) → AtRest stage → 8 ≤ timeout → Codes ring → Different units → All (λ (st : Station). Fresh st × Sound st) units → On (round (world timeout stage ring units lent response) busy)
-rest-on timeout stage ring units lent response busy is-free eight codes d a = free-round timeout ring units lent response busy codes d a eight (levelsWith released units .bav) (eqb (counted ring) 0) refl refl
-rest-on timeout stage ring units lent response busy is-resting eight codes d a = rest-round timeout ring units lent response busy codes d a eight
+rest-on : (T : Moment) (timeout : ℕ) (stage : Stage) (ring : Ring) (units : List Station) (lent response : List ℕ) (busy : Busy) → AtRest stage → 8 ≤ timeout → Codes ring → Different units → All (λ (st : Station). Fresh st × Sound st) units → On T (round (world timeout stage ring units lent response) busy)
+rest-on T timeout stage ring units lent response busy is-free eight codes d a = free-round T timeout ring units lent response busy codes d a eight (levelsWith released units .bav) (eqb (counted ring) 0) refl refl
+rest-on T timeout stage ring units lent response busy is-resting eight codes d a = rest-round T timeout ring units lent response busy codes d a eight
 
-pub on-round : {w : World} → On w → (busy : Busy) → On (round w busy)
-on-round (rests {timeout = timeout} {stage = stage} {ring = ring} {units = units} {lent = lent} {response = response} r eight codes d a) busy = rest-on timeout stage ring units lent response busy r eight codes d a
-on-round (submitted f {timeout = timeout} {ring = ring} {units = units} {lent = lent} {response = response} framed codes d a) busy = submitted-round timeout ring units lent response busy codes d f framed a
-on-round (ended {timeout = timeout} {ring = ring} {units = units} {lent = lent} {response = response} eight codes d a) busy = ended-round timeout ring units lent response busy codes d eight a
-on-round (runs f found {w = w} x codes) busy = frame-on f found w busy x codes (frame-round f found x busy)
+pub on-round : (T : Moment) {w : World} (busy : Busy) → Noted T w busy → On T w → On T (round w busy)
+on-round T busy noted (rests {timeout = timeout} {stage = stage} {ring = ring} {units = units} {lent = lent} {response = response} r eight codes d a) = rest-on T timeout stage ring units lent response busy r eight codes d a
+on-round T busy noted (submitted f {timeout = timeout} {ring = ring} {units = units} {lent = lent} {response = response} framed codes d a) = submitted-round T timeout ring units lent response busy codes d f framed a
+on-round T busy noted (ended {timeout = timeout} {ring = ring} {units = units} {lent = lent} {response = response} eight codes d a) = ended-round T timeout ring units lent response busy codes d eight a
+on-round T busy noted (runs f found {w = w} x codes) = frame-on f found w busy x codes (frame-round T f found busy noted x)

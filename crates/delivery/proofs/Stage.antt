@@ -29,23 +29,25 @@ use Rattle.unit.specs.Unit.{pullsHsk}
 use Rattle.verdict.specs.Verdict.{verdictOf}
 use Rattle.whole.specs.Whole.{bytesFor, headerFor, withData, Sent}
 use Rattle.whole.proofs.Whole.{whole-data, length-bytes}
-use Rattle.delivery.specs.Stages.{Part, Sends, Sound, s-kept, s-next, s-placed}
+use Rattle.delivery.specs.Stages.{isAnswered, Part, Sends, Sound, s-kept, s-next, s-placed}
 use Rattle.delivery.specs.Lists.{All}
-use Rattle.delivery.specs.Promised.{Promised, dataFor, Enough}
+use Rattle.delivery.specs.Promised.{Moment, Promised, dataFor, Enough}
+use Rattle.delivery.specs.World.{Becomes}
 use Rattle.delivery.proofs.Fits.{good-verdict}
 use Rattle.delivery.proofs.Lines.{hsk-kept, bav-kept, hsk-high, hsk-own, nibble-kept}
-use Rattle.delivery.proofs.Lists.{all-map, all-zip, all-step}
+use Rattle.delivery.proofs.Lists.{all-map, all-zip, all-step, all-becomes}
 use Rattle.delivery.proofs.Part.{Stepped, low-step, replyTo, Shows, part-high, part-free, part-rests, part-sent, part-over, Turned}
 
 -- The promise of a reply, at the round in which it is fixed.
-pub promised : (c : Command) (d : List ℕ) (s t : Serial) (input input′ b : List ℕ) → Below 256 input → t ≡ answered s (headerFor c d) (withData d b) .serial → input′ ≡ input → Promised c d (replyTo s c d b) t input′
-promised c d s t input input′ b below e i =
+pub promised : {T : Serial → List ℕ → Type 0} (c : Command) (d : List ℕ) (s t : Serial) (input input′ b : List ℕ) → Below 256 input → t ≡ answered s (headerFor c d) (withData d b) .serial → input′ ≡ input → T s input → Promised T c d (replyTo s c d b) t input′
+promised c d s t input input′ b below e i took =
     let z = storedData (length d) (withData d b) in
     let v = verdictOf s c (length d) z in
     let good = good-verdict s c input below (length d) z in
     record {
       given = s;
       memory = input;
+      took = took;
       said = ap (λ (x : List ℕ). verdictOf s c (length d) x .reply) (whole-data d b);
       stands = (λ k. dataFor (e k) (i k) (v .reply)) ∙ good .stands z;
       long = ap (λ (x : Serial). replyLength (x .input) (v .reply)) e ∙ good .long z;
@@ -54,7 +56,7 @@ promised c d s t input input′ b below e i =
     }
 
 -- No round changes how much memory there is.
-cond-length : (t : Bool) (a b : List ℕ) (n : ℕ) → length a ≡ n → length b ≡ n → length (cond t a b) ≡ n
+pub cond-length : (t : Bool) (a b : List ℕ) (n : ℕ) → length a ≡ n → length b ≡ n → length (cond t a b) ≡ n
 cond-length true a b n e g = e
 cond-length false a b n e g = g
 
@@ -100,12 +102,19 @@ sends-on false s-kept e = absurd (true≢false e)
 abbrev pub sending : Sender → Lines
 sending sender = record { bav = true; hsk = senderHsk sender; nibble = senderNibble sender }
 
-pub shows : {P : Reply → Serial → List ℕ → Type 0} {c : Command} {d : List ℕ} {i n : ℕ} (sender : Sender) (ss : List Station) → n < 16 → Sends n sender → All (λ (st : Station). Part P c d i sender st × Sound st) ss → Shows sender (levelsWith (sending sender) ss)
+pub shows : {P : Station → Reply → Serial → List ℕ → Type 0} {c : Command} {d : List ℕ} {i n : ℕ} (sender : Sender) (ss : List Station) → n < 16 → Sends n sender → All (λ (st : Station). Part (P st) c d i sender st × Sound st) ss → Shows sender (levelsWith (sending sender) ss)
 shows Next ss h s a = hsk-high (sending Next) refl (all-map (λ st p. part-high (p .0)) a)
 shows (Placed m) ss h s a = (hsk-kept (sending (Placed m)) ss refl, nibble-kept (sending (Placed m)) (sends-below h s) (all-map (λ st p. part-free (p .0)) a))
 shows (Kept m) ss h s a = tt
 
-module _ (c : Command) (d : List ℕ) (ok : Sent c d) (i : ℕ) (sender : Sender) (ss : List Station) (hosts : ℕ) (s : Sends (nibbleIn (bytesFor c d) i) sender) (a : All (λ (st : Station). Part (Promised c d) c d i sender st × Sound st) ss) where
+-- What is known of a unit is known of it after a round: it keeps its code.
+part-own : (T : Moment) {c : Command} {d : List ℕ} {i : ℕ} {sender : Sender} {st : Station} {own : ℕ} → st .unit .own ≡ own → Part (Promised (T own) c d) c d i sender st → Part (Promised (T (st .unit .own)) c d) c d i sender st
+part-own T {c} {d} {i} {sender} {st} e p = subst (λ (own : ℕ). Part (Promised (T own) c d) c d i sender st) (sym e) p
+
+turned-own : (T : Moment) {c : Command} {d : List ℕ} {st : Station} {own : ℕ} → st .unit .own ≡ own → Turned (Promised (T own) c d) c st → Turned (Promised (T (st .unit .own)) c d) c st
+turned-own T {c} {d} {st} e p = subst (λ (own : ℕ). Turned (Promised (T own) c d) c st) (sym e) p
+
+module _ (T : Moment) (c : Command) (d : List ℕ) (ok : Sent c d) (i : ℕ) (sender : Sender) (ss : List Station) (hosts : ℕ) (s : Sends (nibbleIn (bytesFor c d) i) sender) (a : All (λ (st : Station). Part (Promised (T (st .unit .own)) c d) c d i sender st × Sound st) ss) where
   abbrev seen : Lines
   seen = levelsWith (sending sender) ss
 
@@ -124,30 +133,30 @@ module _ (c : Command) (d : List ℕ) (ok : Sent c d) (i : ℕ) (sender : Sender
   stepped : (st : Station) (busy : Bool) → Sound st → Stepped st seen busy (stationStep st seen busy)
   stepped st busy x = low-step st seen busy sent-nibble (x .room) sent-bav
 
-  known : All (λ (st : Station). (Part (Promised c d) c d i sender st × Sound st) × (pullsHsk (st .unit .phase) ≡ true → seen .hsk ≡ true)) ss
+  known : All (λ (st : Station). (Part (Promised (T (st .unit .own)) c d) c d i sender st × Sound st) × (pullsHsk (st .unit .phase) ≡ true → seen .hsk ≡ true)) ss
   known = all-zip a (hsk-own (sending sender) ss)
 
-  pub units-rest : sentOf sender (seen .hsk) ≡ false → i < 2 * length (bytesFor c d)
-      → All (λ (st : Station). Part (Promised c d) c d i (sendOf sender (seen .hsk) n) st × Sound st) (unitsAfter seen hosts ss)
-  units-rest e l =
-      all-step seen (λ st busy p. (
-        part-rests (Promised c d) c d i sender st (stationStep st seen busy) seen busy (stepped st busy (p .0 .1)) ok (λ b g. promised c d (st .unit .serial) (stationStep st seen busy .unit .serial) (st .input) (stationStep st seen busy .input) b (p .0 .1 .bytes) g refl) (shows sender ss (nibble-below (bytesFor c d) i) s a) (p .1) e l (p .0 .0),
+  pub units-rest : ((st after : Station) → Becomes seen hosts ss st after → isAnswered (st .unit .phase) ≡ false → isAnswered (after .unit .phase) ≡ true → T (st .unit .own) (st .unit .serial) (st .input)) → sentOf sender (seen .hsk) ≡ false → i < 2 * length (bytesFor c d)
+      → All (λ (st : Station). Part (Promised (T (st .unit .own)) c d) c d i (sendOf sender (seen .hsk) n) st × Sound st) (unitsAfter seen hosts ss)
+  units-rest noted e l =
+      all-becomes seen hosts (λ st busy becomes p. (
+        part-own T (stepped st busy (p .0 .1) .own) (part-rests (Promised (T (st .unit .own)) c d) c d i sender st (stationStep st seen busy) seen busy (stepped st busy (p .0 .1)) ok (λ b before now g. promised c d (st .unit .serial) (stationStep st seen busy .unit .serial) (st .input) (stationStep st seen busy .input) b (p .0 .1 .bytes) g refl (noted st (stationStep st seen busy) becomes before now)) (shows sender ss (nibble-below (bytesFor c d) i) s a) (p .1) e l (p .0 .0)),
         sound-low (stepped st busy (p .0 .1)) (p .0 .1),
-      )) hosts known
+      )) known
 
   pub units-sent : sentOf sender (seen .hsk) ≡ true → suc i < 2 * length (bytesFor c d)
-      → All (λ (st : Station). Part (Promised c d) c d (suc i) Next st × Sound st) (unitsAfter seen hosts ss)
+      → All (λ (st : Station). Part (Promised (T (st .unit .own)) c d) c d (suc i) Next st × Sound st) (unitsAfter seen hosts ss)
   units-sent e l =
       all-step seen (λ st busy p. (
-        part-sent (Promised c d) c d i sender st (stationStep st seen busy) seen busy (stepped st busy (p .0 .1)) (shows sender ss (nibble-below (bytesFor c d) i) s a) (p .1) e l (p .0 .0),
+        part-own T (stepped st busy (p .0 .1) .own) (part-sent (Promised (T (st .unit .own)) c d) c d i sender st (stationStep st seen busy) seen busy (stepped st busy (p .0 .1)) (shows sender ss (nibble-below (bytesFor c d) i) s a) (p .1) e l (p .0 .0)),
         sound-low (stepped st busy (p .0 .1)) (p .0 .1),
       )) hosts known
 
   pub units-over : sentOf sender (seen .hsk) ≡ true → suc i ≡ 2 * length (bytesFor c d)
-      → All (λ (st : Station). Turned (Promised c d) c st × Sound st) (unitsAfter seen hosts ss)
+      → All (λ (st : Station). Turned (Promised (T (st .unit .own)) c d) c st × Sound st) (unitsAfter seen hosts ss)
   units-over e l =
       let nine : length (bytesFor c d) ≡ 9 + length d = length-bytes c d in
       all-step seen (λ st busy p. (
-        part-over (Promised c d) c d i sender st (stationStep st seen busy) seen busy (stepped st busy (p .0 .1)) (shows sender ss (nibble-below (bytesFor c d) i) s a) (p .1) e l (omega arith) (p .0 .0),
+        turned-own T (stepped st busy (p .0 .1) .own) (part-over (Promised (T (st .unit .own)) c d) c d i sender st (stationStep st seen busy) seen busy (stepped st busy (p .0 .1)) (shows sender ss (nibble-below (bytesFor c d) i) s a) (p .1) e l (omega arith) (p .0 .0)),
         sound-low (stepped st busy (p .0 .1)) (p .0 .1),
       )) hosts known

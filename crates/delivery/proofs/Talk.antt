@@ -38,15 +38,16 @@ use Rattle.whole.proofs.Back.{response-completes, not-over-before, data-receive
 use Rattle.delivery.specs.Stages.{addressed, Quiet, Talk, answerBytes, answerData, talks}
 use Rattle.delivery.specs.Ends.{place, phaseLeft}
 use Rattle.delivery.specs.Heard.{Fits, f-next, f-placed, f-holds, f-waits, Sees}
-use Rattle.delivery.specs.Promised.{Promised, dataFor, Enough}
+use Rattle.delivery.specs.Promised.{Moment, Promised, dataFor, Enough}
 use Rattle.delivery.proofs.Heard.{Pair, rests, takes, sends, pair}
 use Rattle.delivery.proofs.Part.{Stepped}
 
--- A promise to a unit whose state and input are the same.
-abbrev pub carried : {c : Command} {d : List ℕ} {r : Reply} {s s′ : Serial} {input input′ : List ℕ} → s′ ≡ s → input′ ≡ input → Promised c d r s input → Promised c d r s′ input′
-carried {r = r} e i p = record {
+-- A promise to a unit whose code, state and input are the same.
+abbrev pub carried : (T : Moment) {c : Command} {d : List ℕ} {r : Reply} {own own′ : ℕ} {s s′ : Serial} {input input′ : List ℕ} → own′ ≡ own → s′ ≡ s → input′ ≡ input → Promised (T own) c d r s input → Promised (T own′) c d r s′ input′
+carried T {r = r} o e i p = record {
   given = p .given;
   memory = p .memory;
+  took = subst (λ (x : ℕ). T x (p .given) (p .memory)) (sym o) (p .took);
   said = p .said;
   stands = (λ k. dataFor (e k) (i k) r) ∙ p .stands;
   long = ap (λ (x : Serial). replyLength (x .input) r) e ∙ p .long;
@@ -55,7 +56,7 @@ carried {r = r} e i p = record {
 }
 
 -- The number of the last nibble, and each nibble, by the promise.
-module _ {c : Command} {d : List ℕ} {r : Reply} {s : Serial} {input : List ℕ} (p : Promised c d r s input) where
+module _ {T : Serial → List ℕ → Type 0} {c : Command} {d : List ℕ} {r : Reply} {s : Serial} {input : List ℕ} (p : Promised T c d r s input) where
   pub last-is : lastNibble (s .input) r ≡ lengthOf (answerData p) - 1
   last-is = let l : lastNibble (s .input) r ≡ 5 + 2 * length (answerData p) = ap (λ (x : ℕ). 5 + 2 * x) (p .long) in omega arith
 
@@ -141,16 +142,17 @@ pub talk-left : (ear : Listener) (st : Station) {r : Reply} {j : ℕ} {sender : 
 talk-left ear st e = ap (λ (x : Phase). phaseLeft x (st .unit .serial .input) (listenerHsk ear || pullsHsk x) 0) e
 
 -- What a round of the controller and of the unit that responds comes to, where the response took at most `most` rounds before.
-pub data Talked (f : Frame) (d : List ℕ) (found : List ℕ) (m : Moved) (buffer : List ℕ) (host : Bool) (most : ℕ) (st : Station) : Type 0 where
+pub data Talked (T : Moment) (f : Frame) (d : List ℕ) (found : List ℕ) (m : Moved) (buffer : List ℕ) (host : Bool) (most : ℕ) (before st : Station) : Type 0 where
   still :
-      (ear : Listener) (taken : Response) (quiet : ℕ) → m ≡ stays (Listening f ear taken quiet) → Talk (f .command) d (isSubmitted (f .kind)) found ear taken quiet buffer st → (host ≡ false → talkLeft ear st < most)
-      → Talked f d found m buffer host most st
+      (ear : Listener) (taken : Response) (quiet : ℕ) → m ≡ stays (Listening f ear taken quiet) → Talk T (f .command) d (isSubmitted (f .kind)) found ear taken quiet buffer st → (host ≡ false → talkLeft ear st < most)
+      → Talked T f d found m buffer host most before st
   done :
-      (r : Reply) (s : Serial) (p : Promised (f .command) d r s (st .input)) → m ≡ over f (Complete (replyStatus r) (length (answerData p))) → buffer ≡ received (isSubmitted (f .kind)) (answerData p) found
-      → st .unit .phase ≡ SittingOut false → st .unit .serial ≡ finished s r → st .unit .asking ≡ false
-      → Talked f d found m buffer host most st
+      (r : Reply) (p : Promised (T (before .unit .own)) (f .command) d r (before .unit .serial) (before .input)) → m ≡ over f (Complete (replyStatus r) (length (answerData p)))
+      → buffer ≡ received (isSubmitted (f .kind)) (answerData p) found → st .unit .phase ≡ SittingOut false → st .unit .serial ≡ finished (before .unit .serial) r → st .unit .asking ≡ false
+      → st .unit .own ≡ before .unit .own → st .input ≡ before .input → addressed (f .command) (before .unit .own) ≡ true
+      → Talked T f d found m buffer host most before st
 
-module _ (f : Frame) (d found : List ℕ) (timeout : ℕ) (eight : 8 ≤ timeout) (room : f .command .«buffer_length» ≤ length found) (st st′ : Station) (seen : Lines) (host busy : Bool) (step : Stepped st seen busy st′) where
+module _ (T : Moment) (f : Frame) (d found : List ℕ) (timeout : ℕ) (eight : 8 ≤ timeout) (room : f .command .«buffer_length» ≤ length found) (st st′ : Station) (seen : Lines) (host busy : Bool) (step : Stepped st seen busy st′) where
   abbrev limit : ℕ
   limit = f .command .«buffer_length»
 
@@ -191,10 +193,10 @@ module _ (f : Frame) (d found : List ℕ) (timeout : ℕ) (eight : 8 ≤ timeout
   buffer-after ear taken buffer = listeningBuffer f ear taken seen buffer
 
   -- The round before the first nibble.
-  begins : (r : Reply) (j t : ℕ) (ear : Listener) (taken : Response) (quiet : ℕ) (buffer : List ℕ) (e : st .unit .phase ≡ Responding r j Next true) (p : Promised (f .command) d r (st .unit .serial) (st .input))
+  begins : (r : Reply) (j t : ℕ) (ear : Listener) (taken : Response) (quiet : ℕ) (buffer : List ℕ) (e : st .unit .phase ≡ Responding r j Next true) (p : Promised (T (st .unit .own)) (f .command) d r (st .unit .serial) (st .input))
       → Fits (nibbleIn (answerBytes p) j) Next ear t → taken ≡ takenAt (answerBytes p) limit (j + t) → buffer ≡ storedAt (answerBytes p) limit stores (j + t) found → j < lengthOf (answerData p)
       → quiet ≡ 0 → st .unit .asking ≡ false → addressed (f .command) (st .unit .own) ≡ true → seen .hsk ≡ (listenerHsk ear || senderHsk Next)
-      → Talked f d found (after ear taken quiet) (buffer-after ear taken buffer) host (talkLeft ear st) st′
+      → Talked T f d found (after ear taken quiet) (buffer-after ear taken buffer) host (talkLeft ear st) st st′
   begins r j t ear taken quiet buffer e p f-next g b l z q own h =
       let serial : st′ .unit .serial ≡ st .unit .serial = serial-is r j Next true e in
       let k : j + 0 < lengthOf (answerData p) = omega arith in
@@ -203,7 +205,7 @@ module _ (f : Frame) (d found : List ℕ) (timeout : ℕ) (eight : 8 ≤ timeout
       let going : isOver taken ≡ false = ap isOver g ∙ not-over-before (answerData p) (replyStatus r) limit (j + 0) (p .fits) k in
       still Ready taken 1
       (not-taken Ready taken quiet h ∙ (λ i. waited f (ready i) taken timeout (one i)) ∙ waits-on Ready taken 1 (omega arith) (ap (λ (x : Bool). x && true) going))
-      (talks r j 0 Next false (phase-is r j Next true e) (carried serial (step .input) p) f-next g (buffer-kept Ready taken buffer h ∙ b) l (λ x. absurd (false≢true x)) (omega arith) (not-asking q) (same-own own))
+      (talks r j 0 Next false (phase-is r j Next true e) (carried T (step .own) serial (step .input) p) f-next g (buffer-kept Ready taken buffer h ∙ b) l (λ x. absurd (false≢true x)) (omega arith) (not-asking q) (same-own own))
       (λ free.
       let old : talkLeft Ready st ≡ 4 * (lastNibble (st .unit .serial .input) r - j) + 4 + 1 = talk-left Ready st e in
       let new : talkLeft Ready st′ ≡ 4 * (lastNibble (st′ .unit .serial .input) r - j) + 4 + 0 = talk-left Ready st′ (phase-is r j Next true e) in
@@ -211,7 +213,7 @@ module _ (f : Frame) (d found : List ℕ) (timeout : ℕ) (eight : 8 ≤ timeout
       omega arith)
 
   -- A nibble that does not count as sent yet, not taken in this round.
-  module _ (r : Reply) (j t : ℕ) (sender : Sender) (ear : Listener) (taken : Response) (quiet : ℕ) (buffer : List ℕ) (e : st .unit .phase ≡ Responding r j sender false) (p : Promised (f .command) d r (st .unit .serial) (st .input)) (fits : Fits (nibbleIn (answerBytes p) j) sender ear t) (g : taken ≡ takenAt (answerBytes p) limit (j + t)) (b : buffer ≡ storedAt (answerBytes p) limit stores (j + t) found) (l : j < lengthOf (answerData p)) (c : Quiet sender quiet) (q : st .unit .asking ≡ false) (own : addressed (f .command) (st .unit .own) ≡ true) (view : Sees sender ear (seen .hsk) (seen .nibble)) (h : seen .hsk ≡ (listenerHsk ear || senderHsk sender)) where
+  module _ (r : Reply) (j t : ℕ) (sender : Sender) (ear : Listener) (taken : Response) (quiet : ℕ) (buffer : List ℕ) (e : st .unit .phase ≡ Responding r j sender false) (p : Promised (T (st .unit .own)) (f .command) d r (st .unit .serial) (st .input)) (fits : Fits (nibbleIn (answerBytes p) j) sender ear t) (g : taken ≡ takenAt (answerBytes p) limit (j + t)) (b : buffer ≡ storedAt (answerBytes p) limit stores (j + t) found) (l : j < lengthOf (answerData p)) (c : Quiet sender quiet) (q : st .unit .asking ≡ false) (own : addressed (f .command) (st .unit .own) ≡ true) (view : Sees sender ear (seen .hsk) (seen .nibble)) (h : seen .hsk ≡ (listenerHsk ear || senderHsk sender)) where
     abbrev n : ℕ
     n = nibbleIn (answerBytes p) j
 
@@ -238,13 +240,13 @@ module _ (f : Frame) (d found : List ℕ) (timeout : ℕ) (eight : 8 ≤ timeout
     )
 
     rests-on : takenOf ear (seen .hsk) ≡ false → sentOf sender (seen .hsk) ≡ false → Fits n (sendOf sender (seen .hsk) n) (hearOf ear (seen .hsk) host) t
-        → Talked f d found (after ear taken quiet) (buffer-after ear taken buffer) host (talkLeft ear st) st′
+        → Talked T f d found (after ear taken quiet) (buffer-after ear taken buffer) host (talkLeft ear st) st st′
     rests-on a s fits′ =
         let q′ : Quiet (sendOf sender (seen .hsk) n) (quietAfter quiet (seen .hsk)) = quiet-rests quiet (seen .hsk) (seen .nibble) fits view a s c in
         let u = not-sent s in
         still (hearOf ear (seen .hsk) host) taken (quietAfter quiet (seen .hsk))
         (not-taken ear taken quiet a ∙ waits-on (hearOf ear (seen .hsk) host) taken (quietAfter quiet (seen .hsk)) (quiet-bound (sendOf sender (seen .hsk) n) (quietAfter quiet (seen .hsk)) q′) (not-yet t fits′ g))
-        (talks r j t (sendOf sender (seen .hsk) n) false (u .0) (carried (u .1) (step .input) p) fits′ g (buffer-kept ear taken buffer a ∙ b) l (λ x. absurd (false≢true x)) q′ (not-asking q) (same-own own))
+        (talks r j t (sendOf sender (seen .hsk) n) false (u .0) (carried T (step .own) (u .1) (step .input) p) fits′ g (buffer-kept ear taken buffer a ∙ b) l (λ x. absurd (false≢true x)) q′ (not-asking q) (same-own own))
         (λ free.
         let k = sendOf sender (seen .hsk) n in
         let held : hearOf ear (seen .hsk) host ≡ hearOf ear (seen .hsk) false = ap (hearOf ear (seen .hsk)) free in
@@ -262,7 +264,7 @@ module _ (f : Frame) (d found : List ℕ) (timeout : ℕ) (eight : 8 ≤ timeout
         not-yet (suc t) {k} {x} v w = ap (λ (y : Bool). isOver taken && y) (fits-ready v) ∙ and-false (isOver taken)
 
     takes-it : ear ≡ Ready → seen .hsk ≡ true → seen .nibble ≡ n → t ≡ 0 → sentOf sender (seen .hsk) ≡ false → Fits n (sendOf sender (seen .hsk) n) Holding 1
-        → Talked f d found (after ear taken quiet) (buffer-after ear taken buffer) host (talkLeft ear st) st′
+        → Talked T f d found (after ear taken quiet) (buffer-after ear taken buffer) host (talkLeft ear st) st st′
     takes-it ready low nib z s fits′ =
         let u = not-sent s in
         let k : j + t ≡ j = omega arith in
@@ -278,7 +280,7 @@ module _ (f : Frame) (d found : List ℕ) (timeout : ℕ) (eight : 8 ≤ timeout
         first ∙ (λ i. bufferWith (old i) (nib i) stores ((b ∙ ap (λ (x : ℕ). storedAt (answerBytes p) limit stores x found) k) i)) ∙ ap (λ (x : ℕ). storedAt (answerBytes p) limit stores x found) k′ in
         still Holding (takenWith taken (seen .nibble) limit) 0
         (one ∙ ap (λ (x : Listener). stays (Listening f x (takenWith taken (seen .nibble) limit) 0)) held)
-        (talks r j 1 (sendOf sender (seen .hsk) n) false (u .0) (carried (u .1) (step .input) p) fits′ more kept l (λ x. absurd (false≢true x)) (quiet-zero (sendOf sender (seen .hsk) n)) (not-asking q) (same-own own))
+        (talks r j 1 (sendOf sender (seen .hsk) n) false (u .0) (carried T (step .own) (u .1) (step .input) p) fits′ more kept l (λ x. absurd (false≢true x)) (quiet-zero (sendOf sender (seen .hsk) n)) (not-asking q) (same-own own))
         (λ free.
         let k′′ = sendOf sender (seen .hsk) n in
         let less : place k′′ (listenerHsk Holding || senderHsk k′′) < place sender (listenerHsk ear || senderHsk sender) = place-takes (seen .hsk) (listenerHsk Holding || senderHsk k′′) fits h gone in
@@ -298,7 +300,7 @@ module _ (f : Frame) (d found : List ℕ) (timeout : ℕ) (eight : 8 ≤ timeout
       listened : after ear taken quiet ≡ waited f Ready taken timeout 1
       listened = not-taken ear taken quiet a ∙ (λ i. waited f (ready i) taken timeout (one-quiet i))
 
-      sends-by : (more : Bool) → ltb j (lastNibble (st .unit .serial .input) r) ≡ more → Talked f d found (after ear taken quiet) (buffer-after ear taken buffer) host (talkLeft ear st) st′
+      sends-by : (more : Bool) → ltb j (lastNibble (st .unit .serial .input) r) ≡ more → Talked T f d found (after ear taken quiet) (buffer-after ear taken buffer) host (talkLeft ear st) st st′
       sends-by true m =
           let last : lastNibble (st .unit .serial .input) r ≡ lengthOf (answerData p) - 1 = last-is p in
           let less : j < lastNibble (st .unit .serial .input) r = ltb-true j (lastNibble (st .unit .serial .input) r) m in
@@ -314,7 +316,7 @@ module _ (f : Frame) (d found : List ℕ) (timeout : ℕ) (eight : 8 ≤ timeout
           serial-is r j sender false e ∙ ap (λ (x : Bool). cond x whenSent whenNot .serial) s
           ∙ ap (λ (x : Bool). cond x (moves (Responding r (j + 1) Next false) (st .unit .serial)) (moves (SittingOut false) (finished (st .unit .serial) r)) .serial) m in
           still Ready taken 1 (listened ∙ waits-on Ready taken 1 (omega arith) (ap (λ (x : Bool). x && true) on))
-          (talks r (suc j) 0 Next false phase (carried serial (step .input) p) f-next (g ∙ ap (takenAt (answerBytes p) limit) k) (buffer-kept ear taken buffer a ∙ b ∙ ap (λ (x : ℕ). storedAt (answerBytes p) limit stores x found) k) (omega arith) (λ x. absurd (false≢true x)) (omega arith) (not-asking q) (same-own own))
+          (talks r (suc j) 0 Next false phase (carried T (step .own) serial (step .input) p) f-next (g ∙ ap (takenAt (answerBytes p) limit) k) (buffer-kept ear taken buffer a ∙ b ∙ ap (λ (x : ℕ). storedAt (answerBytes p) limit stores x found) k) (omega arith) (λ x. absurd (false≢true x)) (omega arith) (not-asking q) (same-own own))
           (λ free.
           let some : 1 ≤ place sender (listenerHsk ear || senderHsk sender) = place-some sender (listenerHsk ear || senderHsk sender) in
           let new : talkLeft Ready st′ ≡ 4 * (lastNibble (st′ .unit .serial .input) r - suc j) + 4 + 0 = talk-left Ready st′ phase in
@@ -334,21 +336,21 @@ module _ (f : Frame) (d found : List ℕ) (timeout : ℕ) (eight : 8 ≤ timeout
           ∙ ap (λ (x : Bool). cond x (moves (Responding r (j + 1) Next false) (st .unit .serial)) (moves (SittingOut false) (finished (st .unit .serial) r)) .serial) m in
           let full : waited f Ready (Complete (replyStatus r) (length (answerData p))) timeout 1 ≡ over f (Complete (replyStatus r) (length (answerData p))) =
           ap (λ (x : Bool). cond (x || true) (over f (Complete (replyStatus r) (length (answerData p)))) (stays (Listening f Ready (Complete (replyStatus r) (length (answerData p))) 1))) (lt-leb timeout 1 (omega arith)) in
-          done r (st .unit .serial) (carried refl (step .input) p) (listened ∙ ap (λ (x : Response). waited f Ready x timeout 1) all ∙ full)
-          (buffer-kept ear taken buffer a ∙ b ∙ ap (λ (x : ℕ). storedAt (answerBytes p) limit stores x found) k ∙ data-received (answerData p) (replyStatus r) limit stores found (p .fits) room) phase serial (not-asking q)
+          done r p (listened ∙ ap (λ (x : Response). waited f Ready x timeout 1) all ∙ full)
+          (buffer-kept ear taken buffer a ∙ b ∙ ap (λ (x : ℕ). storedAt (answerBytes p) limit stores x found) k ∙ data-received (answerData p) (replyStatus r) limit stores found (p .fits) room) phase serial (not-asking q) (step .own) (step .input) own
 
-    talks-on : Talked f d found (after ear taken quiet) (buffer-after ear taken buffer) host (talkLeft ear st) st′
+    talks-on : Talked T f d found (after ear taken quiet) (buffer-after ear taken buffer) host (talkLeft ear st) st st′
     talks-on = by (pair (seen .hsk) (seen .nibble) host fits view)
       where
-        by : Pair n sender ear t (seen .hsk) (seen .nibble) host → Talked f d found (after ear taken quiet) (buffer-after ear taken buffer) host (talkLeft ear st) st′
+        by : Pair n sender ear t (seen .hsk) (seen .nibble) host → Talked T f d found (after ear taken quiet) (buffer-after ear taken buffer) host (talkLeft ear st) st st′
         by (rests e1 e2 g1) = rests-on e1 e2 g1
         by (takes e1 e2 e3 e4 e5 g1) = takes-it e1 e2 e3 e4 e5 g1
         by (sends e1 e2 e3 e4 e5) = sends-by e1 e2 e3 e4 e5 (ltb j (lastNibble (st .unit .serial .input) r)) refl
 
   -- The round of a unit that responds, and of the controller beside it.
-  pub talk-step : (ear : Listener) (taken : Response) (quiet : ℕ) (buffer : List ℕ) → Talk (f .command) d stores found ear taken quiet buffer st
+  pub talk-step : (ear : Listener) (taken : Response) (quiet : ℕ) (buffer : List ℕ) → Talk T (f .command) d stores found ear taken quiet buffer st
       → seen .hsk ≡ (listenerHsk ear || pullsHsk (st .unit .phase)) → seen .nibble ≡ pullsNibble (st .unit .phase)
-      → Talked f d found (after ear taken quiet) (buffer-after ear taken buffer) host (talkLeft ear st) st′
+      → Talked T f d found (after ear taken quiet) (buffer-after ear taken buffer) host (talkLeft ear st) st st′
   talk-step ear taken quiet buffer (talks r j t sender true e p fits g b l w c q own) h v =
       let x = w refl in
       begins r j t ear taken quiet buffer (e ∙ ap (λ (y : Sender). Responding r j y true) (x .0)) p (subst (λ (y : Sender). Fits (nibbleIn (answerBytes p) j) y ear t) (x .0) fits) g b l (x .1) q own

@@ -23,7 +23,7 @@ use Rattle.whole.specs.Whole.{storedOf}
 use Rattle.delivery.specs.Stages.{Hushed, not-its-own, by-the-rule, Sits, Sound, Talk, addressed, talks}
 use Rattle.delivery.specs.Heard.{f-next}
 use Rattle.delivery.specs.Lists.{All, none, also, One, this, that}
-use Rattle.delivery.specs.Promised.{Promised, replyFor}
+use Rattle.delivery.specs.Promised.{Moment, Promised, replyFor}
 use Rattle.delivery.specs.World.{Different, nobody, another}
 use Rattle.delivery.proofs.Part.{Turned, speaks, silent, Hush, not-mine, ruled}
 
@@ -47,31 +47,31 @@ code-by false c own r e a z q =
     let zero : eqb (c .device) 0 ≡ true = sym (ap (λ (t : Bool). t || eqb (c .device) 0) e) ∙ a in
     absurd (true≢false (sym (z (eqb-true (c .device) 0 zero)) ∙ q))
 
-spoken-code : {c : Command} {d : List ℕ} {r : Reply} {s : Serial} {input : List ℕ} (own : ℕ) → Promised c d r s input → isSilent r ≡ false → addressed c own ≡ true → c .device ≡ own
+spoken-code : {T : Serial → List ℕ → Type 0} {c : Command} {d : List ℕ} {r : Reply} {s : Serial} {input : List ℕ} (own : ℕ) → Promised T c d r s input → isSilent r ≡ false → addressed c own ≡ true → c .device ≡ own
 spoken-code {c} {d} {r} own p z a = code-by (eqb (c .device) own) c own r refl a (λ e. ap isSilent (p .said) ∙ zero-silent (p .given) c d e) z
 
 -- Nobody beside the unit with the command's code responds.
-others-sit : {c : Command} {d : List ℕ} (own : ℕ) → c .device ≡ own → {ss : List Station} → All (λ (x : Station). x .unit .own ≡ own → ⊥) ss
-    → All (λ (st : Station). Turned (Promised c d) c st × Sound st) ss → All (λ (st : Station). Sits st × Sound st) ss
-others-sit own e none none = none
-others-sit own e (also {x = st} h hs) (also (speaks r z a phase p q, s) ts) = absurd (h (sym (spoken-code (st .unit .own) p z a) ∙ e))
-others-sit own e (also h hs) (also (silent phase q why, s) ts) = also ((phase, q), s) (others-sit own e hs ts)
+others-sit : (T : Moment) {c : Command} {d : List ℕ} (own : ℕ) → c .device ≡ own → {ss : List Station} → All (λ (x : Station). x .unit .own ≡ own → ⊥) ss
+    → All (λ (st : Station). Turned (Promised (T (st .unit .own)) c d) c st × Sound st) ss → All (λ (st : Station). Sits st × Sound st) ss
+others-sit T own e none none = none
+others-sit T own e (also {x = st} h hs) (also (speaks r z a phase p q, s) ts) = absurd (h (sym (spoken-code (st .unit .own) p z a) ∙ e))
+others-sit T own e (also h hs) (also (silent phase q why, s) ts) = also ((phase, q), s) (others-sit T own e hs ts)
 
-hushed : {c : Command} {d : List ℕ} (st : Station) → Hush (Promised c d) c st → Hushed c d st
-hushed st (not-mine a) = not-its-own a
-hushed st (ruled r z p) = by-the-rule (p .given) (sym (ap isSilent (p .said)) ∙ z)
+hushed : (T : Moment) {c : Command} {d : List ℕ} (st : Station) → Hush (Promised (T (st .unit .own)) c d) c st → Hushed T c d st
+hushed T st (not-mine a) = not-its-own a
+hushed T st (ruled r z p) = by-the-rule (p .given) (p .memory) (p .took) (sym (ap isSilent (p .said)) ∙ z)
 
 -- Who responds.
-pub data Answering (c : Command) (d : List ℕ) (stores : Bool) (found : List ℕ) (ss : List Station) : Type 0 where
-  somebody : One (λ (st : Station). Talk c d stores found Ready nothingTaken 0 found st × Sound st) (λ (st : Station). Sits st × Sound st) ss → Answering c d stores found ss
-  nobody-does : All (λ (st : Station). Sits st × Sound st) ss → All (Hushed c d) ss → Answering c d stores found ss
+pub data Answering (T : Moment) (c : Command) (d : List ℕ) (stores : Bool) (found : List ℕ) (ss : List Station) : Type 0 where
+  somebody : One (λ (st : Station). Talk T c d stores found Ready nothingTaken 0 found st × Sound st) (λ (st : Station). Sits st × Sound st) ss → Answering T c d stores found ss
+  nobody-does : All (λ (st : Station). Sits st × Sound st) ss → All (Hushed T c d) ss → Answering T c d stores found ss
 
-joined : {c : Command} {d : List ℕ} {stores : Bool} {found : List ℕ} {st : Station} {ss : List Station} → Sits st × Sound st → Hushed c d st → Answering c d stores found ss → Answering c d stores found (st ∷ ss)
+joined : {T : Moment} {c : Command} {d : List ℕ} {stores : Bool} {found : List ℕ} {st : Station} {ss : List Station} → Sits st × Sound st → Hushed T c d st → Answering T c d stores found ss → Answering T c d stores found (st ∷ ss)
 joined s h (somebody o) = somebody (that s o)
 joined s h (nobody-does a b) = nobody-does (also s a) (also h b)
 
-pub answering : (c : Command) (d : List ℕ) (stores : Bool) (found : List ℕ) {ss : List Station} → Different ss → All (λ (st : Station). Turned (Promised c d) c st × Sound st) ss → Answering c d stores found ss
-answering c d stores found nobody none = nobody-does none none
-answering c d stores found (another h hs) (also {x = st} (speaks r z a phase p q, s) ts) =
-    somebody (this (talks r 0 0 Next true phase p f-next refl refl (omega arith) (λ _. (refl, refl)) (omega arith) q a, s) (others-sit (st .unit .own) (spoken-code (st .unit .own) p z a) h ts))
-answering c d stores found (another h hs) (also {x = st} (silent phase q why, s) ts) = joined ((phase, q), s) (hushed st why) (answering c d stores found hs ts)
+pub answering : (T : Moment) (c : Command) (d : List ℕ) (stores : Bool) (found : List ℕ) {ss : List Station} → Different ss → All (λ (st : Station). Turned (Promised (T (st .unit .own)) c d) c st × Sound st) ss → Answering T c d stores found ss
+answering T c d stores found nobody none = nobody-does none none
+answering T c d stores found (another h hs) (also {x = st} (speaks r z a phase p q, s) ts) =
+    somebody (this (talks r 0 0 Next true phase p f-next refl refl (omega arith) (λ _. (refl, refl)) (omega arith) q a, s) (others-sit T (st .unit .own) (spoken-code (st .unit .own) p z a) h ts))
+answering T c d stores found (another h hs) (also {x = st} (silent phase q why, s) ts) = joined ((phase, q), s) (hushed T st why) (answering T c d stores found hs ts)

@@ -18,17 +18,17 @@ use Rattle.turn.specs.declared.Event.{Event}
 use Rattle.controller.specs.Controller.{newController}
 use Rattle.frame.specs.Frame.{dataOf, lastNibble}
 use Rattle.frame.specs.declared.Frame.{Frame}
-use Rattle.frame.specs.declared.Stage.the-variants.{Sending, Resting, Listening}
+use Rattle.frame.specs.declared.Stage.{Stage}
+use Rattle.frame.specs.declared.Stage.the-variants.{Free, Resting, Waiting, Sending, Listening}
 use Rattle.header.specs.declared.Command.{Command}
 use Rattle.line.specs.declared.Listener.{Listener}
 use Rattle.line.specs.declared.Sender.{Sender}
-use Rattle.phase.specs.declared.Phase.{Phase}
-use Rattle.phase.specs.declared.Phase.the-variants.{Idle, Selecting, Receiving, Responding, SittingOut}
-use Rattle.serial.specs.Serial.{applied, outputAfter}
+use Rattle.phase.specs.declared.Phase.the-variants.{Receiving, Responding, SittingOut}
+use Rattle.serial.specs.Serial.{applied, finished, outputAfter}
 use Rattle.serial.specs.declared.Serial.{Serial}
 use Rattle.verdict.specs.Verdict.{verdictOf}
 use Rattle.verdict.specs.declared.Verdict.{Verdict}
-use Rattle.phase.specs.declared.Progress.the-variants.{Taking, Answered}
+use Rattle.phase.specs.declared.Progress.the-variants.{Answered}
 use Rattle.serial.specs.declared.Reply.{Reply}
 use Rattle.unit.specs.Calls.{stepping as unitStepping}
 use Rattle.unit.specs.Unit.{newUnit}
@@ -38,9 +38,9 @@ use Rattle.delivery.specs.Calls.{Call, called}
 use Rattle.delivery.specs.Ends.{listening as listeningTime, quietly}
 use Rattle.delivery.specs.Heard.{Heard}
 use Rattle.delivery.specs.Lists.{All, One}
-use Rattle.delivery.specs.Promised.{Promised}
-use Rattle.delivery.specs.Stages.{Sound, addressed, InFrame, Goes, On, answerBytes, Sits}
-use Rattle.delivery.specs.World.{World, Busy, levels, round, Different}
+use Rattle.delivery.specs.Promised.{Moment, Promised}
+use Rattle.delivery.specs.Stages.{Sound, addressed, isAnswered, Noted, InFrame, Goes, On, answerBytes, Sits}
+use Rattle.delivery.specs.World.{World, Busy, levels, round, Becomes, Different}
 
 -- A quiet start: every party is new, and each unit is lent its memory. The time-out is the controller's own setting.
 pub record New (st : Station) : Type 0 where
@@ -62,9 +62,30 @@ pub data Run (w : World) : World → Type 0 where
   a-round : {v : World} → Run w v → (busy : Busy) → Run w (round v busy)
   a-call : {v : World} → Run w v → (call : Call) → Run w (called v call)
 
+-- Behind a round the unit with this code has taken the last nibble, in the state s, its input memory being m: in this round, or, as was
+-- known before, in an earlier one of the same frame.
+abbrev pub inFrame : Stage → Bool
+inFrame Free = false
+inFrame (Resting again) = false
+inFrame (Waiting f) = false
+inFrame (Sending f i sender wait) = true
+inFrame (Listening f ear taken quiet) = true
+
+pub data TookBy (v : World) (busy : Busy) (before : Moment) (own : ℕ) (s : Serial) (m : List ℕ) : Type 0 where
+  takes-it :
+      (st after : Station) → Becomes (levels v) (busy .there) (v .units) st after → isAnswered (st .unit .phase) ≡ false → isAnswered (after .unit .phase) ≡ true
+      → st .unit .own ≡ own → st .unit .serial ≡ s → st .input ≡ m → TookBy v busy before own s m
+  took-it : inFrame (v .controller .stage) ≡ true → before own s m → TookBy v busy before own s m
+
+-- So on a run: in the frame that runs, or has just ended.
+abbrev pub Took : {w v : World} → Run w v → Moment
+Took start = λ own s m. ⊥
+Took (a-round {v = v} r busy) = TookBy v busy (Took r)
+Took (a-call r call) = Took r
+
 -- A run from a quiet start is always at rest, or in a frame.
 abbrev pub Runs : Type 0
-Runs = (w v : World) → QuietStart w → Run w v → On v
+Runs = (w v : World) → QuietStart w → (r : Run w v) → On (Took r) v
 
 -- No step is refused: neither the controller's nor any unit's.
 abbrev pub Steps : Type 0
@@ -78,59 +99,63 @@ Steps =
 
 -- Each round of a frame leads on in it, or ends it: with the status, the data and the count that the whole-message definition gives for
 -- the addressed unit's state when the last nibble was taken, at the front of the response buffer that the frame found, and what waited
--- done; or with nothing taken (FF), where no response is defined.
-abbrev pub Frames : Type 0
-Frames = (f : Frame) (found : List ℕ) (w : World) → InFrame f found w → (busy : Busy) → Goes f found w busy
+-- done; or with nothing taken (FF), where no response is defined. T is whatever is known of the moments in which last nibbles are taken:
+abbrev pub Frames : Type 1
+Frames = (T : Moment) (f : Frame) (found : List ℕ) (w : World) → (busy : Busy) → Noted T w busy → InFrame T f found w → Goes T f found w busy
+
+-- so on a run those are the states in which the units took it, in this very frame.
+abbrev pub Responses : Type 0
+Responses = (w v : World) (r : Run w v) (f : Frame) (found : List ℕ) → InFrame (Took r) f found v → (busy : Busy) → Goes (Took (a-round r busy)) f found v busy
+
+-- And a unit takes the last nibble of a frame once: there is one such state.
+abbrev pub TakenOnce : Type 0
+TakenOnce = (w v : World) → QuietStart w → (r : Run w v) (own : ℕ) (s t : Serial) (m n : List ℕ) → Took r own s m → Took r own t n → (s ≡ t) × (m ≡ n)
 
 -- A call in mid-frame leaves the frame as it is.
-abbrev pub FramesCalled : Type 0
-FramesCalled = (f : Frame) (found : List ℕ) (w : World) → InFrame f found w → (call : Call) → InFrame f found (called w call)
+abbrev pub FramesCalled : Type 1
+FramesCalled = (T : Moment) (f : Frame) (found : List ℕ) (w : World) → InFrame T f found w → (call : Call) → InFrame T f found (called w call)
 
 -- Delivery. While nibble i of a command is sent, each unit has taken the first i nibbles of it, or one more: each once and in order. A
 -- unit that the command does not address sits out behind the device code. When the last is taken, the reply is fixed.
-pub data Delivered (c : Command) (d : List ℕ) (i : ℕ) (st : Station) : Type 0 where
-  listening : (ear : Listener) (k : ℕ) → i ≤ k → k ≤ suc i → (2 ≤ k → addressed c (st .unit .own) ≡ true) → Heard (bytesFor c d) ear k (st .unit .phase) (st .buffer) → Delivered c d i st
+pub data Delivered (T : Moment) (c : Command) (d : List ℕ) (i : ℕ) (st : Station) : Type 0 where
+  listening : (ear : Listener) (k : ℕ) → i ≤ k → k ≤ suc i → (2 ≤ k → addressed c (st .unit .own) ≡ true) → Heard (bytesFor c d) ear k (st .unit .phase) (st .buffer) → Delivered T c d i st
   whole :
       (ear : Listener) (r : Reply) → addressed c (st .unit .own) ≡ true → suc i ≡ 2 * length (bytesFor c d) → st .unit .phase ≡ Receiving ear (Answered r)
-      → Promised c d r (st .unit .serial) (st .input) → Delivered c d i st
-  sitting : (now : Bool) → addressed c (st .unit .own) ≡ false → st .unit .phase ≡ SittingOut now → Delivered c d i st
+      → Promised (T (st .unit .own)) c d r (st .unit .serial) (st .input) → Delivered T c d i st
+  sitting : (now : Bool) → addressed c (st .unit .own) ≡ false → st .unit .phase ≡ SittingOut now → Delivered T c d i st
 
 abbrev pub Delivery : Type 0
 Delivery =
     (w v : World) (f : Frame) (i : ℕ) (sender : Sender)
     → QuietStart w
-    → Run w v
+    → (r : Run w v)
     → v .controller .stage ≡ Sending f i sender false
-    → All (Delivered (f .command) (dataOf f (v .lent)) i) (v .units)
+    → All (Delivered (Took r) (f .command) (dataOf f (v .lent)) i) (v .units)
 
 -- The same for the response. While the controller listens, one unit responds, and the controller has taken the first j nibbles of its
 -- response, which count as sent, or one more: each once and in order. Or nobody does, and nothing was taken.
-pub data Returned (c : Command) (d : List ℕ) (taken : Response) (st : Station) : Type 0 where
+pub data Returned (T : Moment) (c : Command) (d : List ℕ) (taken : Response) (st : Station) : Type 0 where
   returned :
-      (r : Reply) (j k : ℕ) (sender : Sender) (wait : Bool) → st .unit .phase ≡ Responding r j sender wait → (p : Promised c d r (st .unit .serial) (st .input)) → j ≤ k → k ≤ suc j
-      → taken ≡ takenAt (answerBytes p) (c .«buffer_length») k → Returned c d taken st
+      (r : Reply) (j k : ℕ) (sender : Sender) (wait : Bool) → st .unit .phase ≡ Responding r j sender wait → (p : Promised (T (st .unit .own)) c d r (st .unit .serial) (st .input)) → j ≤ k → k ≤ suc j
+      → taken ≡ takenAt (answerBytes p) (c .«buffer_length») k → Returned T c d taken st
 
-pub data Back (c : Command) (d : List ℕ) (taken : Response) (ss : List Station) : Type 0 where
-  from-one : One (Returned c d taken) Sits ss → Back c d taken ss
-  from-nobody : All Sits ss → taken ≡ nothingTaken → Back c d taken ss
+pub data Back (T : Moment) (c : Command) (d : List ℕ) (taken : Response) (ss : List Station) : Type 0 where
+  from-one : One (Returned T c d taken) Sits ss → Back T c d taken ss
+  from-nobody : All Sits ss → taken ≡ nothingTaken → Back T c d taken ss
 
 abbrev pub DeliveryBack : Type 0
 DeliveryBack =
     (w v : World) (f : Frame) (ear : Listener) (taken : Response) (quiet : ℕ)
     → QuietStart w
-    → Run w v
+    → (r : Run w v)
     → v .controller .stage ≡ Listening f ear taken quiet
-    → Back (f .command) (dataOf f (v .lent)) taken (v .units)
+    → Back (Took r) (f .command) (dataOf f (v .lent)) taken (v .units)
 
--- The response. In the round in which a unit takes the last nibble its reply is fixed, by the whole-message definition in the state that
--- it is in, and the effects happen.
-abbrev pub isAnswered : Phase → Bool
-isAnswered Idle = false
-isAnswered (Selecting ear half low) = false
-isAnswered (Receiving ear (Taking p)) = false
-isAnswered (Receiving ear (Answered r)) = true
-isAnswered (Responding reply i sender wait) = false
-isAnswered (SittingOut last) = false
+-- What a round of a frame makes of a unit. Its state, its queues' bytes and its input stay; or it takes the last nibble: its reply is
+-- fixed, by the whole-message definition in the state that it is in, and the effects happen; or the last nibble of its response is done,
+-- and what waited for that happens.
+abbrev pub Untouched : Station → Station → Type 0
+Untouched st after = (after .unit .serial ≡ st .unit .serial) × ((after .input ≡ st .input) × (after .output ≡ st .output))
 
 abbrev pub verdictFor : Serial → Command → List ℕ → Verdict
 verdictFor s c d = verdictOf s c (length d) (storedOf d)
@@ -139,24 +164,29 @@ pub record FixedBy (c : Command) (d : List ℕ) (st after : Station) : Type 0 wh
   pub ear : Listener
   pub reply : after .unit .phase ≡ Receiving ear (Answered (verdictFor (st .unit .serial) c d .reply))
   pub state : after .unit .serial ≡ applied (st .unit .serial) (verdictFor (st .unit .serial) c d .effect) (storedOf d)
+  pub input : after .input ≡ st .input
   pub output : after .output ≡ outputAfter (st .unit .serial) (verdictFor (st .unit .serial) c d .effect) (storedOf d) (st .output)
 
-abbrev pub Fixes : Type 0
-Fixes =
-    (f : Frame) (found : List ℕ) (w : World)
-    → InFrame f found w
+pub data Changed (c : Command) (d : List ℕ) (st after : Station) : Type 0 where
+  unchanged : Untouched st after → (isAnswered (after .unit .phase) ≡ true → isAnswered (st .unit .phase) ≡ true) → Changed c d st after
+  fixed-now : addressed c (st .unit .own) ≡ true → isAnswered (st .unit .phase) ≡ false → FixedBy c d st after → Changed c d st after
+  done-now :
+      addressed c (st .unit .own) ≡ true → (r : Reply) (j : ℕ) (sender : Sender) → st .unit .phase ≡ Responding r j sender false → after .unit .phase ≡ SittingOut false
+      → after .unit .serial ≡ finished (st .unit .serial) r → after .input ≡ st .input → after .output ≡ st .output → Changed c d st after
+
+abbrev pub Changes : Type 1
+Changes =
+    (T : Moment) (f : Frame) (found : List ℕ) (w : World)
+    → InFrame T f found w
     → (host : Bool)
-    → All (λ (st : Station). isAnswered (st .unit .phase) ≡ false → isAnswered (stationStep st (levels w) host .unit .phase) ≡ true → FixedBy (f .command) (dataOf f (w .lent)) st (stationStep st (levels w) host)) (w .units)
+    → All (λ (st : Station). Changed (f .command) (dataOf f (w .lent)) st (stationStep st (levels w) host)) (w .units)
 
 -- Nobody else: in no round of a frame does the opening, the queues, the enabling or the request of a unit change that the command does
 -- not address.
-abbrev pub Untouched : Station → Station → Type 0
-Untouched st after = (after .unit .serial ≡ st .unit .serial) × ((after .input ≡ st .input) × (after .output ≡ st .output))
-
-abbrev pub NobodyElse : Type 0
+abbrev pub NobodyElse : Type 1
 NobodyElse =
-    (f : Frame) (found : List ℕ) (w : World)
-    → InFrame f found w
+    (T : Moment) (f : Frame) (found : List ℕ) (w : World)
+    → InFrame T f found w
     → (host : Bool)
     → All (λ (st : Station). addressed (f .command) (st .unit .own) ≡ false → Untouched st (stationStep st (levels w) host)) (w .units)
 
@@ -174,5 +204,5 @@ pub data Ends : ℕ → World → Type 0 where
   ends-now : {n : ℕ} {w : World} → round w quietly .controller .stage ≡ Resting true → Ends (suc n) w
   ends-later : {n : ℕ} {w : World} → ((calls : List Call) → Ends n (calledAll (round w quietly) calls)) → Ends (suc n) w
 
-abbrev pub FramesEnd : Type 0
-FramesEnd = (f : Frame) (found : List ℕ) (w : World) → InFrame f found w → Ends (longest f (w .controller .timeout)) w
+abbrev pub FramesEnd : Type 1
+FramesEnd = (T : Moment) (f : Frame) (found : List ℕ) (w : World) → InFrame T f found w → Ends (longest f (w .controller .timeout)) w

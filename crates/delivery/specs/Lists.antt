@@ -1,4 +1,4 @@
--- Lists of which all members have a property, or exactly one has another.
+-- Lists of which all members have a property, or exactly one has another; and a member.
 use mathlib.Core.List.{List, [], _∷_}
 
 pub data All {ℓ κ} {A : Type ℓ} (P : A → Type κ) : List A → Type (ℓ ⊔ κ) where
@@ -8,3 +8,7 @@ pub data All {ℓ κ} {A : Type ℓ} (P : A → Type κ) : List A → Type (ℓ 
 pub data One {ℓ κ} {A : Type ℓ} (P Q : A → Type κ) : List A → Type (ℓ ⊔ κ) where
   this : {x : A} {xs : List A} → P x → All Q xs → One P Q (x ∷ xs)
   that : {x : A} {xs : List A} → Q x → One P Q xs → One P Q (x ∷ xs)
+
+pub data Has {ℓ} {A : Type ℓ} (x : A) : List A → Type ℓ where
+  here : {xs : List A} → Has x (x ∷ xs)
+  there : {y : A} {xs : List A} → Has x xs → Has x (y ∷ xs)

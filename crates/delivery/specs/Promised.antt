@@ -29,11 +29,16 @@ Enough (Opened accepted) q = Unit
 Enough (Bytes n) q = n ≤ held q
 Enough Polled q = Unit
 
--- A reply r that stands, of a unit that is in the state s now: it was given in a state `given`, with the bytes `memory`, and the data
--- that it had then is the data that it has now.
-pub record Promised (c : Command) (d : List ℕ) (r : Reply) (s : Serial) (input : List ℕ) : Type 0 where
+-- What is to be known of the moment in which a unit takes the last nibble: of its code, its state and its input memory.
+abbrev pub Moment : Type 1
+Moment = ℕ → Serial → List ℕ → Type 0
+
+-- A reply r that stands, of a unit that is in the state s now: it was given in a state `given`, with the bytes `memory`, when
+-- the unit took the last nibble, and the data that it had then is the data that it has now.
+pub record Promised (T : Serial → List ℕ → Type 0) (c : Command) (d : List ℕ) (r : Reply) (s : Serial) (input : List ℕ) : Type 0 where
   pub given : Serial
   pub memory : List ℕ
+  pub took : T given memory
   pub said : r ≡ replyFor given c d
   pub stands : dataFor s input r ≡ dataFor given memory r
   pub long : replyLength (s .input) r ≡ length (dataFor given memory r)

@@ -24,8 +24,9 @@ use Rattle.line.specs.declared.Listener.the-variants.{Ready}
 use Rattle.line.specs.declared.Sender.{Sender}
 use Rattle.line.specs.declared.Sender.the-variants.{Next, Placed, Kept}
 use Rattle.message.specs.Nibbles.{nibbleIn}
+use Rattle.phase.specs.declared.Phase.{Phase}
 use Rattle.phase.specs.declared.Phase.the-variants.{Idle, Selecting, Receiving, Responding, SittingOut}
-use Rattle.phase.specs.declared.Progress.the-variants.{Answered}
+use Rattle.phase.specs.declared.Progress.the-variants.{Taking, Answered}
 use Rattle.reply.specs.Reply.{replyStatus, isSilent}
 use Rattle.ring.specs.Ring.{live}
 use Rattle.ring.specs.declared.Entry.{Entry}
@@ -37,9 +38,9 @@ use Rattle.whole.specs.Back.{responseFor, takenAt, storedAt, lengthOf, received
 use Rattle.whole.specs.Whole.{bytesFor, Sent}
 use Rattle.delivery.specs.Ends.{left, quietly}
 use Rattle.delivery.specs.Heard.{Fits, Heard}
-use Rattle.delivery.specs.Lists.{All, One}
-use Rattle.delivery.specs.Promised.{Promised, dataFor, replyFor}
-use Rattle.delivery.specs.World.{World, Busy, levels, round, Different}
+use Rattle.delivery.specs.Lists.{All, One, Has}
+use Rattle.delivery.specs.Promised.{Moment, Promised, dataFor, replyFor}
+use Rattle.delivery.specs.World.{World, Busy, levels, round, Becomes, Different}
 
 -- The memory that a unit's calls are lent: room for a command, and 256 bytes for its input.
 pub record Sound (st : Station) : Type 0 where
@@ -82,9 +83,9 @@ Sits st = (st .unit .phase ≡ SittingOut false) × (st .unit .asking ≡ false)
 
 -- A unit that has no response to give: the command does not address it, or silence is defined for the state in which it took the last
 -- nibble.
-pub data Hushed (c : Command) (d : List ℕ) (st : Station) : Type 0 where
-  not-its-own : addressed c (st .unit .own) ≡ false → Hushed c d st
-  by-the-rule : (given : Serial) → isSilent (replyFor given c d) ≡ true → Hushed c d st
+pub data Hushed (T : Moment) (c : Command) (d : List ℕ) (st : Station) : Type 0 where
+  not-its-own : addressed c (st .unit .own) ≡ false → Hushed T c d st
+  by-the-rule : (given : Serial) (memory : List ℕ) → T (st .unit .own) given memory → isSilent (replyFor given c d) ≡ true → Hushed T c d st
 
 -- How long HSK may have been seen high, by where the sender is.
 abbrev pub Quiet : Sender → ℕ → Type 0
@@ -93,27 +94,30 @@ Quiet (Placed n) q = q ≤ 2
 Quiet (Kept n) q = q ≡ 0
 
 -- The data and the bytes of a promised response.
-abbrev pub answerData : {c : Command} {d : List ℕ} {r : Reply} {s : Serial} {input : List ℕ} → Promised c d r s input → List ℕ
+abbrev pub answerData : {T : Serial → List ℕ → Type 0} {c : Command} {d : List ℕ} {r : Reply} {s : Serial} {input : List ℕ} → Promised T c d r s input → List ℕ
 answerData {r = r} p = dataFor (p .given) (p .memory) r
 
-abbrev pub answerBytes : {c : Command} {d : List ℕ} {r : Reply} {s : Serial} {input : List ℕ} → Promised c d r s input → List ℕ
+abbrev pub answerBytes : {T : Serial → List ℕ → Type 0} {c : Command} {d : List ℕ} {r : Reply} {s : Serial} {input : List ℕ} → Promised T c d r s input → List ℕ
 answerBytes {r = r} p = responseFor (answerData p) (replyStatus r)
 
 -- A unit that responds to a command c while the controller's listener, what it has taken and how long it has seen HSK high are these,
 -- and the response buffer is what the frame found, with what was taken stored.
-pub data Talk (c : Command) (d : List ℕ) (stores : Bool) (found : List ℕ) (ear : Listener) (taken : Response) (quiet : ℕ) (buffer : List ℕ) (st : Station) : Type 0 where
+pub data Talk (T : Moment) (c : Command) (d : List ℕ) (stores : Bool) (found : List ℕ) (ear : Listener) (taken : Response) (quiet : ℕ) (buffer : List ℕ) (st : Station) : Type 0 where
   talks :
-      (r : Reply) (j t : ℕ) (sender : Sender) (wait : Bool) → st .unit .phase ≡ Responding r j sender wait → (p : Promised c d r (st .unit .serial) (st .input))
+      (r : Reply) (j t : ℕ) (sender : Sender) (wait : Bool) → st .unit .phase ≡ Responding r j sender wait → (p : Promised (T (st .unit .own)) c d r (st .unit .serial) (st .input))
       → Fits (nibbleIn (answerBytes p) j) sender ear t → taken ≡ takenAt (answerBytes p) (c .«buffer_length») (j + t) → buffer ≡ storedAt (answerBytes p) (c .«buffer_length») stores (j + t) found
       → j < lengthOf (answerData p) → (wait ≡ true → (sender ≡ Next) × (quiet ≡ 0)) → Quiet sender quiet → st .unit .asking ≡ false
       → addressed c (st .unit .own) ≡ true
-      → Talk c d stores found ear taken quiet buffer st
+      → Talk T c d stores found ear taken quiet buffer st
 
--- A unit whose response has arrived whole in a round that comes to m.
-pub data Spoke (f : Frame) (d found : List ℕ) (m : Moved) (buffer : List ℕ) (st : Station) : Type 0 where
+-- A unit whose response has arrived whole in a round that comes to m: `before` is that unit among those which the round found. What
+-- waited for the last nibble is done to the state that it was in.
+pub data Spoke (T : Moment) (f : Frame) (d found : List ℕ) (m : Moved) (buffer : List ℕ) (ss : List Station) (st : Station) : Type 0 where
   spoke :
-      (r : Reply) (s : Serial) (p : Promised (f .command) d r s (st .input)) → m ≡ over f (Complete (replyStatus r) (length (answerData p))) → buffer ≡ received (isSubmitted (f .kind)) (answerData p) found
-      → st .unit .serial ≡ finished s r → Sits st → Spoke f d found m buffer st
+      (r : Reply) (before : Station) → Has before ss → st .unit .own ≡ before .unit .own → addressed (f .command) (before .unit .own) ≡ true
+      → (p : Promised (T (before .unit .own)) (f .command) d r (before .unit .serial) (before .input))
+      → m ≡ over f (Complete (replyStatus r) (length (answerData p))) → buffer ≡ received (isSubmitted (f .kind)) (answerData p) found
+      → st .unit .serial ≡ finished (before .unit .serial) r → st .input ≡ before .input → Sits st → Spoke T f d found m buffer ss st
 
 -- What the types and the calls say of a frame: its command and data, and that what is lent is long enough.
 pub record Framed (f : Frame) (lent found : List ℕ) (timeout : ℕ) : Type 0 where
@@ -126,24 +130,38 @@ pub record Framed (f : Frame) (lent found : List ℕ) (timeout : ℕ) : Type 0 w
 abbrev pub world : ℕ → Stage → Ring → List Station → List ℕ → List ℕ → World
 world timeout stage ring units lent response = record { controller = controllerOf timeout stage ring; units = units; lent = lent; response = response }
 
--- The stages of a frame f that has found the response buffer `found`.
-pub data InFrame (f : Frame) (found : List ℕ) : World → Type 0 where
+-- A unit that has answered the whole command: it has taken the last nibble.
+abbrev pub isAnswered : Phase → Bool
+isAnswered Idle = false
+isAnswered (Selecting ear half low) = false
+isAnswered (Receiving ear (Taking p)) = false
+isAnswered (Receiving ear (Answered r)) = true
+isAnswered (Responding reply i sender wait) = false
+isAnswered (SittingOut last) = false
+
+-- T is known of each unit that takes the last nibble in this round.
+abbrev pub Noted : Moment → World → Busy → Type 0
+Noted T w busy = (st after : Station) → Becomes (levels w) (busy .there) (w .units) st after → isAnswered (st .unit .phase) ≡ false → isAnswered (after .unit .phase) ≡ true → T (st .unit .own) (st .unit .serial) (st .input)
+
+-- The stages of a frame f that has found the response buffer `found`; T is known of the moments in which units have taken its last
+-- nibble.
+pub data InFrame (T : Moment) (f : Frame) (found : List ℕ) : World → Type 0 where
   begins :
       {timeout : ℕ} {ring : Ring} {units : List Station} {lent : List ℕ} → Framed f lent found timeout → Different units → All (λ (st : Station). Fresh st × Sound st) units
-      → InFrame f found (world timeout (begun f) ring units lent found)
+      → InFrame T f found (world timeout (begun f) ring units lent found)
   sends :
       (i : ℕ) (sender : Sender) {timeout : ℕ} {ring : Ring} {units : List Station} {lent : List ℕ} → Framed f lent found timeout → Different units
       → Sends (nibbleIn (bytesFor (f .command) (dataOf f lent)) i) sender → i < 2 * length (bytesFor (f .command) (dataOf f lent))
-      → All (λ (st : Station). Part (Promised (f .command) (dataOf f lent)) (f .command) (dataOf f lent) i sender st × Sound st) units
-      → InFrame f found (world timeout (Sending f i sender false) ring units lent found)
+      → All (λ (st : Station). Part (Promised (T (st .unit .own)) (f .command) (dataOf f lent)) (f .command) (dataOf f lent) i sender st × Sound st) units
+      → InFrame T f found (world timeout (Sending f i sender false) ring units lent found)
   hears :
       (ear : Listener) (taken : Response) (quiet : ℕ) {timeout : ℕ} {ring : Ring} {units : List Station} {lent response : List ℕ} → Framed f lent found timeout → Different units → length response ≡ length found
-      → One (λ (st : Station). Talk (f .command) (dataOf f lent) (isSubmitted (f .kind)) found ear taken quiet response st × Sound st) (λ (st : Station). Sits st × Sound st) units
-      → InFrame f found (world timeout (Listening f ear taken quiet) ring units lent response)
+      → One (λ (st : Station). Talk T (f .command) (dataOf f lent) (isSubmitted (f .kind)) found ear taken quiet response st × Sound st) (λ (st : Station). Sits st × Sound st) units
+      → InFrame T f found (world timeout (Listening f ear taken quiet) ring units lent response)
   waits :
       (quiet : ℕ) {timeout : ℕ} {ring : Ring} {units : List Station} {lent : List ℕ} → Framed f lent found timeout → Different units → All (λ (st : Station). Sits st × Sound st) units
-      → All (Hushed (f .command) (dataOf f lent)) units
-      → InFrame f found (world timeout (Listening f Ready nothingTaken quiet) ring units lent found)
+      → All (Hushed T (f .command) (dataOf f lent)) units
+      → InFrame T f found (world timeout (Listening f Ready nothingTaken quiet) ring units lent found)
 
 -- What a round of it comes to. A frame ends unanswered only where no unit was responding: no response is lost to the time-out.
 abbrev pub movedIn : World → Busy → Moved
@@ -152,17 +170,17 @@ movedIn w busy = frameOf (w .controller) (levels w) (busy .here) (w .lent)
 abbrev pub Finishes : World → Busy → Type 0
 Finishes w busy = round w busy .controller ≡ controllerOf (w .controller .timeout) (movedIn w busy .stage) (ringAfter (w .controller .ring) (movedIn w busy .end))
 
-pub data Goes (f : Frame) (found : List ℕ) (w : World) (busy : Busy) : Type 0 where
-  on : round w busy .controller .ring ≡ w .controller .ring → InFrame f found (round w busy) → (busy ≡ quietly → left (round w busy) < left w) → Goes f found w busy
+pub data Goes (T : Moment) (f : Frame) (found : List ℕ) (w : World) (busy : Busy) : Type 0 where
+  on : round w busy .controller .ring ≡ w .controller .ring → InFrame T f found (round w busy) → (busy ≡ quietly → left (round w busy) < left w) → Goes T f found w busy
   answered :
       Finishes w busy → Different (round w busy .units)
-      → One (λ (st : Station). Spoke f (dataOf f (w .lent)) found (movedIn w busy) (round w busy .response) st × Sound st) (λ (st : Station). Sits st × Sound st) (round w busy .units)
-      → Goes f found w busy
+      → One (λ (st : Station). Spoke T f (dataOf f (w .lent)) found (movedIn w busy) (round w busy .response) (w .units) st × Sound st) (λ (st : Station). Sits st × Sound st) (round w busy .units)
+      → Goes T f found w busy
   unanswered :
       Finishes w busy → movedIn w busy ≡ over f nothingTaken → round w busy .response ≡ found → Different (round w busy .units) → All (λ (st : Station). Sits st × Sound st) (round w busy .units)
-      → All (Hushed (f .command) (dataOf f (w .lent))) (round w busy .units)
+      → All (Hushed T (f .command) (dataOf f (w .lent))) (round w busy .units)
       → All Sits (w .units)
-      → Goes f found w busy
+      → Goes T f found w busy
 
 -- Codes of a ring are bytes.
 abbrev pub Codes : Ring → Type 0
@@ -173,14 +191,14 @@ pub data AtRest : Stage → Type 0 where
   is-free : AtRest Free
   is-resting : AtRest (Resting false)
 
-pub data On : World → Type 0 where
+pub data On (T : Moment) : World → Type 0 where
   rests :
       {timeout : ℕ} {stage : Stage} {ring : Ring} {units : List Station} {lent response : List ℕ} → AtRest stage → 8 ≤ timeout → Codes ring → Different units → All (λ (st : Station). Fresh st × Sound st) units
-      → On (world timeout stage ring units lent response)
+      → On T (world timeout stage ring units lent response)
   submitted :
       (f : Frame) {timeout : ℕ} {ring : Ring} {units : List Station} {lent response : List ℕ} → Framed f lent response timeout → Codes ring → Different units → All (λ (st : Station). Fresh st × Sound st) units
-      → On (world timeout (Waiting f) ring units lent response)
+      → On T (world timeout (Waiting f) ring units lent response)
   ended :
       {timeout : ℕ} {ring : Ring} {units : List Station} {lent response : List ℕ} → 8 ≤ timeout → Codes ring → Different units → All (λ (st : Station). Sits st × Sound st) units
-      → On (world timeout (Resting true) ring units lent response)
-  runs : (f : Frame) (found : List ℕ) {w : World} → InFrame f found w → Codes (w .controller .ring) → On w
+      → On T (world timeout (Resting true) ring units lent response)
+  runs : (f : Frame) (found : List ℕ) {w : World} → InFrame T f found w → Codes (w .controller .ring) → On T w

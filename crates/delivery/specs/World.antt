@@ -1,12 +1,14 @@
 -- Document 01, "Lines and rounds": demand 2's bus, of the same steps that the code's promises cite: one controller and any list of units,
 -- each with the memory that its calls are lent. In a round each party steps once and sees the levels left by all pulls of the round
 -- before.
-use Prim.Native.Nat.{ℕ}
+use Prim.Native.Nat.{ℕ, _/_}
 use mathlib.Core.Bool.{Bool}
 use mathlib.Core.Path.{_≡_}
 use mathlib.Core.List.{List, [], _∷_}
+use lib.ListN.{length}
 use Rattle.delivery.specs.Lists.{All}
-use Rattle.bus.specs.Bus.{levelsWith, unitsAfter}
+use Rattle.bus.specs.Bus.{levelsWith, unitsAfter, stationStep, isOdd, unitsOf, roundOf, responseOf}
+use Rattle.bus.specs.declared.Bus.{Bus}
 use Rattle.bus.specs.declared.Station.{Station}
 use Rattle.controller.specs.Calls.{controllerStepped, bufferAfter}
 use Rattle.controller.specs.declared.Controller.{Controller}
@@ -35,6 +37,21 @@ round w busy = record {
   lent = w .lent;
   response = bufferAfter (w .controller) (levels w) (busy .here) (w .lent) (w .response);
 }
+
+-- The code's bus, of up to sixteen units, is such a world: its round is this one.
+abbrev pub worldOf : Bus → List ℕ → List ℕ → World
+worldOf b lent response = record { controller = b .controller; units = unitsOf b; lent = lent; response = response }
+
+abbrev pub TheBus : Type 0
+TheBus =
+    (b : Bus) (busy : ℕ) (lent response : List ℕ)
+    → length (b .stations) ≡ 16
+    → worldOf (roundOf b busy lent response) lent (responseOf b busy lent response) ≡ round (worldOf b lent response) (record { here = isOdd (busy / 65536); there = busy })
+
+-- In a round with these levels and hosts the unit `st` of a list becomes `after`.
+pub data Becomes (seen : Lines) : ℕ → List Station → Station → Station → Type 0 where
+  in-front : {hosts : ℕ} {st : Station} {ss : List Station} → Becomes seen hosts (st ∷ ss) st (stationStep st seen (isOdd hosts))
+  behind : {hosts : ℕ} {x st after : Station} {ss : List Station} → Becomes seen (hosts / 2) ss st after → Becomes seen hosts (x ∷ ss) st after
 
 -- Different codes.
 pub data Different : List Station → Type 0 where
