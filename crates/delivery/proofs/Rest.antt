@@ -71,12 +71,12 @@ all-turned : {P : Entry → Type 0} {l : List Entry} → All P l → All P (turn
 all-turned none = none
 all-turned (also q a) = all-back a q
 
-cut-below : (i : ℕ) (l : List Entry) → length (cutAt i l) ≤ length l
+pub cut-below : (i : ℕ) (l : List Entry) → length (cutAt i l) ≤ length l
 cut-below i [] = omega arith
 cut-below zero (e ∷ l) = omega arith
 cut-below (suc i) (e ∷ l) = let h = cut-below i l in omega arith
 
-turned-length : (l : List Entry) → length (turned l) ≡ length l
+pub turned-length : (l : List Entry) → length (turned l) ≡ length l
 turned-length [] = refl
 turned-length (e ∷ l) = let h : length (l ++ (e ∷ [])) ≡ length l + 1 = length-append l (e ∷ []) in omega arith
 
@@ -90,7 +90,7 @@ joins-room true b c e = absurd (false≢true e)
 joins-room false true c e = absurd (false≢true e)
 joins-room false false c e = e
 
-joined-length : (t : Bool) (code : ℕ) (l : List Entry) → joins code l ≡ t → length l ≤ 16 → length (cond t (l ++ (entryOf code false ∷ [])) l) ≤ 16
+pub joined-length : (t : Bool) (code : ℕ) (l : List Entry) → joins code l ≡ t → length l ≤ 16 → length (cond t (l ++ (entryOf code false ∷ [])) l) ≤ 16
 joined-length true code l e h =
     let r : length l < 16 = ltb-true (length l) 16 (joins-room (eqb code 0) (isIn code l) (ltb (length l) 16) e) in
     let n : length (l ++ (entryOf code false ∷ [])) ≡ length l + 1 = length-append l (entryOf code false ∷ []) in

@@ -1,0 +1,123 @@
+-- The bound: behind each call a unit of the ring that is spared stands no further from its turn, and one nearer behind each service frame.
+use Prim.Native.Nat.{ℕ, zero, suc, _<_, _≤_}
+use native.Mathlib.Omega.{arith}
+use mathlib.Core.Path.{_≡_, refl, sym, _∙_, ap, subst}
+use mathlib.Core.Bool.{Bool, true, false, cond, _&&_, _||_, true≢false}
+use mathlib.Core.List.{List, [], _∷_}
+use borrow.Author.Tests.{lt-ltb, ltb-true}
+use lib.Dec.{eqb}
+use lib.ListN.{length, length-set}
+use Rattle.controller.specs.Controller.{service}
+use Rattle.controller.specs.declared.Controller.{Controller}
+use Rattle.delivery.proofs.Rest.{cut-below, turned-length, joined-length}
+use Rattle.frame.specs.declared.Frame.{Frame}
+use Rattle.frame.specs.declared.Kind.{Kind}
+use Rattle.frame.specs.declared.Kind.the-variants.{Submitted, Poll, Null}
+use Rattle.header.specs.declared.Command.{Command}
+use Rattle.ring.specs.Ring.{live, ringOf, placeOf, joins, joined, removed, turned, withMark, entryOf}
+use Rattle.ring.specs.declared.Entry.{Entry}
+use Rattle.ring.specs.declared.Ring.{Ring}
+use Rattle.ring.proofs.Laws.{live-ring, live-below}
+use Rattle.turn.specs.Turn.{ringBy, ringEnded}
+use Rattle.polling.specs.Moves.{Move, after, running, begins, services, ahead, inRing, isFor, Without, Spared, spared}
+use Rattle.polling.specs.Turns.{Turn, its-turn, another's, no-frame, TurnComes}
+use Rattle.polling.proofs.Does.{Does, keeps, accepts, serves, frame-ends, clears, does}
+use Rattle.polling.proofs.Places.{Found, place-removed, place-marked, found-marked, place-joined, place-turned}
+
+-- The entries of a ring made of a list.
+pub short-joined : (code : ℕ) (ring : Ring) → length (joined code (live ring)) ≤ 16
+short-joined code ring = joined-length (joins code (live ring)) code (live ring) refl (live-below ring)
+
+pub short-removed : (code : ℕ) (ring : Ring) → length (removed code (live ring)) ≤ 16
+short-removed code ring = let h = cut-below (placeOf code (live ring)) (live ring) in let l = live-below ring in omega arith
+
+pub short-marked : (m : Bool) (code : ℕ) (ring : Ring) → length (withMark m code (live ring)) ≤ 16
+short-marked m code ring = let n : length (withMark m code (live ring)) ≡ length (live ring) = length-set (live ring) (placeOf code (live ring)) (entryOf code m) in let l = live-below ring in omega arith
+
+pub short-turned : (ring : Ring) → length (turned (live ring)) ≤ 16
+short-turned ring = let n = turned-length (live ring) in let l = live-below ring in omega arith
+
+-- Still in the ring, and no further from its turn.
+abbrev Nearer : ℕ → Ring → Ring → Type 0
+Nearer own old new = (placeOf own (live new) ≤ placeOf own (live old)) × Found own (live new)
+
+made : (P : List Entry → Type 0) (l : List Entry) → length l ≤ 16 → P l → P (live (ringOf l))
+made P l h p = subst P (sym (live-ring l h)) p
+
+module _ (own : ℕ) (ring : Ring) (found : Found own (live ring)) where
+  abbrev Next : List Entry → Type 0
+  Next l = (placeOf own l ≤ placeOf own (live ring)) × Found own l
+
+  stays : Nearer own ring ring
+  stays = (omega arith, found)
+
+  marked : (m : Bool) (code : ℕ) → Nearer own ring (ringOf (withMark m code (live ring)))
+  marked m code =
+      made Next (withMark m code (live ring)) (short-marked m code ring)
+      (let e = place-marked own code m (live ring) in omega arith, found-marked own code m (live ring) found)
+
+  joining : (code : ℕ) → Nearer own ring (ringOf (joined code (live ring)))
+  joining code = let p = place-joined own code (live ring) found in made Next (joined code (live ring)) (short-joined code ring) (let e = p .0 in omega arith, p .1)
+
+  leaving : (code : ℕ) → eqb code own ≡ false → Nearer own ring (ringOf (removed code (live ring)))
+  leaving code other = made Next (removed code (live ring)) (short-removed code ring) (place-removed own code other (live ring) found)
+
+  by-command : (t u : Bool) (c : Command) → eqb (c .command) 0x08 ≡ t → (eqb (c .command) 0x09 || eqb (c .command) 0x01) ≡ u → (eqb (c .device) own && u) ≡ false
+      → Nearer own ring (cond t (ringOf (joined (c .device) (live ring))) (cond u (ringOf (removed (c .device) (live ring))) ring))
+  by-command true u c e g w = joining (c .device)
+  by-command false true c e g w = leaving (c .device) (and-true (eqb (c .device) own) w)
+    where
+      and-true : (b : Bool) → (b && true) ≡ false → b ≡ false
+      and-true true h = h
+      and-true false h = refl
+  by-command false false c e g w = stays
+
+  by-kind : (k : Kind) (c : Command) → (eqb (c .device) own && (eqb (c .command) 0x09 || eqb (c .command) 0x01)) ≡ false → Nearer own ring (ringBy k ring c)
+  by-kind Submitted c w = by-command (eqb (c .command) 0x08) (eqb (c .command) 0x09 || eqb (c .command) 0x01) c refl refl w
+  by-kind Poll c w = marked true (c .device)
+  by-kind Null c w = stays
+
+  by-status : (t : Bool) (f : Frame) → isFor own f ≡ false → Nearer own ring (cond t (ringBy (f .kind) ring (f .command)) ring)
+  by-status true f w = by-kind (f .kind) (f .command) w
+  by-status false f w = stays
+
+nearer-as : (own : ℕ) (old : Ring) {new ring : Ring} → ring ≡ new → Nearer own old new → Nearer own old ring
+nearer-as own old e n = subst (Nearer own old) (sym e) n
+
+turn-by : (own n : ℕ) (c : Controller) (ms : List Move) → Found own (live (c .ring)) → Spared own c ms → ahead own c < n → n ≤ services c ms → Turn own n c ms
+turn-by own n c [] found s h k = absurd (omega arith)
+turn-by own n c (m ∷ ms) found (spared without s) h k = by n h k (does c m) (λ n′ f h′ k′. turn-by own n′ (after c m) ms f s h′ k′)
+  where
+    -- Where no service frame begins.
+    waits : (n : ℕ) → ahead own c < n → n ≤ services c (m ∷ ms) → begins c m ≡ false → Nearer own (c .ring) (after c m .ring)
+        → ((n′ : ℕ) → Found own (live (after c m .ring)) → ahead own (after c m) < n′ → n′ ≤ services (after c m) ms → Turn own n′ (after c m) ms) → Turn own n c (m ∷ ms)
+    waits n h k b near go =
+        let same : services c (m ∷ ms) ≡ services (after c m) ms = ap (λ (t : Bool). cond t (suc (services (after c m) ms)) (services (after c m) ms)) b in
+        let p = near .0 in
+        no-frame b (go n (near .1) (omega arith) (omega arith))
+
+    by : (n : ℕ) → ahead own c < n → n ≤ services c (m ∷ ms) → Does c m
+        → ((n′ : ℕ) → Found own (live (after c m .ring)) → ahead own (after c m) < n′ → n′ ≤ services (after c m) ms → Turn own n′ (after c m) ms) → Turn own n c (m ∷ ms)
+    by n h k (keeps ring b v o) go = waits n h k b (nearer-as own (c .ring) ring (stays own (c .ring) found)) go
+    by n h k (accepts cmd l ring b v out st) go = waits n h k b (nearer-as own (c .ring) ring (stays own (c .ring) found)) go
+    by n h k (frame-ends f status count r g b v ring z) go =
+        waits n h k b (nearer-as own (c .ring) ring (by-status own (c .ring) found (eqb status 0x00) f (subst (Without own) r without))) go
+    by n h k (clears code e x b v ring st) go = waits n h k b (nearer-as own (c .ring) ring (marked own (c .ring) found false code)) go
+    by zero h k (serves b v some e) go = absurd (omega arith)
+    by (suc n) h k (serves b v some e) go = front (ahead own c) refl
+      where
+        more : services c (m ∷ ms) ≡ suc (services (after c m) ms)
+        more = ap (λ (t : Bool). cond t (suc (services (after c m) ms)) (services (after c m) ms)) b
+
+        front : (p : ℕ) → ahead own c ≡ p → Turn own (suc n) c (m ∷ ms)
+        front zero z = its-turn b (lt-ltb (placeOf own (live (c .ring))) (length (live (c .ring))) found) z
+        front (suc p) z =
+            let turned-is : after c m .ring ≡ ringOf (turned (live (c .ring))) = ap (λ (x : Controller). x .ring) e in
+            let t = place-turned own p (live (c .ring)) found z in
+            let next = subst (λ (r : Ring). (placeOf own (live r) ≡ p) × Found own (live r)) (sym turned-is) (made (λ (l : List Entry). (placeOf own l ≡ p) × Found own l) (turned (live (c .ring))) (short-turned (c .ring)) t) in
+            let q = next .0 in
+            let one : services c (m ∷ ms) ≡ suc (services (after c m) ms) = more in
+            another's b (go n (next .1) (omega arith) (omega arith))
+
+pub turn-comes : TurnComes
+turn-comes own c ms i s k = turn-by own (suc (ahead own c)) c ms (ltb-true (placeOf own (live (c .ring))) (length (live (c .ring))) i) s (omega arith) k
