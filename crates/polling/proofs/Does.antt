@@ -1,20 +1,19 @@
 -- What a call of the controller does, at any levels: to the ring, to the frame that it has, and what it tells the application.
-use Prim.Native.Nat.{ℕ, zero, suc, _+_, _<_, _≤_}
+use Prim.Native.Nat.{ℕ, _<_}
 use native.Mathlib.Omega.{arith}
 use mathlib.Core.Path.{_≡_, refl, sym, _∙_, ap, subst}
-use mathlib.Core.Bool.{Bool, true, false, cond, _&&_, _||_, true≢false, false≢true}
+use mathlib.Core.Bool.{Bool, true, false, cond, _&&_}
 use mathlib.Core.List.{List, [], _∷_}
 use borrow.Author.Tests.{eqb-false}
-use lib.Dec.{eqb, ltb, leb}
-use lib.ListN.{length, getD}
-use Rattle.answer.specs.Answer.{takenWith, statusOf, countOf, isOver}
+use lib.Dec.{eqb, ltb}
+use lib.ListN.{length}
+use Rattle.answer.specs.Answer.{takenWith, statusOf, countOf}
 use Rattle.answer.specs.declared.Response.{Response}
-use Rattle.application.specs.Calls.{Done, done, submitting, isShutOut, withCommand, acknowledging, withoutMark, controllerSubmitted, controllerAcknowledged}
-use Rattle.controller.specs.Calls.{stepping, controllerStepped, ifLent}
-use Rattle.controller.specs.Controller.{controllerOf, isIdle, service, idleStep, controllerStep, eventIn, ringAfter, eventAfter, frameOf}
+use Rattle.application.specs.Calls.{Done, done, submitting, isShutOut, withCommand, withoutMark}
+use Rattle.controller.specs.Calls.{stepping}
+use Rattle.controller.specs.Controller.{controllerOf, isIdle, service, controllerStep, eventIn, ringAfter, eventAfter, frameOf}
 use Rattle.controller.specs.declared.Controller.{Controller}
-use Rattle.frame.specs.Frame.{submittedFrame, begun, frameStep, lentAt, sendingStep, listeningStep, nextNibble, waited, over, stays, quietAfter, ends, restStep, lastNibble, nibbleOf}
-use Rattle.frame.specs.declared.End.{End}
+use Rattle.frame.specs.Frame.{submittedFrame, frameStep, lentAt, nextNibble, waited, over, stays, quietAfter, ends, restStep, lastNibble}
 use Rattle.frame.specs.declared.End.the-variants.{NotYet, Over}
 use Rattle.frame.specs.declared.Frame.{Frame}
 use Rattle.frame.specs.declared.Lent.{Lent}
@@ -23,17 +22,16 @@ use Rattle.frame.specs.declared.Moved.{Moved}
 use Rattle.frame.specs.declared.Stage.{Stage}
 use Rattle.frame.specs.declared.Stage.the-variants.{Free, Resting, Waiting, Sending, Listening}
 use Rattle.header.specs.declared.Command.{Command}
-use Rattle.line.specs.Line.{sendOf, sentOf, hearOf, takenOf}
+use Rattle.line.specs.Line.{sentOf, hearOf, takenOf}
 use Rattle.line.specs.declared.Lines.{Lines}
 use Rattle.line.specs.declared.Listener.{Listener}
-use Rattle.line.specs.declared.Sender.{Sender}
 use Rattle.message.specs.Answer.{Answer, gives, refused, kept}
-use Rattle.ring.specs.Ring.{none, counted, live, ringOf, turned, withMark, isMarked}
-use Rattle.ring.specs.declared.Ring.{Ring}
+use Rattle.ring.specs.Ring.{counted, live, ringOf, withMark, isMarked}
 use Rattle.turn.specs.Turn.{ringEnded, eventOf as frameEvent}
 use Rattle.turn.specs.declared.Event.{Event}
 use Rattle.turn.specs.declared.Event.the-variants.{Nothing}
-use Rattle.polling.specs.Moves.{Move, steps, submits, acknowledges, after, running, isBegun, begins, told, eventOf}
+use Rattle.polling.specs.Moves.{Move, steps, submits, acknowledges, after, running, isBegun, begins, isFor, told, eventOf}
+use Rattle.polling.specs.History.{isDone, anyFor, settles}
 
 -- The frame that a stage has, submitted or running.
 abbrev pub held : Stage → List Frame
@@ -48,15 +46,20 @@ pub data Onward (before now : Stage) : Type 0 where
   same-frame : held now ≡ held before → Onward before now
   no-more : held now ≡ [] → Onward before now
 
+-- It settles no unit's request.
+abbrev Unsettled : Controller → Move → Type 0
+Unsettled c m = (own : ℕ) → settles own c m ≡ false
+
 pub data Does (c : Controller) (m : Move) : Type 0 where
-  keeps : after c m .ring ≡ c .ring → begins c m ≡ false → eventOf c m ≡ Nothing → Onward (c .stage) (after c m .stage) → Does c m
-  accepts : (k : Command) (n : ℕ) → after c m .ring ≡ c .ring → begins c m ≡ false → eventOf c m ≡ Nothing → isShutOut k (c .ring) ≡ false → after c m .stage ≡ Waiting (submittedFrame k n) → Does c m
-  serves : begins c m ≡ true → eventOf c m ≡ Nothing → 0 < counted (c .ring) → after c m ≡ service c → Does c m
+  keeps : after c m .ring ≡ c .ring → begins c m ≡ false → eventOf c m ≡ Nothing → Unsettled c m → Onward (c .stage) (after c m .stage) → Does c m
+  accepts : (k : Command) (n : ℕ) → after c m .ring ≡ c .ring → begins c m ≡ false → eventOf c m ≡ Nothing → Unsettled c m → isShutOut k (c .ring) ≡ false → after c m .stage ≡ Waiting (submittedFrame k n) → Does c m
+  serves : begins c m ≡ true → eventOf c m ≡ Nothing → Unsettled c m → 0 < counted (c .ring) → after c m ≡ service c → Does c m
   frame-ends :
       (f : Frame) (status count : ℕ) → running (c .stage) ≡ f ∷ [] → held (c .stage) ≡ f ∷ [] → begins c m ≡ false → eventOf c m ≡ frameEvent f status count
+      → ((own : ℕ) → settles own c m ≡ (isDone (frameEvent f status count) && isFor own f))
       → after c m .ring ≡ ringEnded (c .ring) f status → held (after c m .stage) ≡ [] → Does c m
   clears :
-      (code : ℕ) → m ≡ acknowledges code → isMarked code (live (c .ring)) ≡ true → begins c m ≡ false → eventOf c m ≡ Nothing → after c m .ring ≡ ringOf (withMark false code (live (c .ring)))
+      (code : ℕ) → m ≡ acknowledges code → isMarked code (live (c .ring)) ≡ true → begins c m ≡ false → eventOf c m ≡ Nothing → ((own : ℕ) → settles own c m ≡ eqb code own) → after c m .ring ≡ ringOf (withMark false code (live (c .ring)))
       → after c m .stage ≡ c .stage → Does c m
 
 -- Where the stage stays, no frame begins.
@@ -67,9 +70,17 @@ still (Waiting f) = refl
 still (Sending f i sender wait) = refl
 still (Listening f ear response quiet) = refl
 
-unchanged : (c : Controller) (m : Move) → after c m ≡ c → eventOf c m ≡ Nothing → Does c m
-unchanged c m e v =
-    keeps (ap (λ (x : Controller). x .ring) e) (ap (λ (x : Controller). isIdle (c .stage) && isBegun (running (x .stage))) e ∙ still (c .stage)) v
+and-false : (b : Bool) → (b && false) ≡ false
+and-false true = refl
+and-false false = refl
+
+and-true : (b : Bool) → (b && true) ≡ b
+and-true true = refl
+and-true false = refl
+
+unchanged : (c : Controller) (m : Move) → after c m ≡ c → eventOf c m ≡ Nothing → Unsettled c m → Does c m
+unchanged c m e v u =
+    keeps (ap (λ (x : Controller). x .ring) e) (ap (λ (x : Controller). isIdle (c .stage) && isBegun (running (x .stage))) e ∙ still (c .stage)) v u
     (same-frame (ap (λ (x : Controller). held (x .stage)) e))
 
 -- A frame's step, of a stage that is not idle.
@@ -118,6 +129,9 @@ module _ (c : Controller) (seen : Lines) (busy : Bool) (lent response : List ℕ
   event : eventOf c m ≡ eventIn c seen busy lent
   event = ap told goes
 
+  told-nothing : eventOf c m ≡ Nothing → Unsettled c m
+  told-nothing e own = ap (λ (x : Event). isDone x && anyFor own (running (c .stage))) e
+
   -- In a frame, or resting.
   framed : isIdle (c .stage) ≡ false → Does c m
   framed i = by (moves (c .stage) (c .timeout) seen busy lent)
@@ -130,27 +144,29 @@ module _ (c : Controller) (seen : Lines) (busy : Bool) (lent response : List ℕ
 
       by : Moves (c .stage) (frameStep (c .stage) (c .timeout) seen busy lent) → Does c m
       by (not-yet e onward) =
-          keeps (ap (λ (x : Controller). x .ring) mv ∙ ap (ringAfter (c .ring)) e) (busy-begins (c .stage) (after c m .stage) i) (tells ∙ ap eventAfter e)
+          keeps (ap (λ (x : Controller). x .ring) mv ∙ ap (ringAfter (c .ring)) e) (busy-begins (c .stage) (after c m .stage) i) (tells ∙ ap eventAfter e) (told-nothing (tells ∙ ap eventAfter e))
           (subst (Onward (c .stage)) (sym (ap (λ (x : Controller). x .stage) mv)) onward)
       by (now f status count r h e z) =
-          frame-ends f status count r h (busy-begins (c .stage) (after c m .stage) i) (tells ∙ ap eventAfter e) (ap (λ (x : Controller). x .ring) mv ∙ ap (ringAfter (c .ring)) e)
+          frame-ends f status count r h (busy-begins (c .stage) (after c m .stage) i) (tells ∙ ap eventAfter e)
+          (λ own. ap (λ (x : Event). isDone x && anyFor own (running (c .stage))) (tells ∙ ap eventAfter e) ∙ ap (λ (fs : List Frame). isDone (frameEvent f status count) && anyFor own fs) r)
+          (ap (λ (x : Controller). x .ring) mv ∙ ap (ringAfter (c .ring)) e)
           (ap (λ (x : Controller). held (x .stage)) mv ∙ z)
 
   -- Idle.
   idle : (t u : Bool) → isIdle (c .stage) ≡ true → seen .bav ≡ t → eqb (counted (c .ring)) 0 ≡ u → Does c m
-  idle false u i b e = unchanged c m (stepped ∙ rw (i, b)) (event ∙ rw i)
-  idle true true i b e = unchanged c m (stepped ∙ rw (i, b, e)) (event ∙ rw i)
+  idle false u i b e = unchanged c m (stepped ∙ rw (i, b)) (event ∙ rw i) (told-nothing (event ∙ rw i))
+  idle true true i b e = unchanged c m (stepped ∙ rw (i, b, e)) (event ∙ rw i) (told-nothing (event ∙ rw i))
   idle true false i b e =
       let serve : after c m ≡ service c = stepped ∙ rw (i, b, e) in
       let some : counted (c .ring) ≡ 0 → ⊥ = eqb-false (counted (c .ring)) 0 e in
-      serves (ap (λ (x : Controller). isIdle (c .stage) && isBegun (running (x .stage))) serve ∙ ap (λ (t : Bool). t && true) i) (event ∙ rw i) (omega arith) serve
+      serves (ap (λ (x : Controller). isIdle (c .stage) && isBegun (running (x .stage))) serve ∙ ap (λ (t : Bool). t && true) i) (event ∙ rw i) (told-nothing (event ∙ rw i)) (omega arith) serve
 
   step-does : (t : Bool) → isIdle (c .stage) ≡ t → Does c m
   step-does true i = idle (seen .bav) (eqb (counted (c .ring)) 0) i refl refl
   step-does false i = framed i
 
 refused-does : (c : Controller) (seen : Lines) (busy : Bool) (lent response : List ℕ) (k : ℕ) → stepping c seen busy lent response ≡ refused k → Does c (steps seen busy lent response)
-refused-does c seen busy lent response k e = unchanged c (steps seen busy lent response) (ap (λ (a : Answer Event). kept a (controllerStep c seen busy lent) c) e) (ap told e)
+refused-does c seen busy lent response k e = unchanged c (steps seen busy lent response) (ap (λ (a : Answer Event). kept a (controllerStep c seen busy lent) c) e) (ap told e) (λ own. ap (λ (x : Answer Event). isDone (told x) && anyFor own (running (c .stage))) e)
 
 steps-do : (c : Controller) (seen : Lines) (busy : Bool) (lent response : List ℕ) (t : Bool) (l : Lent) → ltb 15 (seen .nibble) ≡ t → lentAt (c .stage) (length lent) (length response) ≡ l → Does c (steps seen busy lent response)
 steps-do c seen busy lent response true l e g = refused-does c seen busy lent response 5 (rw e)
@@ -162,14 +178,10 @@ steps-do c seen busy lent response false Buffer e g = refused-does c seen busy l
 accepted-does : (c : Controller) (k : Command) (n room : ℕ) → submitting c k n room ≡ gives done → isShutOut k (c .ring) ≡ false → Does c (submits k n room)
 accepted-does c k n room e out =
     let a : after c (submits k n room) ≡ withCommand c k n = ap (λ (x : Answer Done). kept x (withCommand c k n) c) e in
-    accepts k n (ap (λ (x : Controller). x .ring) a) (ap (λ (x : Controller). isIdle (c .stage) && isBegun (running (x .stage))) a ∙ and-false (isIdle (c .stage))) refl out (ap (λ (x : Controller). x .stage) a)
-  where
-    and-false : (b : Bool) → (b && false) ≡ false
-    and-false true = refl
-    and-false false = refl
+    accepts k n (ap (λ (x : Controller). x .ring) a) (ap (λ (x : Controller). isIdle (c .stage) && isBegun (running (x .stage))) a ∙ and-false (isIdle (c .stage))) refl (λ own. refl) out (ap (λ (x : Controller). x .stage) a)
 
 submit-refused : (c : Controller) (k : Command) (n room j : ℕ) → submitting c k n room ≡ refused j → Does c (submits k n room)
-submit-refused c k n room j e = unchanged c (submits k n room) (ap (λ (x : Answer Done). kept x (withCommand c k n) c) e) refl
+submit-refused c k n room j e = unchanged c (submits k n room) (ap (λ (x : Answer Done). kept x (withCommand c k n) c) e) refl (λ own. refl)
 
 submits-do : (c : Controller) (k : Command) (n room : ℕ) (i p q r s : Bool) → isIdle (c .stage) ≡ i → ltb 65535 n ≡ p → eqb (k .command) 0x0A ≡ q → isShutOut k (c .ring) ≡ r → ltb room (k .«buffer_length») ≡ s → Does c (submits k n room)
 submits-do c k n room false p q r s e0 e1 e2 e3 e4 = submit-refused c k n room 1 (rw e0)
@@ -182,8 +194,8 @@ submits-do c k n room true false false false false e0 e1 e2 e3 e4 = accepted-doe
 acknowledges-do : (c : Controller) (code : ℕ) (t : Bool) → isMarked code (live (c .ring)) ≡ t → Does c (acknowledges code)
 acknowledges-do c code true e =
     let a : after c (acknowledges code) ≡ withoutMark c code = ap (λ (t : Bool). kept (cond t (gives done) (refused 8)) (withoutMark c code) c) e in
-    clears code refl e (ap (λ (x : Controller). isIdle (c .stage) && isBegun (running (x .stage))) a ∙ still (c .stage)) refl (ap (λ (x : Controller). x .ring) a) (ap (λ (x : Controller). x .stage) a)
-acknowledges-do c code false e = unchanged c (acknowledges code) (ap (λ (t : Bool). kept (cond t (gives done) (refused 8)) (withoutMark c code) c) e) refl
+    clears code refl e (ap (λ (x : Controller). isIdle (c .stage) && isBegun (running (x .stage))) a ∙ still (c .stage)) refl (λ own. ap (λ (t : Bool). eqb code own && t) e ∙ and-true (eqb code own)) (ap (λ (x : Controller). x .ring) a) (ap (λ (x : Controller). x .stage) a)
+acknowledges-do c code false e = unchanged c (acknowledges code) (ap (λ (t : Bool). kept (cond t (gives done) (refused 8)) (withoutMark c code) c) e) refl (λ own. ap (λ (t : Bool). eqb code own && t) e ∙ and-false (eqb code own))
 
 pub does : (c : Controller) (m : Move) → Does c m
 does c (steps seen busy lent response) = steps-do c seen busy lent response (ltb 15 (seen .nibble)) (lentAt (c .stage) (length lent) (length response)) refl refl

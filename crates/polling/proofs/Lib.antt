@@ -1,3 +1,4 @@
 pub mod Places
 pub mod Does
 pub mod Turns
+pub mod History

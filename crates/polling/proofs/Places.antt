@@ -1,11 +1,11 @@
 -- Where a unit stands in the ring behind each thing that can be done to the ring.
-use Prim.Native.Nat.{ℕ, zero, suc, _+_, _<_, _≤_}
+use Prim.Native.Nat.{ℕ, suc, _+_, _<_, _≤_}
 use native.Mathlib.Omega.{arith}
-use mathlib.Core.Path.{_≡_, refl, sym, _∙_, ap, subst}
+use mathlib.Core.Path.{_≡_, refl, sym, _∙_, ap}
 use mathlib.Core.Bool.{Bool, true, false, cond, true≢false}
 use mathlib.Core.List.{List, [], _∷_, _++_}
-use borrow.Author.Tests.{eqb-true, lt-ltb, ltb-true, eq-eqb}
-use lib.Dec.{eqb, ltb}
+use borrow.Author.Tests.{eqb-true}
+use lib.Dec.{eqb}
 use lib.ListN.{length, set, length-set, length-append}
 use Rattle.ring.specs.Ring.{entryOf, placeOf, cutAt, joins, joined, removed, turned, withMark}
 use Rattle.ring.specs.declared.Entry.{Entry}

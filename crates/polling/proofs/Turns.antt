@@ -1,13 +1,12 @@
 -- The bound: behind each call a unit of the ring that is spared stands no further from its turn, and one nearer behind each service frame.
 use Prim.Native.Nat.{ℕ, zero, suc, _<_, _≤_}
 use native.Mathlib.Omega.{arith}
-use mathlib.Core.Path.{_≡_, refl, sym, _∙_, ap, subst}
-use mathlib.Core.Bool.{Bool, true, false, cond, _&&_, _||_, true≢false}
+use mathlib.Core.Path.{_≡_, refl, sym, ap, subst}
+use mathlib.Core.Bool.{Bool, true, false, cond, _&&_, _||_}
 use mathlib.Core.List.{List, [], _∷_}
 use borrow.Author.Tests.{lt-ltb, ltb-true}
 use lib.Dec.{eqb}
 use lib.ListN.{length, length-set}
-use Rattle.controller.specs.Controller.{service}
 use Rattle.controller.specs.declared.Controller.{Controller}
 use Rattle.delivery.proofs.Rest.{cut-below, turned-length, joined-length}
 use Rattle.frame.specs.declared.Frame.{Frame}
@@ -18,8 +17,8 @@ use Rattle.ring.specs.Ring.{live, ringOf, placeOf, joins, joined, removed, turn
 use Rattle.ring.specs.declared.Entry.{Entry}
 use Rattle.ring.specs.declared.Ring.{Ring}
 use Rattle.ring.proofs.Laws.{live-ring, live-below}
-use Rattle.turn.specs.Turn.{ringBy, ringEnded}
-use Rattle.polling.specs.Moves.{Move, after, running, begins, services, ahead, inRing, isFor, Without, Spared, spared}
+use Rattle.turn.specs.Turn.{ringBy}
+use Rattle.polling.specs.Moves.{Move, after, begins, services, ahead, isFor, Without, Spared, spared}
 use Rattle.polling.specs.Turns.{Turn, its-turn, another's, no-frame, TurnComes}
 use Rattle.polling.proofs.Does.{Does, keeps, accepts, serves, frame-ends, clears, does}
 use Rattle.polling.proofs.Places.{Found, place-removed, place-marked, found-marked, place-joined, place-turned}
@@ -98,13 +97,13 @@ turn-by own n c (m ∷ ms) found (spared without s) h k = by n h k (does c m) (�
 
     by : (n : ℕ) → ahead own c < n → n ≤ services c (m ∷ ms) → Does c m
         → ((n′ : ℕ) → Found own (live (after c m .ring)) → ahead own (after c m) < n′ → n′ ≤ services (after c m) ms → Turn own n′ (after c m) ms) → Turn own n c (m ∷ ms)
-    by n h k (keeps ring b v o) go = waits n h k b (nearer-as own (c .ring) ring (stays own (c .ring) found)) go
-    by n h k (accepts cmd l ring b v out st) go = waits n h k b (nearer-as own (c .ring) ring (stays own (c .ring) found)) go
-    by n h k (frame-ends f status count r g b v ring z) go =
+    by n h k (keeps ring b v u o) go = waits n h k b (nearer-as own (c .ring) ring (stays own (c .ring) found)) go
+    by n h k (accepts cmd l ring b v u out st) go = waits n h k b (nearer-as own (c .ring) ring (stays own (c .ring) found)) go
+    by n h k (frame-ends f status count r g b v u ring z) go =
         waits n h k b (nearer-as own (c .ring) ring (by-status own (c .ring) found (eqb status 0x00) f (subst (Without own) r without))) go
-    by n h k (clears code e x b v ring st) go = waits n h k b (nearer-as own (c .ring) ring (marked own (c .ring) found false code)) go
-    by zero h k (serves b v some e) go = absurd (omega arith)
-    by (suc n) h k (serves b v some e) go = front (ahead own c) refl
+    by n h k (clears code e x b v u ring st) go = waits n h k b (nearer-as own (c .ring) ring (marked own (c .ring) found false code)) go
+    by zero h k (serves b v u some e) go = absurd (omega arith)
+    by (suc n) h k (serves b v u some e) go = front (ahead own c) refl
       where
         more : services c (m ∷ ms) ≡ suc (services (after c m) ms)
         more = ap (λ (t : Bool). cond t (suc (services (after c m) ms)) (services (after c m) ms)) b

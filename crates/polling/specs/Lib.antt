@@ -1,2 +1,3 @@
 pub mod Moves
 pub mod Turns
+pub mod History

@@ -1,16 +1,14 @@
 -- The controller's own calls, at any line levels: steps, refused or not; submissions; acknowledgements, refused or not.
-use Prim.Native.Nat.{ℕ, suc, _<_}
+use Prim.Native.Nat.{ℕ, suc}
 use mathlib.Core.Path.{_≡_}
 use mathlib.Core.Bool.{Bool, true, false, cond, _||_, _&&_}
 use mathlib.Core.List.{List, [], _∷_}
 use lib.Dec.{eqb}
-use Rattle.application.specs.Calls.{controllerSubmitted, controllerAcknowledged, acknowledging, Done}
+use Rattle.application.specs.Calls.{controllerSubmitted, controllerAcknowledged}
 use Rattle.controller.specs.Calls.{stepping, controllerStepped}
 use Rattle.controller.specs.Controller.{isIdle}
 use Rattle.controller.specs.declared.Controller.{Controller}
 use Rattle.frame.specs.declared.Frame.{Frame}
-use Rattle.frame.specs.declared.Kind.{Kind}
-use Rattle.frame.specs.declared.Kind.the-variants.{Submitted, Poll, Null}
 use Rattle.frame.specs.declared.Stage.{Stage}
 use Rattle.frame.specs.declared.Stage.the-variants.{Free, Resting, Waiting, Sending, Listening}
 use Rattle.header.specs.declared.Command.{Command}
@@ -18,7 +16,7 @@ use Rattle.line.specs.declared.Lines.{Lines}
 use Rattle.message.specs.Answer.{Answer, gives, refused}
 use Rattle.ring.specs.Ring.{live, placeOf, isIn}
 use Rattle.turn.specs.declared.Event.{Event}
-use Rattle.turn.specs.declared.Event.the-variants.{Nothing, Ended, Handed}
+use Rattle.turn.specs.declared.Event.the-variants.{Nothing}
 
 pub data Move : Type 0 where
   steps : (seen : Lines) (busy : Bool) (lent response : List ℕ) → Move

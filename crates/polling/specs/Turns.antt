@@ -2,8 +2,8 @@
 -- whatever happens to others."
 use Prim.Native.Nat.{ℕ, suc, _≤_}
 use mathlib.Core.Path.{_≡_}
-use mathlib.Core.Bool.{Bool, true, false}
-use mathlib.Core.List.{List, [], _∷_}
+use mathlib.Core.Bool.{true, false}
+use mathlib.Core.List.{List, _∷_}
 use Rattle.controller.specs.declared.Controller.{Controller}
 use Rattle.polling.specs.Moves.{Move, after, begins, services, ahead, inRing, Spared}
 
