@@ -1,3 +1,4 @@
 pub mod Moves
 pub mod Turns
 pub mod History
+pub mod Requests
