@@ -90,7 +90,7 @@ Wider T U = (own : ℕ) (s : Serial) (m : List ℕ) → T own s m → U own s m
 abbrev wider-promise : {T U : Serial → List ℕ → Type 0} {c : Command} {d : List ℕ} {r : Reply} {s : Serial} {input : List ℕ} → ((x : Serial) (m : List ℕ) → T x m → U x m) → Promised T c d r s input → Promised U c d r s input
 wider-promise g p = record { given = p .given; memory = p .memory; took = g (p .given) (p .memory) (p .took); said = p .said; stands = p .stands; long = p .long; enough = p .enough; fits = p .fits }
 
-wider-frame : {T U : Moment} {f : Frame} {found : List ℕ} {w : World} → Wider T U → InFrame T f found w → InFrame U f found w
+pub wider-frame : {T U : Moment} {f : Frame} {found : List ℕ} {w : World} → Wider T U → InFrame T f found w → InFrame U f found w
 wider-frame g (begins framed d a) = begins framed d a
 wider-frame {T} {U} g (sends i sender framed d s l a) = sends i sender framed d s l (all-map (λ st p. (part st (p .0), p .1)) a)
   where
@@ -108,7 +108,7 @@ wider-frame {T} {U} g (waits quiet framed d a why) = waits quiet framed d a (all
     hush st (not-its-own e) = not-its-own e
     hush st (by-the-rule given memory t e) = by-the-rule given memory (g (st .unit .own) given memory t) e
 
-frame-runs : {T : Moment} {f : Frame} {found : List ℕ} {w : World} → InFrame T f found w → inFrame (w .controller .stage) ≡ true
+pub frame-runs : {T : Moment} {f : Frame} {found : List ℕ} {w : World} → InFrame T f found w → inFrame (w .controller .stage) ≡ true
 frame-runs (begins framed d a) = refl
 frame-runs (sends i sender framed d s l a) = refl
 frame-runs (hears ear taken quiet framed d l o) = refl
@@ -121,7 +121,7 @@ wider-on g (ended eight codes d a) = ended eight codes d a
 wider-on g (runs f found x codes) = runs f found (wider-frame (g (frame-runs x)) x) codes
 
 -- What a run has noted.
-notes : {w v : World} (r : Run w v) (busy : Busy) → Noted (Took (a-round r busy)) v busy
+pub notes : {w v : World} (r : Run w v) (busy : Busy) → Noted (Took (a-round r busy)) v busy
 notes r busy st after becomes e now = takes-it st after becomes e now refl refl refl
 
 pub every-run : Runs
@@ -208,7 +208,7 @@ in-frame-lent (sends i sender framed d s l a) = framed .fits
 in-frame-lent {T} {f} (hears ear taken quiet {lent = lent} framed d l o) = ap (lentTo f (length lent)) l ∙ framed .fits
 in-frame-lent (waits quiet framed d a why) = framed .fits
 
-in-frame-sound : {T : Moment} {f : Frame} {found : List ℕ} {w : World} → InFrame T f found w → All Sound (w .units)
+pub in-frame-sound : {T : Moment} {f : Frame} {found : List ℕ} {w : World} → InFrame T f found w → All Sound (w .units)
 in-frame-sound (begins framed d a) = all-map (λ st p. p .1) a
 in-frame-sound (sends i sender framed d s l a) = all-map (λ st p. p .1) a
 in-frame-sound (hears ear taken quiet framed d l o) = one-all (λ st p. p .1) (λ st p. p .1) o
@@ -234,7 +234,7 @@ on-lent (submitted f framed codes d a) = framed .fits
 on-lent (ended eight codes d a) = refl
 on-lent (runs f found x codes) = in-frame-lent x
 
-on-sound : {T : Moment} {v : World} → On T v → All Sound (v .units)
+pub on-sound : {T : Moment} {v : World} → On T v → All Sound (v .units)
 on-sound (rests r eight codes d a) = all-map (λ st p. p .1) a
 on-sound (submitted f framed codes d a) = all-map (λ st p. p .1) a
 on-sound (ended eight codes d a) = all-map (λ st p. p .1) a
@@ -300,10 +300,10 @@ in-frame-low (sends i sender {units = units} framed d s l a) = bav-kept (sending
 in-frame-low (hears ear taken quiet {units = units} framed d l o) = bav-kept (hearing ear) units refl
 in-frame-low (waits quiet {units = units} framed d a why) = bav-kept (hearing Ready) units refl
 
-in-frame-step : {T : Moment} {f : Frame} {found : List ℕ} {w : World} → InFrame T f found w → (st : Station) (host : Bool) → Sound st → Stepped st (levels w) host (stationStep st (levels w) host)
+pub in-frame-step : {T : Moment} {f : Frame} {found : List ℕ} {w : World} → InFrame T f found w → (st : Station) (host : Bool) → Sound st → Stepped st (levels w) host (stationStep st (levels w) host)
 in-frame-step {w = w} x st host s = low-step st (levels w) host (in-frame-nibble x) (s .room) (in-frame-low x)
 
-changes-by : (T : Moment) (f : Frame) (found : List ℕ) (w : World) (host : Bool) → InFrame T f found w → ((st : Station) → Sound st → Stepped st (levels w) host (stationStep st (levels w) host))
+pub changes-by : (T : Moment) (f : Frame) (found : List ℕ) (w : World) (host : Bool) → InFrame T f found w → ((st : Station) → Sound st → Stepped st (levels w) host (stationStep st (levels w) host))
     → All (λ (st : Station). Changed (f .command) (dataOf f (w .lent)) st (stationStep st (levels w) host)) (w .units)
 changes-by T f found w host (begins {lent = lent} framed d a) step = all-map (λ st p. fresh-changes (f .command) (dataOf f lent) (step st (p .1)) (begin-high a) (p .0)) a
 changes-by T f found w host (sends i sender {units = units} {lent = lent} framed d s l a) step =
@@ -365,11 +365,11 @@ answered-past (Responding r j sender wait) e = responds
 answered-past (SittingOut last) e = sits-out
 
 -- Units that a round moves, by their codes.
-becomes-own : {seen : Lines} {hosts : ℕ} {ss : List Station} {P : Station → Type 0} {st after : Station} → All P ss → Becomes seen hosts ss st after → P st
+pub becomes-own : {seen : Lines} {hosts : ℕ} {ss : List Station} {P : Station → Type 0} {st after : Station} → All P ss → Becomes seen hosts ss st after → P st
 becomes-own (also p a) in-front = p
 becomes-own (also p a) (behind b) = becomes-own a b
 
-becomes-step : {seen : Lines} {hosts : ℕ} {ss : List Station} {st after : Station} → Becomes seen hosts ss st after → (busy : Bool) × (after ≡ stationStep st seen busy)
+pub becomes-step : {seen : Lines} {hosts : ℕ} {ss : List Station} {st after : Station} → Becomes seen hosts ss st after → (busy : Bool) × (after ≡ stationStep st seen busy)
 becomes-step {hosts = hosts} in-front = (isOdd hosts, refl)
 becomes-step (behind b) = becomes-step b
 
@@ -385,13 +385,13 @@ in-frame-different (sends i sender framed d s l a) = d
 in-frame-different (hears ear taken quiet framed d l o) = d
 in-frame-different (waits quiet framed d a why) = d
 
-on-different : {T : Moment} {v : World} → On T v → Different (v .units)
+pub on-different : {T : Moment} {v : World} → On T v → Different (v .units)
 on-different (rests r eight codes d a) = d
 on-different (submitted f framed codes d a) = d
 on-different (ended eight codes d a) = d
 on-different (runs f found x codes) = in-frame-different x
 
-rest-free : {stage : Stage} → AtRest stage → inFrame stage ≡ false
+pub rest-free : {stage : Stage} → AtRest stage → inFrame stage ≡ false
 rest-free is-free = refl
 rest-free is-resting = refl
 

@@ -3,3 +3,5 @@ pub mod Does
 pub mod Turns
 pub mod History
 pub mod Requests
+pub mod Handing
+pub mod OnTheBus

@@ -1,35 +1,30 @@
 -- A request stands until something ends it, and BAV is pulled for it as the retry rule says.
-use Prim.Native.Nat.{ℕ, zero, suc, _+_, _/_, _%_, _<_, _≤_, min}
+use Prim.Native.Nat.{ℕ, suc, _+_, _/_, _%_, _<_, _≤_, min}
 use native.Mathlib.Omega.{arith}
-use mathlib.Core.Path.{_≡_, refl, sym, _∙_, ap, subst}
+use mathlib.Core.Path.{_≡_, refl, sym, _∙_, ap}
 use mathlib.Core.Bool.{Bool, true, false, cond, not, _&&_, _||_, true≢false, false≢true}
 use mathlib.Core.List.{List, [], _∷_}
-use borrow.Author.Tests.{leb-true, leb-false, le-leb, lt-leb, eqb-true}
+use borrow.Author.Tests.{leb-true, leb-false, le-leb, lt-leb}
 use lib.Dec.{ltb, leb, eqb}
 use lib.ListN.{length, getD}
 use Rattle.bus.specs.Bus.{unitAfter}
 use Rattle.delivery.specs.Calls.{unitTaken}
 use Rattle.field.specs.Field.{byteFrom, valueOf}
 use Rattle.header.specs.declared.Command.{Command}
-use Rattle.header.specs.declared.Header.{Header}
-use Rattle.host.specs.Calls.{feeding, takenBy, isFed, raising}
-use Rattle.line.specs.Line.{sentOf, sendOf, takenOf, hearOf}
+use Rattle.host.specs.Calls.{takenBy, isFed}
+use Rattle.line.specs.Line.{sentOf, takenOf}
 use Rattle.line.specs.declared.Lines.{Lines}
-use Rattle.line.specs.declared.Listener.{Listener}
 use Rattle.line.specs.declared.Sender.{Sender}
-use Rattle.line.specs.declared.Sender.the-variants.{Next}
 use Rattle.message.specs.Answer.{gives, refused}
-use Rattle.message.specs.Nibbles.{nibbleIn}
-use Rattle.phase.specs.Phase.{phaseStep, moves, answered, storedData, withByte, isLast, byteStep, bufferWith}
+use Rattle.phase.specs.Phase.{phaseStep, storedData, withByte, isLast, bufferWith}
 use Rattle.phase.specs.declared.Moved.{Moved}
-use Rattle.phase.specs.declared.Partial.{Partial}
 use Rattle.phase.specs.declared.Phase.{Phase}
 use Rattle.phase.specs.declared.Phase.the-variants.{Idle, Selecting, Receiving, Responding, SittingOut}
 use Rattle.phase.specs.declared.Progress.the-variants.{Taking, Answered}
-use Rattle.queue.specs.Queue.{room, popped, held, contents}
+use Rattle.queue.specs.Queue.{room, popped, held}
 use Rattle.queue.specs.declared.Popped.{Popped}
 use Rattle.queue.specs.declared.Popped.the-variants.{Byte, Nothing}
-use Rattle.reply.specs.Reply.{lastNibble, responseBytes}
+use Rattle.reply.specs.Reply.{lastNibble}
 use Rattle.serial.specs.Serial.{applied, finished}
 use Rattle.serial.specs.declared.Effect.{Effect}
 use Rattle.serial.specs.declared.Effect.the-variants.{Keeps, Opens, Closes, Resets, Enables, Disables, Stores}
@@ -40,12 +35,11 @@ use Rattle.serial.specs.declared.Opening.the-variants.{Closed, OpenFor}
 use Rattle.serial.specs.declared.Reply.{Reply}
 use Rattle.serial.specs.declared.Reply.the-variants.{Silent, Status, Opened, Bytes, Polled}
 use Rattle.serial.specs.declared.Serial.{Serial}
-use Rattle.unit.specs.Calls.{stepping}
 use Rattle.unit.specs.Unit.{newUnit, lowStep, highStep, unitStep, asks, quietAfter}
 use Rattle.unit.specs.declared.Unit.{Unit}
-use Rattle.verdict.specs.Verdict.{says, status, verdictOf, commandBy, supported, openBy, readBy, writeBy, openedBy, pollBy, closedBy, acceptedOf, modeOf}
+use Rattle.verdict.specs.Verdict.{says, verdictOf, commandBy, supported, openBy, readBy, writeBy, openedBy, pollBy}
 use Rattle.verdict.specs.declared.Verdict.{Verdict}
-use Rattle.polling.specs.Requests.{UnitMove, steps, feeds, takes, raises, moved, movedAll, Ends, by-a-command, by-its-answer, Stands, stands, ends, Raised, RequestStands, isSeen, rowAfter, rowOf, unitSince, PullsBav, HoldsBav}
+use Rattle.polling.specs.Requests.{UnitMove, steps, feeds, takes, raises, moved, movedAll, by-a-command, by-its-answer, Stands, stands, ends, Raised, RequestStands, isSeen, rowAfter, rowOf, unitSince, PullsBav, HoldsBav}
 
 pub raised : Raised
 raised u e = rw e
@@ -112,14 +106,14 @@ or-true : (a b : Bool) → b ≡ true → (a || b) ≡ true
 or-true true b e = refl
 or-true false b e = e
 
-or-first : (a b : Bool) → a ≡ true → (a || b) ≡ true
+pub or-first : (a b : Bool) → a ≡ true → (a || b) ≡ true
 or-first true b e = refl
 or-first false b e = absurd (false≢true e)
 
 skip : (a : Bool) {b : Bool} → a ≡ false → (a || b) ≡ true → b ≡ true
 skip a {b} f e = sym (ap (λ (t : Bool). t || b) f) ∙ e
 
-only : (a b : Bool) → b ≡ false → (a || b) ≡ true → a ≡ true
+pub only : (a b : Bool) → b ≡ false → (a || b) ≡ true → a ≡ true
 only true b f e = refl
 only false b f e = absurd (false≢true (sym f ∙ e))
 

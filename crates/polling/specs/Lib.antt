@@ -2,3 +2,4 @@ pub mod Moves
 pub mod Turns
 pub mod History
 pub mod Requests
+pub mod Handing

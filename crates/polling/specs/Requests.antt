@@ -1,5 +1,5 @@
 -- Demand 3, the request: "a raised request is held, and pulls BAV, as document 01 says", at any line levels.
-use Prim.Native.Nat.{ℕ, suc, _<_, _≤_, min}
+use Prim.Native.Nat.{ℕ, suc}
 use mathlib.Core.Path.{_≡_}
 use mathlib.Core.Bool.{Bool, true, false, cond, not, _||_}
 use mathlib.Core.List.{List, [], _∷_}
