@@ -69,7 +69,7 @@ use Rattle.delivery.proofs.Stage.{sending, sent-nibble, shows, nibble-b
 use Rattle.delivery.proofs.Listening.{heard-nibble, still-nibble, hearing}
 use Rattle.delivery.proofs.Rest.{released, rest-nibble}
 use Rattle.bus.specs.Bus.{levelsWith}
-use Rattle.delivery.proofs.Frame.{frame-round, own-kept, begin-nibble, begin-high, one-bound}
+use Rattle.delivery.proofs.Frame.{frame-round, becomes-all, own-kept, begin-nibble, begin-high, one-bound}
 use Rattle.delivery.proofs.Lists.{all-map, one-all, all-zip, all-step, all-becomes, one-map}
 use Rattle.delivery.proofs.Rest.{on-round}
 use Rattle.delivery.proofs.Run.{on-called, in-frame-called}
@@ -277,7 +277,7 @@ ends-in (suc n) f found w h x =
     by (λ calls y l. ends-in n f found (calledAll (round w quietly) calls) (subst (λ (k : ℕ). k < n) (sym (all-left calls y)) l) (all-in calls y)) (frame-round Any f found quietly (λ st after b e now. refl) x)
   where
     by : ((calls : List Call) → InFrame Any f found (round w quietly) → left (round w quietly) < n → Ends n (calledAll (round w quietly) calls)) → Goes Any f found w quietly → Ends (suc n) w
-    by go (on r y less) = ends-later (λ calls. go calls y (let l = less refl in omega arith))
+    by go (on r y speaks less) = ends-later (λ calls. go calls y (let l = less refl in omega arith))
     by go (answered fin d o) = ends-now (over-rests f w (spoke-moved o .0) fin (spoke-moved o .1))
     by go (unanswered fin m b d a why still) = ends-now (over-rests f w nothingTaken fin m)
 
@@ -365,18 +365,14 @@ answered-past (Responding r j sender wait) e = responds
 answered-past (SittingOut last) e = sits-out
 
 -- Units that a round moves, by their codes.
-pub becomes-own : {seen : Lines} {hosts : ℕ} {ss : List Station} {P : Station → Type 0} {st after : Station} → All P ss → Becomes seen hosts ss st after → P st
-becomes-own (also p a) in-front = p
-becomes-own (also p a) (behind b) = becomes-own a b
-
 pub becomes-step : {seen : Lines} {hosts : ℕ} {ss : List Station} {st after : Station} → Becomes seen hosts ss st after → (busy : Bool) × (after ≡ stationStep st seen busy)
 becomes-step {hosts = hosts} in-front = (isOdd hosts, refl)
 becomes-step (behind b) = becomes-step b
 
 same-unit : {seen : Lines} {hosts : ℕ} {ss : List Station} {st after st′ after′ : Station} → Different ss → Becomes seen hosts ss st after → Becomes seen hosts ss st′ after′ → st .unit .own ≡ st′ .unit .own → (st ≡ st′) × (after ≡ after′)
 same-unit d in-front in-front e = (refl, refl)
-same-unit (another a d) in-front (behind b) e = absurd (becomes-own a b (sym e))
-same-unit (another a d) (behind b) in-front e = absurd (becomes-own a b e)
+same-unit (another a d) in-front (behind b) e = absurd (becomes-all a b (sym e))
+same-unit (another a d) (behind b) in-front e = absurd (becomes-all a b e)
 same-unit (another a d) (behind b) (behind b′) e = same-unit d b b′ e
 
 in-frame-different : {T : Moment} {f : Frame} {found : List ℕ} {w : World} → InFrame T f found w → Different (w .units)
@@ -432,9 +428,9 @@ took-past w _ q (a-call {v = v} r call) own s m t = past-call own call (every-ru
 not-again : (w v : World) → QuietStart w → (r : Run w v) (busy : Busy) (own : ℕ) (s : Serial) (m : List ℕ) → inFrame (v .controller .stage) ≡ true → Took r own s m
     → (st after : Station) → Becomes (levels v) (busy .there) (v .units) st after → isAnswered (st .unit .phase) ≡ false → isAnswered (after .unit .phase) ≡ true → st .unit .own ≡ own → ⊥
 not-again w v q r busy own s m i t st after b e now o =
-    let p = becomes-own (took-past w v q r own s m t) b o in
+    let p = becomes-all (took-past w v q r own s m t) b o in
     let k = becomes-step b in
-    let step = on-step (every-run w v q r) i st (k .0) (becomes-own (on-sound (every-run w v q r)) b) in
+    let step = on-step (every-run w v q r) i st (k .0) (becomes-all (on-sound (every-run w v q r)) b) in
     true≢false (sym now ∙ ap (λ (x : Station). isAnswered (x .unit .phase)) (k .1) ∙ ap isAnswered (step .phase) ∙ past-answered (st .unit .own) (st .unit .serial) (levels v) (k .0) (st .buffer) (st .input) p e)
 
 pub taken-once : TakenOnce

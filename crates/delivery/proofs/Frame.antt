@@ -37,21 +37,23 @@ use Rattle.phase.specs.Phase.{phaseStep}
 use Rattle.phase.specs.declared.Phase.{Phase}
 use Rattle.phase.specs.declared.Phase.the-variants.{Selecting}
 use Rattle.ring.specs.declared.Ring.{Ring}
+use Rattle.serial.specs.declared.Reply.{Reply}
+use Rattle.serial.specs.declared.Serial.{Serial}
 use Rattle.unit.specs.Unit.{pullsHsk, pullsNibble, lowStep, highStep}
 use Rattle.whole.specs.Whole.{bytesFor}
 use Rattle.whole.proofs.Whole.{length-bytes}
-use Rattle.delivery.specs.Stages.{Hushed, not-its-own, by-the-rule, addressed, Framed, Fresh, Goes, InFrame, Noted, Part, Sends, Sits, Sound, Spoke, Talk, answered, begins, hears, idles, listens, movedIn, on, s-next, selects, sends, unanswered, waits, world, talks, s-placed, s-kept}
+use Rattle.delivery.specs.Stages.{isResponding, Speaking, Hushed, not-its-own, by-the-rule, addressed, answers, sits, Framed, Fresh, Goes, InFrame, Noted, Part, Sends, Sits, Sound, Spoke, Talk, answered, begins, hears, idles, listens, movedIn, on, s-next, selects, sends, unanswered, waits, world, talks, s-placed, s-kept}
 use Rattle.delivery.specs.Ends.{place, phaseLeft, unitsLeft, listening, left, quietly}
-use Rattle.delivery.specs.Heard.{f-next, Heard, h-none}
+use Rattle.delivery.specs.Heard.{f-next, Heard, h-none, h-first, h-byte, h-half}
 use Rattle.delivery.specs.Lists.{All, One, none, also, this, that}
 use Rattle.delivery.specs.Promised.{Moment, Promised}
-use Rattle.delivery.specs.World.{World, Busy, levels, round, Different, nobody, another}
+use Rattle.delivery.specs.World.{World, Busy, levels, round, Becomes, in-front, behind, Different, nobody, another}
 use Rattle.delivery.proofs.Lines.{hsk-high, bav-kept, nibble-kept}
 use Rattle.delivery.proofs.Lists.{all-map, all-step}
 use Rattle.delivery.proofs.Ends.{free-step, part-lets-go}
 use Rattle.delivery.proofs.Talk.{talkLeft, talk-left, last-is as last-of, place-kept, place-some, place-most}
 use Rattle.reply.specs.Reply.{lastNibble as lastOf}
-use Rattle.delivery.proofs.Listening.{one-less, Heard′, goes-on, comes-to-its-end, heard-nibble, units-heard, still-nibble, still-hsk, units-sit, hearing}
+use Rattle.delivery.proofs.Listening.{sits-step, one-less, Heard′, goes-on, comes-to-its-end, heard-nibble, units-heard, still-nibble, still-hsk, units-sit, hearing}
 use Rattle.delivery.proofs.Part.{Stepped, low-step}
 use Rattle.delivery.proofs.Stage.{cond-length, sound-low, sends-on, sending, sent-nibble, units-rest, units-sent, units-over}
 use Rattle.delivery.proofs.Turned.{Answering, somebody, nobody-does, answering}
@@ -112,8 +114,54 @@ hushed-kept {T} {c} {d} seen hosts a = all-step seen (λ st busy p. by st busy p
     by st busy (not-its-own e) = not-its-own (ap (addressed c) (own-kept st seen busy) ∙ e)
     by st busy (by-the-rule given memory t e) = by-the-rule given memory (subst (λ (own : ℕ). T own given memory) (sym (own-kept st seen busy)) t) e
 
-go-on : {T : Moment} {f : Frame} {found : List ℕ} {w v : World} {busy : Busy} → round w busy ≡ v → v .controller .ring ≡ w .controller .ring → InFrame T f found v → (busy ≡ quietly → left v < left w) → Goes T f found w busy
-go-on {T} {f} {found} {w} eq r y less = on (ap (λ (x : World). x .controller .ring) eq ∙ r) (subst (InFrame T f found) (sym eq) y) (λ q. subst (λ (x : World). left x < left w) (sym eq) (less q))
+-- Who responds in a round.
+fresh-quiet : {st : Station} → Fresh st → isResponding (st .unit .phase) ≡ false
+fresh-quiet (idles e) = ap isResponding e
+fresh-quiet (selects e) = ap isResponding e
+
+heard-quiet : {bytes : List ℕ} {ear : Listener} {k : ℕ} {phase : Phase} {buffer : List ℕ} → Heard bytes ear k phase buffer → isResponding phase ≡ false
+heard-quiet (h-none room) = refl
+heard-quiet (h-first room) = refl
+heard-quiet (h-byte j buffer room g h) = refl
+heard-quiet (h-half j buffer room g h) = refl
+
+part-quiet : {P : Reply → Serial → List ℕ → Type 0} {c : Command} {d : List ℕ} {i : ℕ} {sender : Sender} {st : Station} → Part P c d i sender st → isResponding (st .unit .phase) ≡ false
+part-quiet (listens ear t f h a q) = heard-quiet h
+part-quiet (answers ear r f l a e k q) = ap isResponding e
+part-quiet (sits now a e k q) = ap isResponding e
+
+pub becomes-all : {seen : Lines} {hosts : ℕ} {ss : List Station} {P : Station → Type 0} {st after : Station} → All P ss → Becomes seen hosts ss st after → P st
+becomes-all (also p a) in-front = p
+becomes-all (also p a) (behind b) = becomes-all a b
+
+nobody-speaks : {seen : Lines} {hosts : ℕ} {ss : List Station} → All (λ (st : Station). isResponding (st .unit .phase) ≡ false) ss
+    → (st after : Station) → Becomes seen hosts ss st after → isResponding (st .unit .phase) ≡ true → isResponding (after .unit .phase) ≡ true
+nobody-speaks a st after b e = absurd (true≢false (sym e ∙ becomes-all a b))
+
+talk-responds : {T : Moment} {c : Command} {d : List ℕ} {stores : Bool} {found : List ℕ} {ear : Listener} {taken : Response} {quiet : ℕ} {buffer : List ℕ} {st : Station} → Talk T c d stores found ear taken quiet buffer st → isResponding (st .unit .phase) ≡ true
+talk-responds (talks r j t sender wait e p fits g b l w z q own) = ap isResponding e
+
+sits-quiet : {st : Station} → Sits st × Sound st → isResponding (st .unit .phase) ≡ false
+sits-quiet p = ap isResponding (p .0 .0)
+
+-- One unit responds before the round and one behind it: it is the same.
+module _ {P : Station → Type 0} (seen : Lines) (responds : (st : Station) → P st → isResponding (st .unit .phase) ≡ true) (rest : (st : Station) (host : Bool) → Sits st × Sound st → Sits (stationStep st seen host) × Sound (stationStep st seen host)) where
+  nobody-new : (hosts : ℕ) {ss : List Station} → All (λ (st : Station). Sits st × Sound st) ss → One P (λ (st : Station). Sits st × Sound st) (unitsAfter seen hosts ss) → ⊥
+  nobody-new hosts (also {x = st} p a) (this {x = after} q b) = true≢false (sym (responds after q) ∙ sits-quiet (rest st (isOdd hosts) p))
+  nobody-new hosts (also p a) (that q o) = nobody-new (hosts / 2) a o
+
+still-speaks : {Q P : Station → Type 0} (seen : Lines) (hosts : ℕ) → ((st : Station) → P st → isResponding (st .unit .phase) ≡ true) → ((st : Station) (host : Bool) → Sits st × Sound st → Sits (stationStep st seen host) × Sound (stationStep st seen host)) → {ss : List Station}
+    → One Q (λ (st : Station). Sits st × Sound st) ss → One P (λ (st : Station). Sits st × Sound st) (unitsAfter seen hosts ss)
+    → (st after : Station) → Becomes seen hosts ss st after → isResponding (st .unit .phase) ≡ true → isResponding (after .unit .phase) ≡ true
+still-speaks seen hosts responds rest (this p a) (this {x = x} q b) st after in-front e = responds x q
+still-speaks seen hosts responds rest (this p a) (this q b) st after (behind k) e = absurd (true≢false (sym e ∙ sits-quiet (becomes-all a k)))
+still-speaks seen hosts responds rest (this p a) (that q o) st after k e = absurd (nobody-new seen responds rest (hosts / 2) a o)
+still-speaks seen hosts responds rest (that {x = x} p o) (this {x = y} q b) st after k e = absurd (true≢false (sym (responds y q) ∙ sits-quiet (rest x (isOdd hosts) p)))
+still-speaks seen hosts responds rest (that p o) (that q o′) st after in-front e = absurd (true≢false (sym e ∙ sits-quiet p))
+still-speaks seen hosts responds rest (that p o) (that q o′) st after (behind k) e = still-speaks seen (hosts / 2) responds rest o o′ st after k e
+
+go-on : {T : Moment} {f : Frame} {found : List ℕ} {w v : World} {busy : Busy} → round w busy ≡ v → v .controller .ring ≡ w .controller .ring → InFrame T f found v → Speaking w busy → (busy ≡ quietly → left v < left w) → Goes T f found w busy
+go-on {T} {f} {found} {w} eq r y speaks less = on (ap (λ (x : World). x .controller .ring) eq ∙ r) (subst (InFrame T f found) (sym eq) y) speaks (λ q. subst (λ (x : World). left x < left w) (sym eq) (less q))
 
 -- The rounds that are left: the nibble under way comes nearer to being sent.
 place-less : {n : ℕ} {sender : Sender} (low now : Bool) → Sends n sender → sentOf sender low ≡ false → ((m : ℕ) → sender ≡ Kept m → now ≡ false) → place (sendOf sender low n) now < place sender low
@@ -199,7 +247,7 @@ module _ (T : Moment) (f : Frame) (found : List ℕ) (timeout : ℕ) (ring : Rin
       let ok = sound-low step (p .1) in (
         listens Ready 0 f-next (subst (λ (x : Phase). Heard (bytesFor c d) Ready 0 x (stationStep st seen host .buffer)) (sym (fresh-selects step high (p .0))) (h-none (ok .room))) (λ l. absurd (omega arith)) (λ l. absurd (omega arith)),
         ok,
-      )) (busy .there) a)) (λ q. begin-less (lastNibble f) (listening f timeout))
+      )) (busy .there) a)) (nobody-speaks (all-map (λ st p. fresh-quiet (p .0)) a)) (λ q. begin-less (lastNibble f) (listening f timeout))
 
   plain-one : {X : Station → Type 0} {taken : Response} {quiet : ℕ} {buffer : List ℕ} {ear : Listener} {ss : List Station}
       → One (λ (st : Station). (Talk T c d (isSubmitted (f .kind)) found ear taken quiet buffer st × X st) × Sound st) (λ (st : Station). Sits st × Sound st) ss
@@ -256,14 +304,14 @@ module _ (T : Moment) (f : Frame) (found : List ℕ) (timeout : ℕ) (ring : Rin
     send-round : (t u : Bool) → sentOf sender (seen .hsk) ≡ t → ltb i (lastNibble f) ≡ u → Goes T f found w busy
     send-round false u e g =
         let m : movedIn w busy ≡ stays whenNot = ap (λ (x : Bool). stays (cond x (nextNibble f i) whenNot)) e in
-        go-on (after (Sending f i sender false) whenNot found found small (framed .fits) refl m refl) refl (sends i (sendOf sender (seen .hsk) (nibbleIn (bytesFor c d) i)) framed (different-kept seen (busy .there) different) (sends-on (seen .hsk) s e) less (units-rest T c d (framed .sent) i sender units (busy .there) s a noted e less)) (λ q. send-less e (ap (λ (x : Busy). x .there) q))
+        go-on (after (Sending f i sender false) whenNot found found small (framed .fits) refl m refl) refl (sends i (sendOf sender (seen .hsk) (nibbleIn (bytesFor c d) i)) framed (different-kept seen (busy .there) different) (sends-on (seen .hsk) s e) less (units-rest T c d (framed .sent) i sender units (busy .there) s a noted e less)) (nobody-speaks (all-map (λ st p. part-quiet (p .0)) a)) (λ q. send-less e (ap (λ (x : Busy). x .there) q))
     send-round true true e g =
         let more : i < lastNibble f = ltb-true i (lastNibble f) g in
         let l = last-is in
         let next : i + 1 ≡ suc i = omega arith in
         let m : movedIn w busy ≡ stays (Sending f (suc i) Next false) =
         ap (λ (x : Bool). stays (cond x (nextNibble f i) whenNot)) e ∙ ap (λ (x : Bool). stays (cond x (Sending f (i + 1) Next false) (Listening f Ready nothingTaken 0))) g ∙ ap (λ (x : ℕ). stays (Sending f x Next false)) next in
-        go-on (after (Sending f i sender false) (Sending f (suc i) Next false) found found small (framed .fits) refl m refl) refl (sends (suc i) Next framed (different-kept seen (busy .there) different) s-next (omega arith) (units-sent T c d (framed .sent) i sender units (busy .there) s a e (omega arith))) (λ q. let some = place-some sender (seen .hsk) in omega arith)
+        go-on (after (Sending f i sender false) (Sending f (suc i) Next false) found found small (framed .fits) refl m refl) refl (sends (suc i) Next framed (different-kept seen (busy .there) different) s-next (omega arith) (units-sent T c d (framed .sent) i sender units (busy .there) s a e (omega arith))) (nobody-speaks (all-map (λ st p. part-quiet (p .0)) a)) (λ q. let some = place-some sender (seen .hsk) in omega arith)
     send-round true false e g =
         let least : lastNibble f ≤ i = ltb-false i (lastNibble f) g in
         let l = last-is in
@@ -275,8 +323,8 @@ module _ (T : Moment) (f : Frame) (found : List ℕ) (timeout : ℕ) (ring : Rin
       where
         turn : round w busy ≡ world timeout (Listening f Ready nothingTaken 0) ring (unitsAfter seen (busy .there) units) lent found → Different (unitsAfter seen (busy .there) units)
             → Answering T c d (isSubmitted (f .kind)) found (unitsAfter seen (busy .there) units) → Goes T f found w busy
-        turn eq d′ (somebody o) = go-on eq refl (hears Ready nothingTaken 0 framed d′ refl o) (λ q. one-less (left w) (timeout - 0) (one-bound f (let some = place-some sender (seen .hsk) in omega arith) o))
-        turn eq d′ (nobody-does b h) = go-on eq refl (waits 0 framed d′ b h) (λ q. let k = sits-left (levelsWith (hearing Ready) (unitsAfter seen (busy .there) units) .hsk) (timeout - 0) b in omega arith)
+        turn eq d′ (somebody o) = go-on eq refl (hears Ready nothingTaken 0 framed d′ refl o) (nobody-speaks (all-map (λ st p. part-quiet (p .0)) a)) (λ q. one-less (left w) (timeout - 0) (one-bound f (let some = place-some sender (seen .hsk) in omega arith) o))
+        turn eq d′ (nobody-does b h) = go-on eq refl (waits 0 framed d′ b h) (nobody-speaks (all-map (λ st p. part-quiet (p .0)) a)) (λ q. let k = sits-left (levelsWith (hearing Ready) (unitsAfter seen (busy .there) units) .hsk) (timeout - 0) b in omega arith)
 
   -- A round while one unit responds.
   module _ (ear : Listener) (taken : Response) (quiet : ℕ) (response : List ℕ) (long : length response ≡ length found) (o : One (λ (st : Station). Talk T c d (isSubmitted (f .kind)) found ear taken quiet response st × Sound st) (λ (st : Station). Sits st × Sound st) units) where
@@ -291,7 +339,7 @@ module _ (T : Moment) (f : Frame) (found : List ℕ) (timeout : ℕ) (ring : Rin
 
     hear-by : Heard′ T f d found (movedIn v busy) (listeningBuffer f ear taken (levels v) response) (busy .here) (unitsLeft units (levels v .hsk) (timeout - quiet)) units (unitsAfter (levels v) (busy .there) units) → Goes T f found v busy
     hear-by (goes-on ear′ taken′ quiet′ e o′) =
-        go-on (after (Listening f ear taken quiet) (Listening f ear′ taken′ quiet′) response (listeningBuffer f ear taken (levels v) response) heard-small as-lent refl e refl) refl (hears ear′ taken′ quiet′ framed (different-kept (levels v) (busy .there) different) (heard-length f ear taken (levels v) response ∙ long) (plain-one o′)) (λ q. one-less (left v) (timeout - quiet′) (free-one (ap (λ (x : Busy). x .here) q) o′))
+        go-on (after (Listening f ear taken quiet) (Listening f ear′ taken′ quiet′) response (listeningBuffer f ear taken (levels v) response) heard-small as-lent refl e refl) refl (hears ear′ taken′ quiet′ framed (different-kept (levels v) (busy .there) different) (heard-length f ear taken (levels v) response ∙ long) (plain-one o′)) (still-speaks (levels v) (busy .there) (λ st p. talk-responds (p .0)) (λ st host p. sits-step (levels v) (bav-kept (hearing ear) units refl) heard-small st host p) o (plain-one o′)) (λ q. one-less (left v) (timeout - quiet′) (free-one (ap (λ (x : Busy). x .here) q) o′))
     hear-by (comes-to-its-end o′) =
         let b : round v busy .response ≡ listeningBuffer f ear taken (levels v) response = control-buffer (v .controller) (levels v) (busy .here) lent response heard-small as-lent in
         answered (control (v .controller) (levels v) (busy .here) lent response heard-small as-lent refl) (different-kept (levels v) (busy .there) different)
@@ -323,7 +371,7 @@ module _ (T : Moment) (f : Frame) (found : List ℕ) (timeout : ℕ) (ring : Rin
         (control-buffer (u .controller) (levels u) (busy .here) lent found silent-small (framed .fits) ∙ same-buffer) (different-kept (levels u) (busy .there) different) (units-sit Ready (busy .there) units a) (hushed-kept (levels u) (busy .there) why) (all-map (λ st p. p .0) a)
     wait-round false e =
         let m : movedIn u busy ≡ stays (Listening f Ready nothingTaken (quiet + 1)) = waited-on ∙ ap (λ (x : Bool). cond (x || false) (over f nothingTaken) (stays (Listening f Ready nothingTaken (quiet + 1)))) e in
-        go-on (after (Listening f Ready nothingTaken quiet) (Listening f Ready nothingTaken (quiet + 1)) found found silent-small (framed .fits) refl m same-buffer) refl (waits (quiet + 1) framed (different-kept (levels u) (busy .there) different) (units-sit Ready (busy .there) units a) (hushed-kept (levels u) (busy .there) why)) (λ q.
+        go-on (after (Listening f Ready nothingTaken quiet) (Listening f Ready nothingTaken (quiet + 1)) found found silent-small (framed .fits) refl m same-buffer) refl (waits (quiet + 1) framed (different-kept (levels u) (busy .there) different) (units-sit Ready (busy .there) units a) (hushed-kept (levels u) (busy .there) why)) (nobody-speaks (all-map (λ st p. ap isResponding (p .0 .0)) a)) (λ q.
         let old = sits-left (levels u .hsk) (timeout - quiet) a in
         let new = sits-left (levelsWith (hearing Ready) (unitsAfter (levels u) (busy .there) units) .hsk) (timeout - (quiet + 1)) (units-sit Ready (busy .there) units a) in
         let less : quiet + 1 < timeout = leb-less timeout (quiet + 1) e in

@@ -235,11 +235,11 @@ frame-device (hears ear taken quiet framed d l o) = framed .sent .fields .device
 frame-device (waits quiet framed d a why) = framed .sent .fields .device
 
 pub spoke-moved : {T : Moment} {f : Frame} {d found : List ℕ} {m : Moved} {buffer : List ℕ} {old ss : List Station} → One (λ (st : Station). Spoke T f d found m buffer old st × Sound st) (λ (st : Station). Sits st × Sound st) ss → (r : Response) × (m ≡ over f r)
-spoke-moved (this (spoke r before has own a p e b serial input x, y) all) = (Complete (replyStatus r) (length (answerData p)), e)
+spoke-moved (this (spoke r j sender before has k own a p e b serial input x, y) all) = (Complete (replyStatus r) (length (answerData p)), e)
 spoke-moved (that q o) = spoke-moved o
 
 spoke-sits : {T : Moment} {f : Frame} {d found : List ℕ} {m : Moved} {buffer : List ℕ} {old : List Station} (st : Station) → Spoke T f d found m buffer old st × Sound st → Sits st × Sound st
-spoke-sits st (spoke r before has own a p e b serial input x, y) = (x, y)
+spoke-sits st (spoke r j sender before has k own a p e b serial input x, y) = (x, y)
 
 finish : {T : Moment} (f : Frame) (found : List ℕ) (w : World) (busy : Busy) (r : Response) → InFrame T f found w → Codes (w .controller .ring) → Finishes w busy → movedIn w busy ≡ over f r → Different (round w busy .units) → All (λ (st : Station). Sits st × Sound st) (round w busy .units) → On T (round w busy)
 finish {T} f found w busy r x codes fin m d a =
@@ -250,7 +250,7 @@ finish {T} f found w busy r x codes fin m d a =
     subst (On T) (sym eq) (ended (frame-timeout x) (codes-ended (w .controller .ring) codes f (statusOf r) (frame-device x)) d a)
 
 frame-on : {T : Moment} (f : Frame) (found : List ℕ) (w : World) (busy : Busy) → InFrame T f found w → Codes (w .controller .ring) → Goes T f found w busy → On T (round w busy)
-frame-on f found w busy x codes (on r y less) = runs f found y (subst Codes (sym r) codes)
+frame-on f found w busy x codes (on r y speaks less) = runs f found y (subst Codes (sym r) codes)
 frame-on f found w busy x codes (answered fin d o) = let m = spoke-moved o in finish f found w busy (m .0) x codes fin (m .1) d (one-all spoke-sits (λ st p. p) o)
 frame-on f found w busy x codes (unanswered fin m b d a why still) = finish f found w busy nothingTaken x codes fin m d a
 

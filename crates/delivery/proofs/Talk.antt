@@ -147,7 +147,7 @@ pub data Talked (T : Moment) (f : Frame) (d : List ℕ) (found : List ℕ) (m : 
       (ear : Listener) (taken : Response) (quiet : ℕ) → m ≡ stays (Listening f ear taken quiet) → Talk T (f .command) d (isSubmitted (f .kind)) found ear taken quiet buffer st → (host ≡ false → talkLeft ear st < most)
       → Talked T f d found m buffer host most before st
   done :
-      (r : Reply) (p : Promised (T (before .unit .own)) (f .command) d r (before .unit .serial) (before .input)) → m ≡ over f (Complete (replyStatus r) (length (answerData p)))
+      (r : Reply) (j : ℕ) (sender : Sender) → before .unit .phase ≡ Responding r j sender false → (p : Promised (T (before .unit .own)) (f .command) d r (before .unit .serial) (before .input)) → m ≡ over f (Complete (replyStatus r) (length (answerData p)))
       → buffer ≡ received (isSubmitted (f .kind)) (answerData p) found → st .unit .phase ≡ SittingOut false → st .unit .serial ≡ finished (before .unit .serial) r → st .unit .asking ≡ false
       → st .unit .own ≡ before .unit .own → st .input ≡ before .input → addressed (f .command) (before .unit .own) ≡ true
       → Talked T f d found m buffer host most before st
@@ -336,7 +336,7 @@ module _ (T : Moment) (f : Frame) (d found : List ℕ) (timeout : ℕ) (eight : 
           ∙ ap (λ (x : Bool). cond x (moves (Responding r (j + 1) Next false) (st .unit .serial)) (moves (SittingOut false) (finished (st .unit .serial) r)) .serial) m in
           let full : waited f Ready (Complete (replyStatus r) (length (answerData p))) timeout 1 ≡ over f (Complete (replyStatus r) (length (answerData p))) =
           ap (λ (x : Bool). cond (x || true) (over f (Complete (replyStatus r) (length (answerData p)))) (stays (Listening f Ready (Complete (replyStatus r) (length (answerData p))) 1))) (lt-leb timeout 1 (omega arith)) in
-          done r p (listened ∙ ap (λ (x : Response). waited f Ready x timeout 1) all ∙ full)
+          done r j sender e p (listened ∙ ap (λ (x : Response). waited f Ready x timeout 1) all ∙ full)
           (buffer-kept ear taken buffer a ∙ b ∙ ap (λ (x : ℕ). storedAt (answerBytes p) limit stores x found) k ∙ data-received (answerData p) (replyStatus r) limit stores found (p .fits) room) phase serial (not-asking q) (step .own) (step .input) own
 
     talks-on : Talked T f d found (after ear taken quiet) (buffer-after ear taken buffer) host (talkLeft ear st) st st′

@@ -114,7 +114,7 @@ pub data Talk (T : Moment) (c : Command) (d : List ℕ) (stores : Bool) (found :
 -- waited for the last nibble is done to the state that it was in.
 pub data Spoke (T : Moment) (f : Frame) (d found : List ℕ) (m : Moved) (buffer : List ℕ) (ss : List Station) (st : Station) : Type 0 where
   spoke :
-      (r : Reply) (before : Station) → Has before ss → st .unit .own ≡ before .unit .own → addressed (f .command) (before .unit .own) ≡ true
+      (r : Reply) (j : ℕ) (sender : Sender) (before : Station) → Has before ss → before .unit .phase ≡ Responding r j sender false → st .unit .own ≡ before .unit .own → addressed (f .command) (before .unit .own) ≡ true
       → (p : Promised (T (before .unit .own)) (f .command) d r (before .unit .serial) (before .input))
       → m ≡ over f (Complete (replyStatus r) (length (answerData p))) → buffer ≡ received (isSubmitted (f .kind)) (answerData p) found
       → st .unit .serial ≡ finished (before .unit .serial) r → st .input ≡ before .input → Sits st → Spoke T f d found m buffer ss st
@@ -138,6 +138,17 @@ isAnswered (Receiving ear (Taking p)) = false
 isAnswered (Receiving ear (Answered r)) = true
 isAnswered (Responding reply i sender wait) = false
 isAnswered (SittingOut last) = false
+
+-- A unit that responds, and that whoever responds goes on to: no response is done in this round.
+abbrev pub isResponding : Phase → Bool
+isResponding Idle = false
+isResponding (Selecting ear half low) = false
+isResponding (Receiving ear progress) = false
+isResponding (Responding reply i sender wait) = true
+isResponding (SittingOut last) = false
+
+abbrev pub Speaking : World → Busy → Type 0
+Speaking w busy = (st after : Station) → Becomes (levels w) (busy .there) (w .units) st after → isResponding (st .unit .phase) ≡ true → isResponding (after .unit .phase) ≡ true
 
 -- T is known of each unit that takes the last nibble in this round.
 abbrev pub Noted : Moment → World → Busy → Type 0
@@ -171,7 +182,7 @@ abbrev pub Finishes : World → Busy → Type 0
 Finishes w busy = round w busy .controller ≡ controllerOf (w .controller .timeout) (movedIn w busy .stage) (ringAfter (w .controller .ring) (movedIn w busy .end))
 
 pub data Goes (T : Moment) (f : Frame) (found : List ℕ) (w : World) (busy : Busy) : Type 0 where
-  on : round w busy .controller .ring ≡ w .controller .ring → InFrame T f found (round w busy) → (busy ≡ quietly → left (round w busy) < left w) → Goes T f found w busy
+  on : round w busy .controller .ring ≡ w .controller .ring → InFrame T f found (round w busy) → Speaking w busy → (busy ≡ quietly → left (round w busy) < left w) → Goes T f found w busy
   answered :
       Finishes w busy → Different (round w busy .units)
       → One (λ (st : Station). Spoke T f (dataOf f (w .lent)) found (movedIn w busy) (round w busy .response) (w .units) st × Sound st) (λ (st : Station). Sits st × Sound st) (round w busy .units)

@@ -16,6 +16,8 @@ use Rattle.controller.specs.declared.Controller.{Controller}
 use Rattle.frame.specs.Frame.{submittedFrame, frameStep, lentAt, nextNibble, waited, over, stays, quietAfter, ends, restStep, lastNibble}
 use Rattle.frame.specs.declared.End.the-variants.{NotYet, Over}
 use Rattle.frame.specs.declared.Frame.{Frame}
+use Rattle.frame.specs.declared.Kind.{Kind}
+use Rattle.frame.specs.declared.Kind.the-variants.{Submitted, Poll, Null}
 use Rattle.frame.specs.declared.Lent.{Lent}
 use Rattle.frame.specs.declared.Lent.the-variants.{Fits, Data, Buffer}
 use Rattle.frame.specs.declared.Moved.{Moved}
@@ -32,6 +34,12 @@ use Rattle.turn.specs.declared.Event.{Event}
 use Rattle.turn.specs.declared.Event.the-variants.{Nothing}
 use Rattle.polling.specs.Moves.{Move, steps, submits, acknowledges, after, running, isBegun, begins, isFor, told, eventOf}
 use Rattle.polling.specs.History.{isDone, anyFor, settles}
+
+-- A poll's frame.
+abbrev pub isPoll : Kind → Bool
+isPoll Submitted = false
+isPoll Poll = true
+isPoll Null = false
 
 -- The frame that a stage has, submitted or running.
 abbrev pub held : Stage → List Frame
@@ -52,7 +60,7 @@ Unsettled c m = (own : ℕ) → settles own c m ≡ false
 
 pub data Does (c : Controller) (m : Move) : Type 0 where
   keeps : after c m .ring ≡ c .ring → begins c m ≡ false → eventOf c m ≡ Nothing → Unsettled c m → Onward (c .stage) (after c m .stage) → Does c m
-  accepts : (k : Command) (n : ℕ) → after c m .ring ≡ c .ring → begins c m ≡ false → eventOf c m ≡ Nothing → Unsettled c m → isShutOut k (c .ring) ≡ false → after c m .stage ≡ Waiting (submittedFrame k n) → Does c m
+  accepts : (k : Command) (n : ℕ) → after c m .ring ≡ c .ring → begins c m ≡ false → eventOf c m ≡ Nothing → Unsettled c m → isShutOut k (c .ring) ≡ false → eqb (k .command) 0x0A ≡ false → after c m .stage ≡ Waiting (submittedFrame k n) → Does c m
   serves : begins c m ≡ true → eventOf c m ≡ Nothing → Unsettled c m → 0 < counted (c .ring) → after c m ≡ service c → Does c m
   frame-ends :
       (f : Frame) (status count : ℕ) → running (c .stage) ≡ f ∷ [] → held (c .stage) ≡ f ∷ [] → begins c m ≡ false → eventOf c m ≡ frameEvent f status count
@@ -175,10 +183,10 @@ steps-do c seen busy lent response false Data e g = refused-does c seen busy len
 steps-do c seen busy lent response false Buffer e g = refused-does c seen busy lent response 11 (rw (e, g))
 
 -- Submissions and acknowledgements.
-accepted-does : (c : Controller) (k : Command) (n room : ℕ) → submitting c k n room ≡ gives done → isShutOut k (c .ring) ≡ false → Does c (submits k n room)
-accepted-does c k n room e out =
+accepted-does : (c : Controller) (k : Command) (n room : ℕ) → submitting c k n room ≡ gives done → isShutOut k (c .ring) ≡ false → eqb (k .command) 0x0A ≡ false → Does c (submits k n room)
+accepted-does c k n room e out poll =
     let a : after c (submits k n room) ≡ withCommand c k n = ap (λ (x : Answer Done). kept x (withCommand c k n) c) e in
-    accepts k n (ap (λ (x : Controller). x .ring) a) (ap (λ (x : Controller). isIdle (c .stage) && isBegun (running (x .stage))) a ∙ and-false (isIdle (c .stage))) refl (λ own. refl) out (ap (λ (x : Controller). x .stage) a)
+    accepts k n (ap (λ (x : Controller). x .ring) a) (ap (λ (x : Controller). isIdle (c .stage) && isBegun (running (x .stage))) a ∙ and-false (isIdle (c .stage))) refl (λ own. refl) out poll (ap (λ (x : Controller). x .stage) a)
 
 submit-refused : (c : Controller) (k : Command) (n room j : ℕ) → submitting c k n room ≡ refused j → Does c (submits k n room)
 submit-refused c k n room j e = unchanged c (submits k n room) (ap (λ (x : Answer Done). kept x (withCommand c k n) c) e) refl (λ own. refl)
@@ -189,7 +197,7 @@ submits-do c k n room true true q r s e0 e1 e2 e3 e4 = submit-refused c k n room
 submits-do c k n room true false true r s e0 e1 e2 e3 e4 = submit-refused c k n room 3 (rw (e0, e1, e2))
 submits-do c k n room true false false true s e0 e1 e2 e3 e4 = submit-refused c k n room 4 (rw (e0, e1, e2, e3))
 submits-do c k n room true false false false true e0 e1 e2 e3 e4 = submit-refused c k n room 11 (rw (e0, e1, e2, e3, e4))
-submits-do c k n room true false false false false e0 e1 e2 e3 e4 = accepted-does c k n room (rw (e0, e1, e2, e3, e4)) e3
+submits-do c k n room true false false false false e0 e1 e2 e3 e4 = accepted-does c k n room (rw (e0, e1, e2, e3, e4)) e3 e2
 
 acknowledges-do : (c : Controller) (code : ℕ) (t : Bool) → isMarked code (live (c .ring)) ≡ t → Does c (acknowledges code)
 acknowledges-do c code true e =

@@ -26,7 +26,7 @@ use Rattle.turn.specs.declared.Event.the-variants.{Nothing, Ended, Handed}
 use Rattle.polling.specs.Handing.{Starts, PollEnds, HandsOnly}
 use Rattle.polling.specs.History.{since}
 use Rattle.polling.specs.Moves.{Move, steps, after, afterAll, running, isBegun, told, eventOf}
-use Rattle.polling.proofs.Does.{held, Onward, same-frame, no-more, Does, keeps, accepts, serves, frame-ends, clears, does}
+use Rattle.polling.proofs.Does.{isPoll, held, Onward, same-frame, no-more, Does, keeps, accepts, serves, frame-ends, clears, does}
 use Rattle.controller.specs.Controller.{newController}
 
 -- An idle stage is free, so nothing that is lent can be refused.
@@ -49,13 +49,10 @@ pub poll-ends : PollEnds
 poll-ends c seen busy lent response code status count goes i e = ap told goes ∙ rw i (ap eventAfter e)
 
 -- A poll under way is the poll of its code.
-abbrev pub isPoll : Kind → Bool
-isPoll Submitted = false
-isPoll Poll = true
-isPoll Null = false
-
-abbrev Shape : Frame → Type 0
-Shape f = isPoll (f .kind) ≡ true → f ≡ pollOf (f .command .device)
+pub data Shape (f : Frame) : Type 0 where
+  a-command : f .kind ≡ Submitted → eqb (f .command .command) 0x0A ≡ false → Shape f
+  a-poll : (code : ℕ) → f ≡ pollOf code → Shape f
+  a-null : f ≡ nullFrame → Shape f
 
 abbrev Shapes : List Frame → Type 0
 Shapes [] = Unit
@@ -65,8 +62,8 @@ turn-shape : (e : Entry) → Shape (turnOf e)
 turn-shape e = by (e .marked)
   where
     by : (t : Bool) → Shape (cond t nullFrame (pollOf (e .code)))
-    by true x = absurd (false≢true x)
-    by false x = refl
+    by true = a-null refl
+    by false = a-poll (e .code) refl
 
 onward-shape : {old new : Stage} → Onward old new → Shapes (held old) → Shapes (held new)
 onward-shape (same-frame e) s = subst Shapes (sym e) s
@@ -77,7 +74,7 @@ shape-after c m s = by (does c m)
   where
     by : Does c m → Shapes (held (after c m .stage))
     by (keeps ring b v u o) = onward-shape o s
-    by (accepts k n ring b v u out st) = subst (λ (x : Stage). Shapes (held x)) (sym st) (λ x. absurd (false≢true x))
+    by (accepts k n ring b v u out poll st) = subst (λ (x : Stage). Shapes (held x)) (sym st) (a-command refl poll)
     by (serves b v u some e) = subst (λ (x : Controller). Shapes (held (x .stage))) (sym e) (turn-shape (getD (live (c .ring)) 0 none))
     by (frame-ends f status count r g b v u ring z) = subst Shapes (sym z) tt
     by (clears code x marked b v u ring st) = subst (λ (y : Stage). Shapes (held y)) (sym st) s
@@ -110,6 +107,11 @@ hands-by Poll c status count code e = by (eqb status 0x00) refl
     by true x = (refl, (ap codeIn (sym (ap (λ (t : Bool). cond t (Handed (c .device)) Nothing) x) ∙ e), eqb-true status 0x00 x))
     by false x = absurd (false≢true (ap isHand (sym (ap (λ (t : Bool). cond t (Handed (c .device)) Nothing) x) ∙ e)))
 
+pub poll-shape : (f : Frame) (code : ℕ) → Shape f → isPoll (f .kind) ≡ true → f .command .device ≡ code → f ≡ pollOf code
+poll-shape f code (a-command k n) p d = absurd (false≢true (sym (ap isPoll k) ∙ p))
+poll-shape f code (a-poll c e) p d = e ∙ ap pollOf (sym (ap (λ (x : Frame). x .command .device) e) ∙ d)
+poll-shape f code (a-null e) p d = absurd (false≢true (sym (ap (λ (x : Frame). isPoll (x .kind)) e) ∙ p))
+
 pub hands-only : HandsOnly
 hands-only timeout ms m code e = by (does (since timeout ms) m)
   where
@@ -118,10 +120,9 @@ hands-only timeout ms m code e = by (does (since timeout ms) m)
 
     by : Does (since timeout ms) m → running (since timeout ms .stage) ≡ pollOf code ∷ []
     by (keeps ring b v u o) = nothing v
-    by (accepts k n ring b v u out st) = nothing v
+    by (accepts k n ring b v u out poll st) = nothing v
     by (serves b v u some x) = nothing v
     by (clears k x marked b v u ring st) = nothing v
     by (frame-ends f status count r g b v u ring z) =
         let h = hands-by (f .kind) (f .command) status count code (sym v ∙ e) in
-        let s : f ≡ pollOf (f .command .device) = subst Shapes g (shape-since timeout ms) (h .0) in
-        r ∙ ap (λ (x : Frame). x ∷ []) (s ∙ ap pollOf (h .1 .0))
+        r ∙ ap (λ (x : Frame). x ∷ []) (poll-shape f code (subst Shapes g (shape-since timeout ms)) (h .0) (h .1 .0))

@@ -26,7 +26,7 @@ use Rattle.turn.specs.declared.Event.{Event}
 use Rattle.turn.specs.declared.Event.the-variants.{Nothing, Ended, Handed}
 use Rattle.polling.specs.Moves.{Move, after, afterAll, inRing, isFor, eventOf}
 use Rattle.polling.specs.History.{isHanded, isDone, settles, pending, pendingFrom, since, isPending, Marks, PollOrNull, PollNibbles, NullNibbles, marksOf, Once, Joins}
-use Rattle.polling.proofs.Does.{held, Onward, same-frame, no-more, Does, keeps, accepts, serves, frame-ends, clears, does}
+use Rattle.polling.proofs.Does.{isPoll, held, Onward, same-frame, no-more, Does, keeps, accepts, serves, frame-ends, clears, does}
 use Rattle.polling.proofs.Turns.{short-joined, short-removed, short-marked, short-turned}
 
 -- Marks of a unit's entries, behind each thing that can be done to the ring.
@@ -173,11 +173,6 @@ module _ (own : ℕ) where
   agrees-mark {p} {l} (inside g) = marks-marked l ∙ ap headOf g
 
   -- What is known of a frame under way: a poll of the unit finds it in the ring, and so does an enabling, or room for it.
-  abbrev isPoll : Kind → Bool
-  isPoll Submitted = false
-  isPoll Poll = true
-  isPoll Null = false
-
   pub record Aboard (l : List Entry) (f : Frame) : Type 0 where
     pub polls : isPoll (f .kind) ≡ true → f .command .device ≡ own → isSome (marksOf own l) ≡ true
     pub enables : isPoll (f .kind) ≡ false → f .command .command ≡ 0x08 → f .command .device ≡ own → isSome (marksOf own l) ≡ false → length l < 16
@@ -323,7 +318,7 @@ module _ (own : ℕ) where
         aboard = onward-aboard (live (after c m .ring)) o (subst (λ (l : List Entry). Aboards l (held (c .stage))) (sym (entries ring)) (ok .aboard));
         full = subst Full (sym ring) (ok .full);
       }
-      by (accepts k n ring b v u out st) = record {
+      by (accepts k n ring b v u out poll st) = record {
         agrees = as-was (same-history p c m v (u own)) (entries ring) (ok .agrees);
         aboard = subst (λ (s : Stage). Aboards (live (after c m .ring)) (held s)) (sym st) (subst (λ (l : List Entry). Aboard l (submittedFrame k n)) (sym (entries ring)) (record { polls = λ x y. absurd (false≢true x); enables = λ x y z w. room k y z w out }));
         full = subst Full (sym ring) (ok .full);
@@ -422,7 +417,7 @@ poll-or-null own timeout ms m b i z = by (does (since timeout ms) m)
   where
     by : Does (since timeout ms) m → after (since timeout ms) m .stage ≡ begun (cond (isPending own timeout ms) nullFrame (pollOf own))
     by (keeps ring none-begins v u o) = absurd (true≢false (sym b ∙ none-begins))
-    by (accepts k n ring none-begins v u out st) = absurd (true≢false (sym b ∙ none-begins))
+    by (accepts k n ring none-begins v u out poll st) = absurd (true≢false (sym b ∙ none-begins))
     by (serves x v u some e) = ap (λ (x : Controller). x .stage) e ∙ ap (λ (x : Entry). begun (turnOf x)) (front-mark own (isPending own timeout ms) (live (since timeout ms .ring)) (ok-since own timeout ms .agrees) i z)
     by (frame-ends f status count r g none-begins v u ring e) = absurd (true≢false (sym b ∙ none-begins))
     by (clears code x marked none-begins v u ring st) = absurd (true≢false (sym b ∙ none-begins))
@@ -468,7 +463,7 @@ joins-ring own timeout ms m f count nonzero run (kind, (command, device)) told =
 
     by : Does (since timeout ms) m → inRing own (after (since timeout ms) m) ≡ true
     by (keeps ring none-begins v u o) = nothing v
-    by (accepts k n ring none-begins v u out st) = nothing v
+    by (accepts k n ring none-begins v u out poll st) = nothing v
     by (serves x v u some e) = nothing v
     by (clears code x marked none-begins v u ring st) = nothing v
     by (frame-ends g status n r h none-begins v u ring z) =
@@ -486,4 +481,4 @@ joins-ring own timeout ms m f count nonzero run (kind, (command, device)) told =
         ∙ ap (λ (t : Bool). cond t (ringOf (joined (g .command .device) l)) (cond (eqb (g .command .command) 0x09 || eqb (g .command .command) 0x01) (ringOf (removed (g .command .device) l)) (since timeout ms .ring))) (eq-eqb (g .command .command) 0x08 command-g)
         ∙ ap (λ (k : ℕ). ringOf (joined k l)) device-g in
         ap (λ (x : Ring). isIn own (live x)) new ∙ ap (isIn own) (live-ring (joined own l) (short-joined own (since timeout ms .ring)))
-        ∙ joined-in own l nonzero (λ w. under .enables (ap (isPoll own) kind-g) command-g device-g w)
+        ∙ joined-in own l nonzero (λ w. under .enables (ap isPoll kind-g) command-g device-g w)

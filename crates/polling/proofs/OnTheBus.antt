@@ -21,10 +21,10 @@ use Rattle.delivery.specs.Lists.{All, none, also, One, this, that}
 use Rattle.delivery.specs.Promised.{Moment, replyFor}
 use Rattle.delivery.specs.Stages.{On, rests, submitted, ended, runs, InFrame, Goes, on, answered, unanswered, Spoke, spoke, Hushed, not-its-own, by-the-rule, addressed, movedIn, Sound, Sits, answerData, begins, sends, hears, waits, AtRest, is-free, is-resting}
 use Rattle.delivery.specs.World.{World, Busy, levels, round, Becomes, in-front, behind}
-use Rattle.delivery.proofs.Demand2.{every-run, every-response, every-step, taken-once, frame-runs, on-sound, becomes-own}
+use Rattle.delivery.proofs.Demand2.{every-run, every-response, every-step, taken-once, frame-runs, on-sound}
 use Rattle.delivery.proofs.Lists.{all-map, all-step}
 use Rattle.delivery.proofs.Calls.{called as unit-called}
-use Rattle.delivery.proofs.Frame.{own-kept}
+use Rattle.delivery.proofs.Frame.{own-kept, becomes-all}
 use Rattle.delivery.proofs.Run.{frame-busy}
 use Rattle.frame.specs.Frame.{pollOf, over, lentAt}
 use Rattle.frame.specs.declared.Frame.{Frame}
@@ -151,7 +151,7 @@ every-served w _ q (a-call {v = v} r (acknowledgesTo code h)) = every-served w v
 
 took-served : (w v : World) → QuietStart w → (r : Run w v) (own : ℕ) (s : Serial) (m : List ℕ) → Took r own s m → Served s
 took-served w v q start own s m t = absurd t
-took-served w _ q (a-round {v = v} r busy) own s m (takes-it st after b e now o x y) = subst Served x (becomes-own (every-served w v q r) b)
+took-served w _ q (a-round {v = v} r busy) own s m (takes-it st after b e now o x y) = subst Served x (becomes-all (every-served w v q r) b)
 took-served w _ q (a-round {v = v} r busy) own s m (took-it i t) = took-served w v q r own s m t
 took-served w _ q (a-call {v = v} r call) own s m t = took-served w v q r own s m t
 
@@ -248,7 +248,7 @@ spoken : (w v : World) → QuietStart w → (r : Run w v) (busy : Busy) (own : �
     → One (λ (st : Station). Spoke (Took (a-round r busy)) (pollOf own) [] found (movedIn v busy) buffer (v .units) st × Sound st) (λ (st : Station). Sits st × Sound st) ss
     → Said r busy own
 spoken w v q r busy own found x (that p o) = spoken w v q r busy own found x o
-spoken w v q r busy own found x (this (spoke reply before has e a p m b serial input s, y) all) = record {
+spoken w v q r busy own found x (this (spoke reply j sender before has k e a p m b serial input s, y) all) = record {
   speaker = before .unit .own;
   addresses = a;
   state = p .given;
@@ -282,7 +282,7 @@ polled-hands w v own q r nonzero run busy ends s m took request = by (runs-it (p
         told ∙ ap (λ (k : ℕ). frameEvent (pollOf own) k 0) (both (t .enabled) (t .requesting) (ap (λ (x : Serial). x .enabled) e ∙ served) there)
 
     goes : (found : List ℕ) → InFrame (Took r) (pollOf own) found v → Goes (Took (a-round r busy)) (pollOf own) found v busy → toldIn v busy ≡ Handed own
-    goes found x (on ring y less) = absurd (false≢true (sym ends ∙ frame-runs y))
+    goes found x (on ring y speaks less) = absurd (false≢true (sym ends ∙ frame-runs y))
     goes found x (answered fin d o) =
         let k = spoken w v q r busy own found x o in
         let mine : k .speaker ≡ own = addressed-own (pollOf own .command) (k .speaker) nonzero (k .addresses) in
@@ -310,7 +310,7 @@ handed-ends c m code e = by (does c m)
 
     by : Does c m → held (after c m .stage) ≡ []
     by (keeps ring b v u o) = nothing v
-    by (accepts k n ring b v u out st) = nothing v
+    by (accepts k n ring b v u out poll st) = nothing v
     by (serves b v u some x) = nothing v
     by (clears k x marked b v u ring st) = nothing v
     by (frame-ends f status count r g b v u ring z) = z
@@ -349,7 +349,7 @@ handed-held w v code q r busy e = by (runs-it (pollOf code) (every-run w v q r) 
         }
 
     goes : (found : List ℕ) → InFrame (Took r) (pollOf code) found v → Goes (Took (a-round r busy)) (pollOf code) found v busy → HeldWhenPolled r busy code
-    goes found x (on ring y less) = absurd (false≢true (sym (rest-of (round v busy .controller .stage) (handed-ends (v .controller) (moveOf v busy) code e)) ∙ frame-runs y))
+    goes found x (on ring y speaks less) = absurd (false≢true (sym (rest-of (round v busy .controller .stage) (handed-ends (v .controller) (moveOf v busy) code e)) ∙ frame-runs y))
     goes found x (answered fin d o) = held-by (spoken w v q r busy code found x o)
     goes found x (unanswered fin m b d a why still) = absurd (false≢true (ap isHand (sym (frame-told w v q r busy x nothingTaken m) ∙ e)))
 

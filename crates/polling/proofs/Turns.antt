@@ -18,7 +18,8 @@ use Rattle.ring.specs.declared.Entry.{Entry}
 use Rattle.ring.specs.declared.Ring.{Ring}
 use Rattle.ring.proofs.Laws.{live-ring, live-below}
 use Rattle.turn.specs.Turn.{ringBy}
-use Rattle.polling.specs.Moves.{Move, after, begins, services, ahead, isFor, Without, Spared, spared}
+use Rattle.controller.specs.Controller.{service}
+use Rattle.polling.specs.Moves.{running, Move, after, begins, services, ahead, isFor, Without, Spared, spared}
 use Rattle.polling.specs.Turns.{Turn, its-turn, another's, no-frame, TurnComes}
 use Rattle.polling.proofs.Does.{Does, keeps, accepts, serves, frame-ends, clears, does}
 use Rattle.polling.proofs.Places.{Found, place-removed, place-marked, found-marked, place-joined, place-turned}
@@ -83,40 +84,51 @@ module _ (own : ℕ) (ring : Ring) (found : Found own (live ring)) where
 nearer-as : (own : ℕ) (old : Ring) {new ring : Ring} → ring ≡ new → Nearer own old new → Nearer own old ring
 nearer-as own old e n = subst (Nearer own old) (sym e) n
 
+-- Where a unit that is spared stands behind a call.
+pub data Placed (own : ℕ) (c : Controller) (m : Move) : Type 0 where
+  no-service : begins c m ≡ false → ahead own (after c m) ≤ ahead own c → Found own (live (after c m .ring)) → Placed own c m
+  one-nearer : (p : ℕ) → begins c m ≡ true → ahead own c ≡ suc p → ahead own (after c m) ≡ p → Found own (live (after c m .ring)) → Placed own c m
+  in-front : begins c m ≡ true → ahead own c ≡ 0 → after c m ≡ service c → Placed own c m
+
+pub placed : (own : ℕ) (c : Controller) (m : Move) → Found own (live (c .ring)) → Without own (running (c .stage)) → Placed own c m
+placed own c m found without = by (does c m)
+  where
+    waits : begins c m ≡ false → Nearer own (c .ring) (after c m .ring) → Placed own c m
+    waits b near = no-service b (near .0) (near .1)
+
+    serving : begins c m ≡ true → after c m ≡ service c → (p : ℕ) → ahead own c ≡ p → Placed own c m
+    serving b e zero z = in-front b z e
+    serving b e (suc p) z =
+        let turned-is : after c m .ring ≡ ringOf (turned (live (c .ring))) = ap (λ (x : Controller). x .ring) e in
+        let t = place-turned own p (live (c .ring)) found z in
+        let next = subst (λ (r : Ring). (placeOf own (live r) ≡ p) × Found own (live r)) (sym turned-is) (made (λ (l : List Entry). (placeOf own l ≡ p) × Found own l) (turned (live (c .ring))) (short-turned (c .ring)) t) in
+        one-nearer p b z (next .0) (next .1)
+
+    by : Does c m → Placed own c m
+    by (keeps ring b v u o) = waits b (nearer-as own (c .ring) ring (stays own (c .ring) found))
+    by (accepts cmd l ring b v u out poll st) = waits b (nearer-as own (c .ring) ring (stays own (c .ring) found))
+    by (frame-ends f status count r g b v u ring z) = waits b (nearer-as own (c .ring) ring (by-status own (c .ring) found (eqb status 0x00) f (subst (Without own) r without)))
+    by (clears code e x b v u ring st) = waits b (nearer-as own (c .ring) ring (marked own (c .ring) found false code))
+    by (serves b v u some e) = serving b e (ahead own c) refl
+
+-- How a call is counted.
+pub none-counted : (c : Controller) (m : Move) (ms : List Move) → begins c m ≡ false → services c (m ∷ ms) ≡ services (after c m) ms
+none-counted c m ms b = ap (λ (t : Bool). cond t (suc (services (after c m) ms)) (services (after c m) ms)) b
+
+pub one-counted : (c : Controller) (m : Move) (ms : List Move) → begins c m ≡ true → services c (m ∷ ms) ≡ suc (services (after c m) ms)
+one-counted c m ms b = ap (λ (t : Bool). cond t (suc (services (after c m) ms)) (services (after c m) ms)) b
+
 turn-by : (own n : ℕ) (c : Controller) (ms : List Move) → Found own (live (c .ring)) → Spared own c ms → ahead own c < n → n ≤ services c ms → Turn own n c ms
 turn-by own n c [] found s h k = absurd (omega arith)
-turn-by own n c (m ∷ ms) found (spared without s) h k = by n h k (does c m) (λ n′ f h′ k′. turn-by own n′ (after c m) ms f s h′ k′)
+turn-by own n c (m ∷ ms) found (spared without s) h k = by n h k (placed own c m found without) (λ n′ f h′ k′. turn-by own n′ (after c m) ms f s h′ k′)
   where
-    -- Where no service frame begins.
-    waits : (n : ℕ) → ahead own c < n → n ≤ services c (m ∷ ms) → begins c m ≡ false → Nearer own (c .ring) (after c m .ring)
+    by : (n : ℕ) → ahead own c < n → n ≤ services c (m ∷ ms) → Placed own c m
         → ((n′ : ℕ) → Found own (live (after c m .ring)) → ahead own (after c m) < n′ → n′ ≤ services (after c m) ms → Turn own n′ (after c m) ms) → Turn own n c (m ∷ ms)
-    waits n h k b near go =
-        let same : services c (m ∷ ms) ≡ services (after c m) ms = ap (λ (t : Bool). cond t (suc (services (after c m) ms)) (services (after c m) ms)) b in
-        let p = near .0 in
-        no-frame b (go n (near .1) (omega arith) (omega arith))
-
-    by : (n : ℕ) → ahead own c < n → n ≤ services c (m ∷ ms) → Does c m
-        → ((n′ : ℕ) → Found own (live (after c m .ring)) → ahead own (after c m) < n′ → n′ ≤ services (after c m) ms → Turn own n′ (after c m) ms) → Turn own n c (m ∷ ms)
-    by n h k (keeps ring b v u o) go = waits n h k b (nearer-as own (c .ring) ring (stays own (c .ring) found)) go
-    by n h k (accepts cmd l ring b v u out st) go = waits n h k b (nearer-as own (c .ring) ring (stays own (c .ring) found)) go
-    by n h k (frame-ends f status count r g b v u ring z) go =
-        waits n h k b (nearer-as own (c .ring) ring (by-status own (c .ring) found (eqb status 0x00) f (subst (Without own) r without))) go
-    by n h k (clears code e x b v u ring st) go = waits n h k b (nearer-as own (c .ring) ring (marked own (c .ring) found false code)) go
-    by zero h k (serves b v u some e) go = absurd (omega arith)
-    by (suc n) h k (serves b v u some e) go = front (ahead own c) refl
-      where
-        more : services c (m ∷ ms) ≡ suc (services (after c m) ms)
-        more = ap (λ (t : Bool). cond t (suc (services (after c m) ms)) (services (after c m) ms)) b
-
-        front : (p : ℕ) → ahead own c ≡ p → Turn own (suc n) c (m ∷ ms)
-        front zero z = its-turn b (lt-ltb (placeOf own (live (c .ring))) (length (live (c .ring))) found) z
-        front (suc p) z =
-            let turned-is : after c m .ring ≡ ringOf (turned (live (c .ring))) = ap (λ (x : Controller). x .ring) e in
-            let t = place-turned own p (live (c .ring)) found z in
-            let next = subst (λ (r : Ring). (placeOf own (live r) ≡ p) × Found own (live r)) (sym turned-is) (made (λ (l : List Entry). (placeOf own l ≡ p) × Found own l) (turned (live (c .ring))) (short-turned (c .ring)) t) in
-            let q = next .0 in
-            let one : services c (m ∷ ms) ≡ suc (services (after c m) ms) = more in
-            another's b (go n (next .1) (omega arith) (omega arith))
+    by n h k (no-service b near f) go = let same = none-counted c m ms b in no-frame b (go n f (omega arith) (omega arith))
+    by zero h k (one-nearer p b z q f) go = absurd (omega arith)
+    by (suc n) h k (one-nearer p b z q f) go = let more = one-counted c m ms b in another's b (go n f (omega arith) (omega arith))
+    by zero h k (in-front b z e) go = absurd (omega arith)
+    by (suc n) h k (in-front b z e) go = its-turn b (lt-ltb (placeOf own (live (c .ring))) (length (live (c .ring))) found) z
 
 pub turn-comes : TurnComes
 turn-comes own c ms i s k = turn-by own (suc (ahead own c)) c ms (ltb-true (placeOf own (live (c .ring))) (length (live (c .ring))) i) s (omega arith) k
