@@ -20,15 +20,15 @@ runs-on : {w : World} (n : ℕ) {v : World} → Run w v → Run w (rounds n v)
 runs-on zero r = r
 runs-on (suc n) r = runs-on n (a-round r (record { here = false; there = 0 }))
 
-new-unit : (own retry : ℕ) → New (newStation (newUnit own retry))
-new-unit own retry = record { own = own; retry = retry; is-new = refl; lent = record { room = omega arith; memory = refl; bytes = zeros-below 256 } }
+new-unit : (own retry : ℕ) → (own ≡ 0 → ⊥) → New (newStation (newUnit own retry))
+new-unit own retry coded = record { own = own; retry = retry; coded = coded; is-new = refl; lent = record { room = omega arith; memory = refl; bytes = zeros-below 256 } }
 
 quiet : QuietStart quietBus
 quiet = record {
   timeout = 8;
   least = omega arith;
   is-new = refl;
-  units = also (new-unit 20 4) (also (new-unit 21 4) none);
+  units = also (new-unit 20 4 (λ e. absurd (omega arith))) (also (new-unit 21 4 (λ e. absurd (omega arith))) none);
   codes = another (also (λ (e : _≡_ {A = ℕ} 21 20). absurd (omega arith)) none) (another none nobody);
 }
 

@@ -42,10 +42,12 @@ use Rattle.delivery.specs.Promised.{Moment, Promised}
 use Rattle.delivery.specs.Stages.{Sound, addressed, isAnswered, Noted, InFrame, Goes, On, answerBytes, Sits}
 use Rattle.delivery.specs.World.{World, Busy, levels, round, Becomes, Different}
 
--- A quiet start: every party is new, and each unit is lent its memory. The time-out is the controller's own setting.
+-- A quiet start: every party is new, and each unit is lent its memory. The time-out is the controller's own setting. Own code 0 is
+-- refused when a unit is made.
 pub record New (st : Station) : Type 0 where
   pub own : ℕ
   pub retry : ℕ
+  pub coded : own ≡ 0 → ⊥
   pub is-new : st .unit ≡ newUnit own retry
   pub lent : Sound st
 

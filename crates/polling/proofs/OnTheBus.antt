@@ -55,6 +55,7 @@ use Rattle.turn.specs.declared.Event.{Event}
 use Rattle.turn.specs.declared.Event.the-variants.{Nothing, Handed}
 use Rattle.unit.specs.declared.Unit.{Unit}
 use Rattle.verdict.specs.Verdict.{says, pollBy, commandBy, verdictOf}
+use Rattle.polling.specs.Chain.{HasCode, it-has, later}
 use Rattle.polling.specs.Handing.{moveOf, callOf, movesOf, toldIn, PolledHands, HeldWhenPolled, HandedHeld}
 use Rattle.polling.specs.History.{since}
 use Rattle.polling.specs.Moves.{Move, after, afterAll, running, told, eventOf}
@@ -149,22 +150,18 @@ every-served w _ q (a-call {v = v} r (host i call)) = served-at i call (every-se
 every-served w _ q (a-call {v = v} r (submitsTo k d response x b)) = every-served w v q r
 every-served w _ q (a-call {v = v} r (acknowledgesTo code h)) = every-served w v q r
 
-took-served : (w v : World) → QuietStart w → (r : Run w v) (own : ℕ) (s : Serial) (m : List ℕ) → Took r own s m → Served s
+pub took-served : (w v : World) → QuietStart w → (r : Run w v) (own : ℕ) (s : Serial) (m : List ℕ) → Took r own s m → Served s
 took-served w v q start own s m t = absurd t
 took-served w _ q (a-round {v = v} r busy) own s m (takes-it st after b e now o x y) = subst Served x (becomes-all (every-served w v q r) b)
 took-served w _ q (a-round {v = v} r busy) own s m (took-it i t) = took-served w v q r own s m t
 took-served w _ q (a-call {v = v} r call) own s m t = took-served w v q r own s m t
 
 -- A unit that has taken the last nibble is on the bus.
-pub data HasCode (own : ℕ) : List Station → Type 0 where
-  it-has : {st : Station} {ss : List Station} → st .unit .own ≡ own → HasCode own (st ∷ ss)
-  later : {st : Station} {ss : List Station} → HasCode own ss → HasCode own (st ∷ ss)
-
-has-round : (own : ℕ) (seen : Lines) (hosts : ℕ) {ss : List Station} → HasCode own ss → HasCode own (unitsAfter seen hosts ss)
+pub has-round : (own : ℕ) (seen : Lines) (hosts : ℕ) {ss : List Station} → HasCode own ss → HasCode own (unitsAfter seen hosts ss)
 has-round own seen hosts (it-has {st = st} e) = it-has (own-kept st seen (isOdd hosts) ∙ e)
 has-round own seen hosts (later h) = later (has-round own seen (hosts / 2) h)
 
-has-called : (own i : ℕ) (call : HostCall) {ss : List Station} → All Sound ss → HasCode own ss → HasCode own (calledAt i call ss)
+pub has-called : (own i : ℕ) (call : HostCall) {ss : List Station} → All Sound ss → HasCode own ss → HasCode own (calledAt i call ss)
 has-called own zero call (also {x = st} s a) (it-has e) = it-has (unit-called call st s .own ∙ e)
 has-called own (suc i) call (also s a) (it-has e) = it-has e
 has-called own zero call (also s a) (later h) = later h
@@ -181,6 +178,29 @@ took-has w _ q (a-round {v = v} r busy) own s m (took-it i t) = has-round own (l
 took-has w _ q (a-call {v = v} r (host i call)) own s m t = has-called own i call (on-sound (every-run w v q r)) (took-has w v q r own s m t)
 took-has w _ q (a-call {v = v} r (submitsTo k d response x b)) own s m t = took-has w v q r own s m t
 took-has w _ q (a-call {v = v} r (acknowledgesTo code h)) own s m t = took-has w v q r own s m t
+
+-- No unit has code 0.
+abbrev Coded : Station → Type 0
+Coded st = st .unit .own ≡ 0 → ⊥
+
+coded-at : (i : ℕ) (call : HostCall) {ss : List Station} → All Sound ss → All Coded ss → All Coded (calledAt i call ss)
+coded-at i call none none = none
+coded-at zero call (also {x = st} s b) (also p a) = also (λ e. p (sym (unit-called call st s .own) ∙ e)) a
+coded-at (suc i) call (also s b) (also p a) = also p (coded-at i call b a)
+
+every-coded : (w v : World) → QuietStart w → Run w v → All Coded (v .units)
+every-coded w v q start = all-map (λ st n e. n .coded (sym (ap (λ (u : Unit). u .own) (n .is-new)) ∙ e)) (q .units)
+every-coded w _ q (a-round {v = v} r busy) = all-step (levels v) (λ st host p e. p (sym (own-kept st (levels v) host) ∙ e)) (busy .there) (every-coded w v q r)
+every-coded w _ q (a-call {v = v} r (host i call)) = coded-at i call (on-sound (every-run w v q r)) (every-coded w v q r)
+every-coded w _ q (a-call {v = v} r (submitsTo k d response x b)) = every-coded w v q r
+every-coded w _ q (a-call {v = v} r (acknowledgesTo code h)) = every-coded w v q r
+
+has-coded : (own : ℕ) {ss : List Station} → HasCode own ss → All Coded ss → own ≡ 0 → ⊥
+has-coded own (it-has e) (also p a) z = p (e ∙ z)
+has-coded own (later h) (also p a) z = has-coded own h a z
+
+pub run-coded : (w v : World) (own : ℕ) → QuietStart w → Run w v → HasCode own (v .units) → own ≡ 0 → ⊥
+run-coded w v own q r h = has-coded own h (every-coded w v q r)
 
 -- What a round tells: on a run no step is refused.
 told-is : (c : Controller) (seen : Lines) (busy : Bool) (lent response : List ℕ) (e : Event) → stepping c seen busy lent response ≡ gives e → told (stepping c seen busy lent response) ≡ eventIn c seen busy lent
@@ -199,7 +219,7 @@ told-is c seen busy lent response e g = by (ltb 15 (seen .nibble)) (lentAt (c .s
 told-in : (w v : World) → QuietStart w → (r : Run w v) (busy : Busy) → toldIn v busy ≡ eventIn (v .controller) (levels v) (busy .here) (v .lent)
 told-in w v q r busy = let e = every-step w v q r (busy .here) .0 in told-is (v .controller) (levels v) (busy .here) (v .lent) (v .response) (e .0) (e .1)
 
-frame-told : (w v : World) → QuietStart w → (r : Run w v) (busy : Busy) {T : Moment} {f : Frame} {found : List ℕ} → InFrame T f found v → (x : Response) → movedIn v busy ≡ over f x → toldIn v busy ≡ frameEvent f (statusOf x) (countOf x)
+pub frame-told : (w v : World) → QuietStart w → (r : Run w v) (busy : Busy) {T : Moment} {f : Frame} {found : List ℕ} → InFrame T f found v → (x : Response) → movedIn v busy ≡ over f x → toldIn v busy ≡ frameEvent f (statusOf x) (countOf x)
 frame-told w v q r busy i x m =
     told-in w v q r busy ∙ ap (λ (t : Bool). cond t Nothing (eventAfter (movedIn v busy .end))) (frame-busy i) ∙ ap (λ (y : Moved). eventAfter (y .end)) m
 
@@ -215,17 +235,17 @@ frameOf1 g (f ∷ fs) = f
 pub data RunsOne (T : Moment) (v : World) (f : Frame) : Type 0 where
   runs-one : (found : List ℕ) → InFrame T f found v → RunsOne T v f
 
-frame-running : {T : Moment} {f : Frame} {found : List ℕ} {w : World} → InFrame T f found w → running (w .controller .stage) ≡ f ∷ []
+pub frame-running : {T : Moment} {f : Frame} {found : List ℕ} {w : World} → InFrame T f found w → running (w .controller .stage) ≡ f ∷ []
 frame-running (begins framed d a) = refl
 frame-running (sends i sender framed d s l a) = refl
 frame-running (hears ear taken quiet framed d l o) = refl
 frame-running (waits quiet framed d a why) = refl
 
-rest-running : {stage : Stage} → AtRest stage → running stage ≡ []
+pub rest-running : {stage : Stage} → AtRest stage → running stage ≡ []
 rest-running is-free = refl
 rest-running is-resting = refl
 
-abbrev isFrame : List Frame → Bool
+abbrev pub isFrame : List Frame → Bool
 isFrame [] = false
 isFrame (f ∷ fs) = true
 
@@ -236,15 +256,15 @@ runs-it f (ended eight codes d a) e = absurd (false≢true (ap isFrame e))
 runs-it {T} {v} f (runs g found x codes) e = runs-one found (subst (λ (h : Frame). InFrame T h found v) (ap (frameOf1 g) (sym (frame-running x) ∙ e)) x)
 
 -- A response that arrived whole, of the poll of a code.
-record Said {w v : World} (r : Run w v) (busy : Busy) (own : ℕ) : Type 0 where
-  speaker : ℕ
-  addresses : addressed (pollOf own .command) speaker ≡ true
-  state : Serial
-  memory : List ℕ
-  taken : Took (a-round r busy) speaker state memory
-  tells : toldIn v busy ≡ frameEvent (pollOf own) (replyStatus (replyFor state (pollOf own .command) [])) 0
+pub record Said {w v : World} (r : Run w v) (busy : Busy) (own : ℕ) : Type 0 where
+  pub speaker : ℕ
+  pub addresses : addressed (pollOf own .command) speaker ≡ true
+  pub state : Serial
+  pub memory : List ℕ
+  pub taken : Took (a-round r busy) speaker state memory
+  pub tells : toldIn v busy ≡ frameEvent (pollOf own) (replyStatus (replyFor state (pollOf own .command) [])) 0
 
-spoken : (w v : World) → QuietStart w → (r : Run w v) (busy : Busy) (own : ℕ) (found : List ℕ) → InFrame (Took r) (pollOf own) found v → {buffer : List ℕ} {ss : List Station}
+pub spoken : (w v : World) → QuietStart w → (r : Run w v) (busy : Busy) (own : ℕ) (found : List ℕ) → InFrame (Took r) (pollOf own) found v → {buffer : List ℕ} {ss : List Station}
     → One (λ (st : Station). Spoke (Took (a-round r busy)) (pollOf own) [] found (movedIn v busy) buffer (v .units) st × Sound st) (λ (st : Station). Sits st × Sound st) ss
     → Said r busy own
 spoken w v q r busy own found x (that p o) = spoken w v q r busy own found x o
@@ -258,7 +278,7 @@ spoken w v q r busy own found x (this (spoke reply j sender before has k e a p m
 }
 
 -- Held when polled: handed over.
-hushed-none : {T : Moment} (own : ℕ) → (own ≡ 0 → ⊥) → {ss : List Station} → HasCode own ss → All (Hushed T (pollOf own .command) []) ss → ⊥
+pub hushed-none : {T : Moment} (own : ℕ) → (own ≡ 0 → ⊥) → {ss : List Station} → HasCode own ss → All (Hushed T (pollOf own .command) []) ss → ⊥
 hushed-none own nonzero (it-has e) (also (not-its-own a) hs) = true≢false (sym (or-first (eqb own own) (eqb own 0) (eq-eqb own own refl)) ∙ sym (ap (λ (k : ℕ). eqb own k || eqb own 0) e) ∙ a)
   where
     or-first : (a b : Bool) → a ≡ true → (a || b) ≡ true
@@ -267,29 +287,36 @@ hushed-none own nonzero (it-has e) (also (not-its-own a) hs) = true≢false (sym
 hushed-none own nonzero (it-has e) (also (by-the-rule given memory t z) hs) = true≢false (sym z ∙ ap isSilent (poll-reply own given nonzero) ∙ poll-speaks (given .enabled) (given .requesting))
 hushed-none own nonzero (later h) (also p hs) = hushed-none own nonzero h hs
 
-pub polled-hands : PolledHands
-polled-hands w v own q r nonzero run busy ends s m took request = by (runs-it (pollOf own) (every-run w v q r) run)
-  where
-    both : (a b : Bool) → a ≡ true → b ≡ true → replyStatus (pollBy a b .reply) ≡ 0x00
-    both true true x y = refl
-    both true false x y = absurd (false≢true y)
-    both false b x y = absurd (false≢true x)
+-- A poll that finds the request hands it over.
+both : (a b : Bool) → a ≡ true → b ≡ true → replyStatus (pollBy a b .reply) ≡ 0x00
+both true true x y = refl
+both true false x y = absurd (false≢true y)
+both false b x y = absurd (false≢true x)
 
-    handed-by : (t : Serial) → t ≡ s → toldIn v busy ≡ frameEvent (pollOf own) (replyStatus (pollBy (t .enabled) (t .requesting) .reply)) 0 → toldIn v busy ≡ Handed own
-    handed-by t e told =
-        let there : t .requesting ≡ true = ap (λ (x : Serial). x .requesting) e ∙ request in
-        let served : s .enabled ≡ true = took-served w (round v busy) q (a-round r busy) own s m took request in
-        told ∙ ap (λ (k : ℕ). frameEvent (pollOf own) k 0) (both (t .enabled) (t .requesting) (ap (λ (x : Serial). x .enabled) e ∙ served) there)
+pub said-handed : {w v : World} {r : Run w v} {busy : Busy} {own : ℕ} → (own ≡ 0 → ⊥) → (k : Said r busy own) → k .state .enabled ≡ true → k .state .requesting ≡ true → toldIn v busy ≡ Handed own
+said-handed {own = own} nonzero k served request =
+    let s = k .state in
+    k .tells ∙ ap (λ (x : Reply). frameEvent (pollOf own) (replyStatus x) 0) (poll-reply own s nonzero) ∙ ap (λ (n : ℕ). frameEvent (pollOf own) n 0) (both (s .enabled) (s .requesting) served request)
+
+pub said-by : {w v : World} {r : Run w v} {busy : Busy} {own : ℕ} → (own ≡ 0 → ⊥) → (k : Said r busy own) → Took (a-round r busy) own (k .state) (k .memory)
+said-by {r = r} {busy = busy} {own = own} nonzero k = subst (λ (n : ℕ). Took (a-round r busy) n (k .state) (k .memory)) (addressed-own (pollOf own .command) (k .speaker) nonzero (k .addresses)) (k .taken)
+
+pub polled-hands : PolledHands
+polled-hands w v own q r run busy ends s m took request = by (runs-it (pollOf own) (every-run w v q r) run)
+  where
+    there : HasCode own (round v busy .units)
+    there = took-has w (round v busy) q (a-round r busy) own s m took
+
+    nonzero : own ≡ 0 → ⊥
+    nonzero = run-coded w (round v busy) own q (a-round r busy) there
 
     goes : (found : List ℕ) → InFrame (Took r) (pollOf own) found v → Goes (Took (a-round r busy)) (pollOf own) found v busy → toldIn v busy ≡ Handed own
     goes found x (on ring y speaks less) = absurd (false≢true (sym ends ∙ frame-runs y))
     goes found x (answered fin d o) =
         let k = spoken w v q r busy own found x o in
-        let mine : k .speaker ≡ own = addressed-own (pollOf own .command) (k .speaker) nonzero (k .addresses) in
-        let there = subst (λ (n : ℕ). Took (a-round r busy) n (k .state) (k .memory)) mine (k .taken) in
-        handed-by (k .state) (taken-once w (round v busy) q (a-round r busy) own (k .state) s (k .memory) m there took .0)
-        (k .tells ∙ ap (λ (x : Reply). frameEvent (pollOf own) (replyStatus x) 0) (poll-reply own (k .state) nonzero))
-    goes found x (unanswered fin e b d a why still) = absurd (hushed-none own nonzero (took-has w (round v busy) q (a-round r busy) own s m took) why)
+        let same : k .state ≡ s = taken-once w (round v busy) q (a-round r busy) own (k .state) s (k .memory) m (said-by nonzero k) took .0 in
+        said-handed nonzero k (ap (λ (x : Serial). x .enabled) same ∙ took-served w (round v busy) q (a-round r busy) own s m took request) (ap (λ (x : Serial). x .requesting) same ∙ request)
+    goes found x (unanswered fin e b d a why still) = absurd (hushed-none own nonzero there why)
 
     by : RunsOne (Took r) v (pollOf own) → toldIn v busy ≡ Handed own
     by (runs-one found x) = goes found x (every-response w v r (pollOf own) found x busy)

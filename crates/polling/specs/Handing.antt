@@ -71,7 +71,6 @@ PolledHands =
     (w v : World) (own : ℕ)
     → QuietStart w
     → (r : Run w v)
-    → (own ≡ 0 → ⊥)
     → running (v .controller .stage) ≡ pollOf own ∷ []
     → (busy : Busy)
     → inFrame (round v busy .controller .stage) ≡ false

@@ -3,3 +3,4 @@ pub mod Turns
 pub mod History
 pub mod Requests
 pub mod Handing
+pub mod Chain
