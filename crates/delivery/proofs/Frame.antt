@@ -115,7 +115,7 @@ hushed-kept {T} {c} {d} seen hosts a = all-step seen (λ st busy p. by st busy p
     by st busy (by-the-rule given memory t e) = by-the-rule given memory (subst (λ (own : ℕ). T own given memory) (sym (own-kept st seen busy)) t) e
 
 -- Who responds in a round.
-fresh-quiet : {st : Station} → Fresh st → isResponding (st .unit .phase) ≡ false
+pub fresh-quiet : {st : Station} → Fresh st → isResponding (st .unit .phase) ≡ false
 fresh-quiet (idles e) = ap isResponding e
 fresh-quiet (selects e) = ap isResponding e
 
@@ -125,7 +125,7 @@ heard-quiet (h-first room) = refl
 heard-quiet (h-byte j buffer room g h) = refl
 heard-quiet (h-half j buffer room g h) = refl
 
-part-quiet : {P : Reply → Serial → List ℕ → Type 0} {c : Command} {d : List ℕ} {i : ℕ} {sender : Sender} {st : Station} → Part P c d i sender st → isResponding (st .unit .phase) ≡ false
+pub part-quiet : {P : Reply → Serial → List ℕ → Type 0} {c : Command} {d : List ℕ} {i : ℕ} {sender : Sender} {st : Station} → Part P c d i sender st → isResponding (st .unit .phase) ≡ false
 part-quiet (listens ear t f h a q) = heard-quiet h
 part-quiet (answers ear r f l a e k q) = ap isResponding e
 part-quiet (sits now a e k q) = ap isResponding e

@@ -71,14 +71,14 @@ pub data Does (c : Controller) (m : Move) : Type 0 where
       → after c m .stage ≡ c .stage → Does c m
 
 -- Where the stage stays, no frame begins.
-still : (stage : Stage) → (isIdle stage && isBegun (running stage)) ≡ false
+pub still : (stage : Stage) → (isIdle stage && isBegun (running stage)) ≡ false
 still Free = refl
 still (Resting first) = refl
 still (Waiting f) = refl
 still (Sending f i sender wait) = refl
 still (Listening f ear response quiet) = refl
 
-and-false : (b : Bool) → (b && false) ≡ false
+pub and-false : (b : Bool) → (b && false) ≡ false
 and-false true = refl
 and-false false = refl
 

@@ -54,7 +54,7 @@ pub data Shape (f : Frame) : Type 0 where
   a-poll : (code : ℕ) → f ≡ pollOf code → Shape f
   a-null : f ≡ nullFrame → Shape f
 
-abbrev Shapes : List Frame → Type 0
+abbrev pub Shapes : List Frame → Type 0
 Shapes [] = Unit
 Shapes (f ∷ fs) = Shape f
 

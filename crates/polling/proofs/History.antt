@@ -401,7 +401,7 @@ pub once : Once
 once own timeout ms = agrees-once own (ok-since own timeout ms .agrees)
 
 -- At its turn the unit's entry is in front.
-front-mark : (own : ℕ) (p : Bool) (l : List Entry) → Agrees own p l → isIn own l ≡ true → placeOf own l ≡ 0 → getD l 0 none ≡ entryOf own p
+pub front-mark : (own : ℕ) (p : Bool) (l : List Entry) → Agrees own p l → isIn own l ≡ true → placeOf own l ≡ 0 → getD l 0 none ≡ entryOf own p
 front-mark own p [] a i z = absurd (false≢true i)
 front-mark own p (e ∷ es) a i z = by (eqb (e .code) own) refl a
   where

@@ -5,3 +5,4 @@ pub mod History
 pub mod Requests
 pub mod Handing
 pub mod OnTheBus
+pub mod Chain

@@ -224,7 +224,7 @@ frame-told w v q r busy i x m =
     told-in w v q r busy ∙ ap (λ (t : Bool). cond t Nothing (eventAfter (movedIn v busy .end))) (frame-busy i) ∙ ap (λ (y : Moved). eventAfter (y .end)) m
 
 -- Which unit spoke, and what it said.
-addressed-own : (c : Command) (own : ℕ) → (c .device ≡ 0 → ⊥) → addressed c own ≡ true → own ≡ c .device
+pub addressed-own : (c : Command) (own : ℕ) → (c .device ≡ 0 → ⊥) → addressed c own ≡ true → own ≡ c .device
 addressed-own c own nonzero e = sym (eqb-true (c .device) own (only (eqb (c .device) own) (eqb (c .device) 0) (ne-eqb (c .device) 0 nonzero) e))
 
 abbrev frameOf1 : Frame → List Frame → Frame
@@ -240,6 +240,12 @@ frame-running (begins framed d a) = refl
 frame-running (sends i sender framed d s l a) = refl
 frame-running (hears ear taken quiet framed d l o) = refl
 frame-running (waits quiet framed d a why) = refl
+
+pub frame-held : {T : Moment} {f : Frame} {found : List ℕ} {w : World} → InFrame T f found w → held (w .controller .stage) ≡ f ∷ []
+frame-held (begins framed d a) = refl
+frame-held (sends i sender framed d s l a) = refl
+frame-held (hears ear taken quiet framed d l o) = refl
+frame-held (waits quiet framed d a why) = refl
 
 pub rest-running : {stage : Stage} → AtRest stage → running stage ≡ []
 rest-running is-free = refl

@@ -90,10 +90,10 @@ came-step u seen busy buffer input = by (ltb 15 (seen .nibble)) (ltb (length buf
     by false false false = as-it-was refl
 
 -- Which effects end a request, and which commands have them.
-abbrev isEnding : ℕ → Bool
+abbrev pub isEnding : ℕ → Bool
 isEnding code = eqb code 0x01 || (eqb code 0x09 || eqb code 0xFF)
 
-abbrev clears : Effect → Bool
+abbrev pub clears : Effect → Bool
 clears Keeps = false
 clears (Opens m accepted) = false
 clears Closes = true

@@ -32,7 +32,7 @@ Harmless own (f ∷ fs) = (isFor own f ≡ false) × (eqb (f .command .command) 
 abbrev pub Calm : ℕ → {v u : World} → Run v u → Type 0
 Calm own start = Unit
 Calm own (a-round {v = x} more busy) = Calm own more × Harmless own (running (x .controller .stage))
-Calm own (a-call more call) = Calm own more
+Calm own (a-call {v = x} more call) = Calm own more × Harmless own (running (x .controller .stage))
 
 -- A request of the unit is handed over in a round of this run.
 pub data HandedBy (own : ℕ) (x : World) (busy : Busy) (before : Type 0) : Type 0 where
