@@ -222,7 +222,7 @@ rest-lent : {stage : Stage} (n room : ℕ) → AtRest stage → lentAt stage n r
 rest-lent n room is-free = refl
 rest-lent n room is-resting = refl
 
-on-nibble : {T : Moment} {v : World} → On T v → levels v .nibble < 16
+pub on-nibble : {T : Moment} {v : World} → On T v → levels v .nibble < 16
 on-nibble (rests {units = units} r eight codes d a) = subst (λ (l : Lines). levelsWith l units .nibble < 16) (sym (rest-pulls r)) (rest-nibble units a)
 on-nibble (submitted f {units = units} framed codes d a) = rest-nibble units a
 on-nibble (ended eight codes d a) = subst (λ (x : ℕ). x < 16) (sym (nibble-kept released (lit< tt) (all-map (λ st p. ap pullsNibble (p .0 .0)) a))) (lit< tt)

@@ -16,4 +16,3 @@ pub mod Run
 pub mod Changes
 pub mod Left
 pub mod Demand2
-pub mod Example

@@ -6,4 +6,3 @@ pub mod Calls
 pub mod Ends
 pub mod Stages
 pub mod Demand2
-pub mod Example

@@ -416,7 +416,7 @@ split c m ms = by (beginsIn c m)
     by true = omega arith
     by false = omega arith
 
-services-then : {v u : World} (more : Run v u) (ms : List Move) → services (v .controller) (movesOf more ms) ≡ services (v .controller) (movesOf more []) + services (u .controller) ms
+pub services-then : {v u : World} (more : Run v u) (ms : List Move) → services (v .controller) (movesOf more ms) ≡ services (v .controller) (movesOf more []) + services (u .controller) ms
 services-then start ms = omega arith
 services-then {v} (a-round {v = x} more busy) ms =
     let a = services-then more (moveOf x busy ∷ ms) in

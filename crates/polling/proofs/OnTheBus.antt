@@ -1,27 +1,27 @@
 -- What is handed over on demand 2's bus, and that it was held when polled.
-use Prim.Native.Nat.{ℕ, zero, suc, _/_}
+use Prim.Native.Nat.{ℕ, zero, suc, _/_, _<_}
 use native.Mathlib.Omega.{arith}
 use mathlib.Core.Path.{_≡_, refl, sym, _∙_, ap, subst}
 use mathlib.Core.Bool.{Bool, true, false, cond, _&&_, _||_, true≢false, false≢true}
 use mathlib.Core.List.{List, [], _∷_}
-use borrow.Author.Tests.{ne-eqb, eqb-true, eq-eqb}
+use borrow.Author.Tests.{le-ltb, ne-eqb, eqb-true, eq-eqb}
 use lib.Dec.{ltb, eqb}
 use lib.ListN.{length}
 use Rattle.answer.specs.Answer.{nothingTaken, statusOf, countOf}
 use Rattle.answer.specs.declared.Response.{Response}
 use Rattle.answer.specs.declared.Response.the-variants.{Complete}
-use Rattle.bus.specs.Bus.{unitsAfter, isOdd, unitAfter}
+use Rattle.bus.specs.Bus.{levelsWith, unitsAfter, isOdd, unitAfter}
 use Rattle.bus.specs.declared.Station.{Station}
 use Rattle.controller.specs.Calls.{stepping, ifLent}
 use Rattle.controller.specs.Controller.{eventIn, eventAfter}
 use Rattle.controller.specs.declared.Controller.{Controller}
 use Rattle.delivery.specs.Calls.{Call, HostCall, host, feeds, takes, raises, submits as submitsTo, acknowledges as acknowledgesTo, called, calledAt, calledBy, unitTaken}
 use Rattle.delivery.specs.Demand2.{QuietStart, Run, start, a-round, a-call, Took, takes-it, took-it, inFrame}
-use Rattle.delivery.specs.Lists.{All, none, also, One, this, that}
+use Rattle.delivery.specs.Lists.{All, none, also, One, this, that, Has, here, there}
 use Rattle.delivery.specs.Promised.{Moment, replyFor}
 use Rattle.delivery.specs.Stages.{On, rests, submitted, ended, runs, InFrame, Goes, on, answered, unanswered, Spoke, spoke, Hushed, not-its-own, by-the-rule, addressed, movedIn, Sound, Sits, answerData, begins, sends, hears, waits, AtRest, is-free, is-resting}
 use Rattle.delivery.specs.World.{World, Busy, levels, round, Becomes, in-front, behind}
-use Rattle.delivery.proofs.Demand2.{every-run, every-response, every-step, taken-once, frame-runs, on-sound}
+use Rattle.delivery.proofs.Demand2.{on-nibble, every-run, every-response, every-step, taken-once, frame-runs, on-sound}
 use Rattle.delivery.proofs.Lists.{all-map, all-step}
 use Rattle.delivery.proofs.Calls.{called as unit-called}
 use Rattle.delivery.proofs.Frame.{own-kept, becomes-all}
@@ -56,12 +56,16 @@ use Rattle.turn.specs.declared.Event.the-variants.{Nothing, Handed}
 use Rattle.unit.specs.declared.Unit.{Unit}
 use Rattle.verdict.specs.Verdict.{says, pollBy, commandBy, verdictOf}
 use Rattle.polling.specs.Chain.{HasCode, it-has, later}
-use Rattle.polling.specs.Handing.{moveOf, callOf, movesOf, toldIn, PolledHands, HeldWhenPolled, HandedHeld}
+use Rattle.delivery.proofs.Lines.{bav-kept}
+use Rattle.frame.specs.Frame.{pullsOf as framePulls}
+use Rattle.line.specs.Line.{wired}
+use Rattle.unit.specs.Unit.{pullsOf}
+use Rattle.polling.specs.Handing.{BusStarts, moveOf, callOf, movesOf, toldIn, PolledHands, HeldWhenPolled, HandedHeld}
 use Rattle.polling.specs.History.{since}
 use Rattle.polling.specs.Moves.{Move, after, afterAll, running, told, eventOf}
 use Rattle.polling.proofs.Does.{held, Does, keeps, accepts, serves, frame-ends, clears, does}
 use Rattle.polling.proofs.Requests.{Came, as-it-was, of-a-command, of-its-response, came-step, only}
-use Rattle.polling.proofs.Handing.{hands-by, hands-only, isHand}
+use Rattle.polling.proofs.Handing.{starts, hands-by, hands-only, isHand}
 
 -- The controller of a run is one that was made, after its own calls.
 called-moves : (v : World) (call : Call) (ms : List Move) → afterAll (called v call .controller) ms ≡ afterAll (v .controller) (callOf call ms)
@@ -388,3 +392,17 @@ handed-held w v code q r busy e = by (runs-it (pollOf code) (every-run w v q r) 
 
     by : RunsOne (Took r) v (pollOf code) → HeldWhenPolled r busy code
     by (runs-one found x) = goes found x (every-response w v r (pollOf code) found x busy)
+
+-- A request's pull is seen.
+asking-low : (l : Lines) {ss : List Station} {st : Station} → Has st ss → st .unit .asking ≡ true → levelsWith l ss .bav ≡ true
+asking-low l {st = st} (here {xs = ss}) e = bav-kept (wired l (pullsOf (st .unit))) ss (or-true (l .bav) (st .unit .asking) e)
+  where
+    or-true : (a b : Bool) → b ≡ true → (a || b) ≡ true
+    or-true true b x = refl
+    or-true false b x = x
+asking-low l (there {y = y} h) e = asking-low (wired l (pullsOf (y .unit))) h e
+
+pub bus-starts : BusStarts
+bus-starts w v st q r has e idle some busy =
+    let n : levels v .nibble < 16 = on-nibble (every-run w v q r) in
+    starts (v .controller) (levels v) (busy .here) (v .lent) (v .response) idle (le-ltb 15 (levels v .nibble) (omega arith)) (asking-low (framePulls (v .controller .stage)) has e) some .0

@@ -10,7 +10,9 @@ use Rattle.controller.specs.Controller.{isIdle, service, eventIn, frameOf}
 use Rattle.controller.specs.declared.Controller.{Controller}
 use Rattle.delivery.specs.Calls.{Call, host, submits as submitsTo, acknowledges as acknowledgesTo}
 use Rattle.delivery.specs.Demand2.{QuietStart, Run, start, a-round, a-call, Took, inFrame}
+use Rattle.delivery.specs.Lists.{Has}
 use Rattle.delivery.specs.World.{World, Busy, levels, round}
+use Rattle.bus.specs.declared.Station.{Station}
 use Rattle.frame.specs.Frame.{pollOf}
 use Rattle.frame.specs.declared.End.the-variants.{Over}
 use Rattle.line.specs.declared.Lines.{Lines}
@@ -89,3 +91,16 @@ pub record HeldWhenPolled {w v : World} (r : Run w v) (busy : Busy) (code : ℕ)
 
 abbrev pub HandedHeld : Type 0
 HandedHeld = (w v : World) (code : ℕ) → QuietStart w → (r : Run w v) (busy : Busy) → toldIn v busy ≡ Handed code → HeldWhenPolled r busy code
+
+-- On that bus a unit that pulls BAV for its request is seen: an idle controller whose ring is not empty begins a service frame.
+abbrev pub BusStarts : Type 0
+BusStarts =
+    (w v : World) (st : Station)
+    → QuietStart w
+    → Run w v
+    → Has st (v .units)
+    → st .unit .asking ≡ true
+    → isIdle (v .controller .stage) ≡ true
+    → 0 < counted (v .controller .ring)
+    → (busy : Busy)
+    → begins (v .controller) (moveOf v busy) ≡ true

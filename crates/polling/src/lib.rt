@@ -1,1 +1,1 @@
-// No code: specs/ and proofs/ say what the code below it comes to, of the polling ring. Demand 3.
+// Demand 3: the polling ring, turn by turn: statements in specs/, proofs in proofs/. There is no code here.

@@ -6,17 +6,17 @@ use mathlib.Core.Bool.{false}
 use Rattle.bus.specs.Bus.{newStation}
 use Rattle.message.proofs.Fields.{zeros-below}
 use Rattle.unit.specs.Unit.{newUnit}
 use Rattle.delivery.specs.Demand2.{New, QuietStart, Run, start, a-round, a-call}
 use Rattle.delivery.specs.Calls.{Call, called}
-use Rattle.delivery.specs.Example.{quietBus, rounds, opens, writes, feedsOne, feedsTwo, reads, enables, raisesOne, opened, written, fed, read, enabled, polled, Story, Meets}
+use Rattle.story.specs.Frames.{quietBus, rounds, opens, writes, feedsOne, feedsTwo, reads, enables, raisesOne, opened, written, fed, read, enabled, polled, Story, Meets}
 use Rattle.delivery.specs.Lists.{none, also}
 use Rattle.delivery.specs.World.{World, nobody, another}
 
 pub story : Story
 story = refl
 
 -- Rounds of a run are a run.
-runs-on : {w : World} (n : ℕ) {v : World} → Run w v → Run w (rounds n v)
+abbrev pub runs-on : {w : World} (n : ℕ) {v : World} → Run w v → Run w (rounds n v)
 runs-on zero r = r
 runs-on (suc n) r = runs-on n (a-round r (record { here = false; there = 0 }))
 
@@ -33,7 +33,7 @@ quiet = record {
 }
 
 -- A call, and rounds behind it.
-then : (w : World) (n : ℕ) (call : Call) (v : World) → Run w v → Run w (rounds n (called v call))
+pub then : (w : World) (n : ℕ) (call : Call) (v : World) → Run w v → Run w (rounds n (called v call))
 then w n call v r = runs-on n (a-call r call)
 
 pub meets : Meets
