@@ -1,32 +1,27 @@
 -- Every reply fits the buffer length field, and stands though the effects of its command have happened.
 use Prim.Native.Nat.{ℕ, zero, suc, _/_, _%_, _<_, _≤_, min}
-use native.Mathlib.Nat.{min-le-left, min-le-right, le-trans}
+use native.Mathlib.Nat.{min-le-left, min-le-right}
 use native.Mathlib.Omega.{arith}
 use mathlib.Core.Path.{_≡_, refl, sym, _∙_, ap}
-use mathlib.Core.Bool.{Bool, true, false, cond, _&&_}
 use mathlib.Core.List.{List, [], _∷_}
-use borrow.Author.Tests.{ltb-false}
-use lib.Dec.{ltb, eqb, lit<}
-use lib.ListN.{length, getD, take, length-take}
-use Rattle.field.specs.Field.{Below, valueOf}
+use lib.Dec.{lit<}
+use lib.ListN.{length, take, length-take}
+use Rattle.field.specs.Field.{Below}
 use Rattle.header.specs.declared.Command.{Command}
 use Rattle.message.proofs.Fields.{below-take}
-use Rattle.queue.specs.Queue.{held, from, contents, room}
+use Rattle.queue.specs.Queue.{held, from, contents}
 use Rattle.queue.proofs.Laws.{length-contents, held-below}
 use Rattle.reply.specs.Reply.{replyLength, replyStatus}
 use Rattle.serial.specs.Serial.{applied}
 use Rattle.serial.specs.declared.Effect.{Effect}
 use Rattle.serial.specs.declared.Effect.the-variants.{Keeps, Opens, Closes, Resets, Enables, Disables, Stores}
-use Rattle.serial.specs.declared.Mode.{Mode}
-use Rattle.serial.specs.declared.Mode.the-variants.{Input, Output, Update}
-use Rattle.serial.specs.declared.Opening.{Opening}
-use Rattle.serial.specs.declared.Opening.the-variants.{Closed, OpenFor}
 use Rattle.serial.specs.declared.Reply.the-variants.{Silent, Status, Opened, Bytes, Polled}
 use Rattle.serial.specs.declared.Serial.{Serial}
-use Rattle.verdict.specs.Verdict.{says, modeOf, acceptedOf, openBy, readBy, writeBy, openedBy, pollBy, commandBy, supported, verdictOf}
+use Rattle.verdict.specs.Verdict.{says, verdictOf}
 use Rattle.verdict.specs.declared.Verdict.{Verdict}
 use Rattle.whole.specs.Back.{Answered}
 use Rattle.delivery.specs.Promised.{dataFor, Enough}
+use Rattle.delivery.proofs.Verdicts.{verdict-is}
 
 module _ (s : Serial) (c : Command) (input : List ℕ) where
   -- A verdict whose response is one, and stands after its effect on data e.
@@ -60,20 +55,6 @@ module _ (s : Serial) (c : Command) (input : List ℕ) where
   good-opened : (a : ℕ) (effect : Effect) → 4 ≤ c .«buffer_length» → Good (says (Opened a) effect)
   good-opened a effect h = record { stands = λ e. refl; long = λ e. refl; enough = λ e. tt; fits = record { bytes = four-below a; number = lit< tt; short = omega arith; fits = h } }
 
-  -- Either way of a test.
-  good-cond : (t : Bool) (v w : Verdict) → (t ≡ true → Good v) → (t ≡ false → Good w) → Good (cond t v w)
-  good-cond true v w p q = p refl
-  good-cond false v w p q = q refl
-
-  good-open : (n requested attributes : ℕ) → Good (openBy (c .«buffer_length») n requested attributes)
-  good-open n requested attributes =
-      good-cond (ltb n 3) _ _ (λ _. good-status 0x02 Keeps (lit< tt)) (λ _.
-      good-cond (eqb (attributes / 64) 0) _ _ (λ _. good-status 0x13 Keeps (lit< tt)) (λ _.
-      good-cond (eqb (attributes / 32 % 2) 1) _ _ (λ _. good-status 0x11 Keeps (lit< tt)) (λ _.
-      good-cond (ltb 128 requested) _ _ (λ _. good-status 0x0C Keeps (lit< tt)) (λ _.
-      good-cond (ltb (c .«buffer_length») 4) _ _ (λ _. good-status 0x0C Keeps (lit< tt)) (λ e.
-      good-cond (ltb 3 n) _ _ (λ _. good-status 0x01 Keeps (lit< tt)) (λ _. good-opened (acceptedOf requested) (Opens (modeOf attributes) (acceptedOf requested)) (ltb-false (c .«buffer_length») 4 e)))))))
-
   module _ (below : Below 256 input) where
     -- What a queue holds are bytes.
     from-below : (at n : ℕ) → Below 256 (from input at n)
@@ -95,42 +76,17 @@ module _ (s : Serial) (c : Command) (input : List ℕ) where
           fits = record { bytes = below-take k q (from-below (s .input .head) (held (s .input))); number = lit< tt; short = omega arith; fits = omega arith };
         }
 
-    good-bytes : (accepted : ℕ) → Good (says (Bytes (min (held (s .input)) (min (c .«buffer_length») accepted))) Keeps)
-    good-bytes accepted =
-        let queued = held (s .input) in
-        good-read (min queued (min (c .«buffer_length») accepted)) (le-trans (min-le-right queued (min (c .«buffer_length») accepted)) (min-le-left (c .«buffer_length») accepted)) (min-le-left queued (min (c .«buffer_length») accepted))
-
-    good-by-mode : (m : Mode) (accepted : ℕ) → Good (readBy m accepted (c .«buffer_length») (held (s .input)))
-    good-by-mode Input accepted = good-bytes accepted
-    good-by-mode Output accepted = good-status 0x0F Keeps (lit< tt)
-    good-by-mode Update accepted = good-bytes accepted
-
-    good-write : (m : Mode) (n room : ℕ) → Good (writeBy m n room)
-    good-write Input n room = good-status 0x0E Keeps (lit< tt)
-    good-write Output n room = good-cond (ltb room n) _ _ (λ _. good-status 0x08 Keeps (lit< tt)) (λ _. good-status 0x00 Stores (lit< tt))
-    good-write Update n room = good-cond (ltb room n) _ _ (λ _. good-status 0x08 Keeps (lit< tt)) (λ _. good-status 0x00 Stores (lit< tt))
-
-    good-poll : (a b : Bool) → Good (pollBy a b)
-    good-poll a b = good-cond (a && b) _ _ (λ _. good-polled) (λ _. good-status 0x0A Keeps (lit< tt))
-
-    good-in : (m : Mode) (accepted n : ℕ) → Good (openedBy m accepted s c n)
-    good-in m accepted n =
-        good-cond (eqb (c .command) 0x01) _ _ (λ _. good-status 0x00 Closes (lit< tt)) (λ _.
-        good-cond (eqb (c .command) 0x03) _ _ (λ _. good-by-mode m accepted) (λ _.
-        good-cond (eqb (c .command) 0x04) _ _ (λ _. good-write m n (room (s .output))) (λ _.
-        good-cond (eqb (c .command) 0x08) _ _ (λ _. good-status 0x00 Enables (lit< tt)) (λ _. good-status 0x00 Disables (lit< tt)))))
-
-    good-command : (o : Opening) (n : ℕ) (d : List ℕ) → Good (commandBy o s c n d)
-    good-command Closed n d =
-        good-cond (eqb (c .command) 0x00) _ _ (λ _. good-open n (valueOf (getD d 0 0 ∷ getD d 1 0 ∷ [])) (getD d 2 0)) (λ _.
-        good-cond (eqb (c .command) 0x0A) _ _ (λ _. good-poll (s .enabled) (s .requesting)) (λ _. good-status 0x04 Keeps (lit< tt)))
-    good-command (OpenFor m accepted) n d =
-        good-cond (eqb (c .command) 0x00) _ _ (λ _. good-status 0x05 Keeps (lit< tt)) (λ _.
-        good-cond (eqb (c .command) 0x0A) _ _ (λ _. good-poll (s .enabled) (s .requesting)) (λ _. good-in m accepted n))
-
     pub good-verdict : (n : ℕ) (d : List ℕ) → Good (verdictOf s c n d)
     good-verdict n d =
-        good-cond (eqb (c .command) 0xFE) _ _ (λ _. good-silent Keeps) (λ _.
-        good-cond (eqb (c .command) 0xFF) _ _ (λ _. good-silent Resets) (λ _.
-        good-cond (eqb (c .device) 0) _ _ (λ _. good-silent Keeps) (λ _.
-        good-cond (supported (c .command)) _ _ (λ _. good-cond (ltb 256 n) _ _ (λ _. good-status 0x08 Keeps (lit< tt)) (λ _. good-command (s .opening) n d)) (λ _. good-status 0x0D Keeps (lit< tt)))))
+        verdict-is s c {P = Good} (record {
+          silent = good-silent Keeps;
+          resets = λ _. good-silent Resets;
+          refuses = λ number h. good-status number Keeps h;
+          opens = λ m accepted h. good-opened accepted (Opens m accepted) h;
+          closes = λ _. good-status 0x00 Closes (lit< tt);
+          reads = good-read;
+          stores = good-status 0x00 Stores (lit< tt);
+          enables = good-status 0x00 Enables (lit< tt);
+          disables = λ _. good-status 0x00 Disables (lit< tt);
+          polled = λ _. good-polled;
+        }) n d

@@ -1,5 +1,5 @@
 -- The whole chain on demand 2's bus.
-use Prim.Native.Nat.{ℕ, zero, suc, _+_, _/_, _%_, _≤_}
+use Prim.Native.Nat.{ℕ, zero, suc, _+_, _≤_}
 use native.Mathlib.Omega.{arith}
 use mathlib.Core.Path.{_≡_, refl, sym, _∙_, ap, subst}
 use mathlib.Core.Bool.{Bool, true, false, cond, _&&_, _||_, true≢false, false≢true}
@@ -26,6 +26,7 @@ use Rattle.answer.specs.declared.Response.{Response}
 use Rattle.answer.specs.declared.Response.the-variants.{Complete}
 use Rattle.polling.proofs.Handing.{Shape, a-command, a-poll, a-null, Shapes, shape-since}
 use Rattle.delivery.proofs.Run.{in-frame-called}
+use Rattle.delivery.proofs.Verdicts.{verdict-is, or-left}
 use Rattle.delivery.proofs.Lists.{all-map, all-zip, all-step, all-becomes}
 use Rattle.frame.specs.Frame.{pollOf, dataOf, over}
 use Rattle.frame.specs.declared.Frame.{Frame}
@@ -39,7 +40,7 @@ use Rattle.message.specs.Answer.{Answer, gives, refused, kept}
 use Rattle.phase.specs.Phase.{phaseStep}
 use Rattle.phase.specs.declared.Phase.{Phase}
 use Rattle.phase.specs.declared.Phase.the-variants.{Idle, Selecting, Receiving, Responding, SittingOut}
-use Rattle.queue.specs.Queue.{room, popped, held}
+use Rattle.queue.specs.Queue.{room, popped}
 use Rattle.queue.specs.declared.Popped.{Popped}
 use Rattle.queue.specs.declared.Popped.the-variants.{Byte, Nothing as NoByte}
 use Rattle.reply.specs.Reply.{replyStatus}
@@ -53,14 +54,9 @@ use Rattle.turn.specs.Turn.{turnOf, eventOf as frameEvent}
 use Rattle.turn.specs.declared.Event.{Event}
 use Rattle.turn.specs.declared.Event.the-variants.{Nothing, Ended, Handed}
 use Rattle.unit.specs.Unit.{lowStep, highStep}
-use Rattle.verdict.specs.Verdict.{says, verdictOf, openBy, readBy, writeBy, commandBy, supported}
+use Rattle.verdict.specs.Verdict.{says, verdictOf}
 use Rattle.verdict.specs.declared.Verdict.{Verdict}
-use Rattle.field.specs.Field.{valueOf}
 use Rattle.serial.specs.declared.Effect.the-variants.{Keeps, Resets}
-use Rattle.serial.specs.declared.Mode.{Mode}
-use Rattle.serial.specs.declared.Mode.the-variants.{Input, Output, Update}
-use Rattle.serial.specs.declared.Opening.{Opening}
-use Rattle.serial.specs.declared.Opening.the-variants.{Closed, OpenFor}
 use Rattle.whole.specs.Whole.{storedOf}
 use Rattle.polling.specs.Chain.{HasCode, Requests, Harmless, Calm, now, earlier, HandedIn, Chain}
 use Rattle.polling.specs.Handing.{moveOf, movesOf, toldIn}
@@ -68,7 +64,7 @@ use Rattle.polling.specs.History.{isPending, since, isHanded, settles}
 use Rattle.polling.specs.Moves.{Move, submits, acknowledges, after, running, begins as beginsIn, services, isBegun, Without, ahead, eventOf}
 use Rattle.polling.proofs.History.{Ok, ok-after, ok-since, front-mark, agrees-mark}
 use Rattle.polling.proofs.OnTheBus.{made, has-round, has-called, run-coded, runs-it, RunsOne, runs-one, frame-running, isFrame, addressed-own, frame-told, frame-held, spoken, said-by, said-handed, took-served, hushed-none}
-use Rattle.polling.proofs.Requests.{only, clears, fine-verdict, left-by}
+use Rattle.polling.proofs.Requests.{clears, fine-verdict, left-by}
 use Rattle.polling.proofs.Turns.{Placed, no-service, one-nearer, in-front, placed, none-counted, one-counted}
 use Rattle.polling.proofs.Places.{Found}
 use Rattle.polling.proofs.Does.{held as heldBy, still as none-begins, and-false}
@@ -108,51 +104,20 @@ isPolled (Opened accepted) = false
 isPolled (Bytes n) = false
 isPolled Polled = true
 
-module _ (s : Serial) (k : Command) where
-  abbrev Polls : Verdict → Type 0
-  Polls v = isPolled (v .reply) ≡ true → eqb (k .command) 0x0A ≡ true
-
-  polls-cond : (t : Bool) (v w : Verdict) → (t ≡ true → Polls v) → (t ≡ false → Polls w) → Polls (cond t v w)
-  polls-cond true v w p q = p refl
-  polls-cond false v w p q = q refl
-
-  polls-open : (n requested attributes : ℕ) → Polls (openBy (k .«buffer_length») n requested attributes)
-  polls-open n requested attributes =
-      polls-cond (ltb n 3) _ _ (λ _ x. absurd (false≢true x)) (λ _.
-      polls-cond (eqb (attributes / 64) 0) _ _ (λ _ x. absurd (false≢true x)) (λ _.
-      polls-cond (eqb (attributes / 32 % 2) 1) _ _ (λ _ x. absurd (false≢true x)) (λ _.
-      polls-cond (ltb 128 requested) _ _ (λ _ x. absurd (false≢true x)) (λ _.
-      polls-cond (ltb (k .«buffer_length») 4) _ _ (λ _ x. absurd (false≢true x)) (λ _.
-      polls-cond (ltb 3 n) _ _ (λ _ x. absurd (false≢true x)) (λ _ x. absurd (false≢true x)))))))
-
-  polls-read : (m : Mode) (accepted : ℕ) → Polls (readBy m accepted (k .«buffer_length») (held (s .input)))
-  polls-read Input accepted = λ x. absurd (false≢true x)
-  polls-read Output accepted = λ x. absurd (false≢true x)
-  polls-read Update accepted = λ x. absurd (false≢true x)
-
-  polls-write : (m : Mode) (n room : ℕ) → Polls (writeBy m n room)
-  polls-write Input n room = λ x. absurd (false≢true x)
-  polls-write Output n room = polls-cond (ltb room n) _ _ (λ _ x. absurd (false≢true x)) (λ _ x. absurd (false≢true x))
-  polls-write Update n room = polls-cond (ltb room n) _ _ (λ _ x. absurd (false≢true x)) (λ _ x. absurd (false≢true x))
-
-  polls-command : (o : Opening) (n : ℕ) (d : List ℕ) → Polls (commandBy o s k n d)
-  polls-command Closed n d =
-      polls-cond (eqb (k .command) 0x00) _ _ (λ _. polls-open n (valueOf (getD d 0 0 ∷ getD d 1 0 ∷ [])) (getD d 2 0)) (λ _.
-      polls-cond (eqb (k .command) 0x0A) _ _ (λ e _. e) (λ _ x. absurd (false≢true x)))
-  polls-command (OpenFor m accepted) n d =
-      polls-cond (eqb (k .command) 0x00) _ _ (λ _ x. absurd (false≢true x)) (λ _.
-      polls-cond (eqb (k .command) 0x0A) _ _ (λ e _. e) (λ _.
-      polls-cond (eqb (k .command) 0x01) _ _ (λ _ x. absurd (false≢true x)) (λ _.
-      polls-cond (eqb (k .command) 0x03) _ _ (λ _. polls-read m accepted) (λ _.
-      polls-cond (eqb (k .command) 0x04) _ _ (λ _. polls-write m n (room (s .output))) (λ _.
-      polls-cond (eqb (k .command) 0x08) _ _ (λ _ x. absurd (false≢true x)) (λ _ x. absurd (false≢true x)))))))
-
-  polls-verdict : (n : ℕ) (d : List ℕ) → Polls (verdictOf s k n d)
-  polls-verdict n d =
-      polls-cond (eqb (k .command) 0xFE) _ _ (λ _ x. absurd (false≢true x)) (λ _.
-      polls-cond (eqb (k .command) 0xFF) _ _ (λ _ x. absurd (false≢true x)) (λ _.
-      polls-cond (eqb (k .device) 0) _ _ (λ _ x. absurd (false≢true x)) (λ _.
-      polls-cond (supported (k .command)) _ _ (λ _. polls-cond (ltb 256 n) _ _ (λ _ x. absurd (false≢true x)) (λ _. polls-command (s .opening) n d)) (λ _ x. absurd (false≢true x)))))
+polls-verdict : (s : Serial) (k : Command) (n : ℕ) (d : List ℕ) → isPolled (verdictOf s k n d .reply) ≡ true → eqb (k .command) 0x0A ≡ true
+polls-verdict s k n d =
+    verdict-is s k {P = λ (v : Verdict). isPolled (v .reply) ≡ true → eqb (k .command) 0x0A ≡ true} (record {
+      silent = λ e. absurd (false≢true e);
+      resets = λ _ e. absurd (false≢true e);
+      refuses = λ number h e. absurd (false≢true e);
+      opens = λ m accepted h e. absurd (false≢true e);
+      closes = λ _ e. absurd (false≢true e);
+      reads = λ i h g e. absurd (false≢true e);
+      stores = λ e. absurd (false≢true e);
+      enables = λ e. absurd (false≢true e);
+      disables = λ _ e. absurd (false≢true e);
+      polled = λ e _. e;
+    }) n d
 
 -- To code 0 nothing but a reset acts, and nobody is polled.
 zero-keeps : (s : Serial) (k : Command) (n : ℕ) (d : List ℕ) → k .device ≡ 0 → eqb (k .command) 0xFF ≡ false → (clears (verdictOf s k n d .effect) ≡ false) × (isPolled (verdictOf s k n d .reply) ≡ false)
@@ -170,7 +135,7 @@ harmless-effect : (own : ℕ) (f : Frame) (s : Serial) (n : ℕ) (d : List ℕ) 
 harmless-effect own f s n d nonzero h a = by (eqb (f .command .device) 0) refl (clears (verdictOf s (f .command) n d .effect)) refl
   where
     mine : eqb (f .command .device) 0 ≡ false → eqb (f .command .device) own ≡ true
-    mine z = only (eqb (f .command .device) own) (eqb (f .command .device) 0) z a
+    mine z = or-left (eqb (f .command .device) own) (eqb (f .command .device) 0) z a
 
     and-both : (x y : Bool) → x ≡ true → y ≡ true → (x && y) ≡ true
     and-both true true p q = refl

@@ -26,6 +26,7 @@ use Rattle.delivery.proofs.Lists.{all-map, all-step}
 use Rattle.delivery.proofs.Calls.{called as unit-called}
 use Rattle.delivery.proofs.Frame.{own-kept, becomes-all}
 use Rattle.delivery.proofs.Run.{frame-busy}
+use Rattle.delivery.proofs.Verdicts.{or-left}
 use Rattle.frame.specs.Frame.{pollOf, over, lentAt}
 use Rattle.frame.specs.declared.Frame.{Frame}
 use Rattle.frame.specs.declared.Lent.{Lent}
@@ -64,7 +65,7 @@ use Rattle.polling.specs.Handing.{BusStarts, moveOf, callOf, movesOf, to
 use Rattle.polling.specs.History.{since}
 use Rattle.polling.specs.Moves.{Move, after, afterAll, running, told, eventOf}
 use Rattle.polling.proofs.Does.{held, Does, keeps, accepts, serves, frame-ends, clears, does}
-use Rattle.polling.proofs.Requests.{Came, as-it-was, of-a-command, of-its-response, came-step, only}
+use Rattle.polling.proofs.Requests.{Came, as-it-was, of-a-command, of-its-response, came-step}
 use Rattle.polling.proofs.Handing.{starts, hands-by, hands-only, isHand}
 
 -- The controller of a run is one that was made, after its own calls.
@@ -229,7 +230,7 @@ frame-told w v q r busy i x m =
 
 -- Which unit spoke, and what it said.
 pub addressed-own : (c : Command) (own : ℕ) → (c .device ≡ 0 → ⊥) → addressed c own ≡ true → own ≡ c .device
-addressed-own c own nonzero e = sym (eqb-true (c .device) own (only (eqb (c .device) own) (eqb (c .device) 0) (ne-eqb (c .device) 0 nonzero) e))
+addressed-own c own nonzero e = sym (eqb-true (c .device) own (or-left (eqb (c .device) own) (eqb (c .device) 0) (ne-eqb (c .device) 0 nonzero) e))
 
 abbrev frameOf1 : Frame → List Frame → Frame
 frameOf1 g [] = g

@@ -1,15 +1,16 @@
 -- A request stands until something ends it, and BAV is pulled for it as the retry rule says.
-use Prim.Native.Nat.{ℕ, suc, _+_, _/_, _%_, _<_, _≤_, min}
+use Prim.Native.Nat.{ℕ, suc, _+_, _<_, _≤_, min}
 use native.Mathlib.Omega.{arith}
-use mathlib.Core.Path.{_≡_, refl, sym, _∙_, ap}
+use mathlib.Core.Path.{_≡_, refl, _∙_, ap}
 use mathlib.Core.Bool.{Bool, true, false, cond, not, _&&_, _||_, true≢false, false≢true}
 use mathlib.Core.List.{List, [], _∷_}
 use borrow.Author.Tests.{leb-true, leb-false, le-leb, lt-leb}
 use lib.Dec.{ltb, leb, eqb}
-use lib.ListN.{length, getD}
+use lib.ListN.{length}
 use Rattle.bus.specs.Bus.{unitAfter}
 use Rattle.delivery.specs.Calls.{unitTaken}
-use Rattle.field.specs.Field.{byteFrom, valueOf}
+use Rattle.delivery.proofs.Verdicts.{verdict-is}
+use Rattle.field.specs.Field.{byteFrom}
 use Rattle.header.specs.declared.Command.{Command}
 use Rattle.host.specs.Calls.{takenBy, isFed}
 use Rattle.line.specs.Line.{sentOf, takenOf}
@@ -21,23 +22,19 @@ use Rattle.phase.specs.declared.Moved.{Moved}
 use Rattle.phase.specs.declared.Phase.{Phase}
 use Rattle.phase.specs.declared.Phase.the-variants.{Idle, Selecting, Receiving, Responding, SittingOut}
 use Rattle.phase.specs.declared.Progress.the-variants.{Taking, Answered}
-use Rattle.queue.specs.Queue.{room, popped, held}
+use Rattle.queue.specs.Queue.{room, popped}
 use Rattle.queue.specs.declared.Popped.{Popped}
 use Rattle.queue.specs.declared.Popped.the-variants.{Byte, Nothing}
 use Rattle.reply.specs.Reply.{lastNibble}
 use Rattle.serial.specs.Serial.{applied, finished}
 use Rattle.serial.specs.declared.Effect.{Effect}
 use Rattle.serial.specs.declared.Effect.the-variants.{Keeps, Opens, Closes, Resets, Enables, Disables, Stores}
-use Rattle.serial.specs.declared.Mode.{Mode}
-use Rattle.serial.specs.declared.Mode.the-variants.{Input, Output, Update}
-use Rattle.serial.specs.declared.Opening.{Opening}
-use Rattle.serial.specs.declared.Opening.the-variants.{Closed, OpenFor}
 use Rattle.serial.specs.declared.Reply.{Reply}
 use Rattle.serial.specs.declared.Reply.the-variants.{Silent, Status, Opened, Bytes, Polled}
 use Rattle.serial.specs.declared.Serial.{Serial}
 use Rattle.unit.specs.Unit.{newUnit, lowStep, highStep, unitStep, asks, quietAfter}
 use Rattle.unit.specs.declared.Unit.{Unit}
-use Rattle.verdict.specs.Verdict.{says, verdictOf, commandBy, supported, openBy, readBy, writeBy, openedBy, pollBy}
+use Rattle.verdict.specs.Verdict.{verdictOf}
 use Rattle.verdict.specs.declared.Verdict.{Verdict}
 use Rattle.polling.specs.Requests.{UnitMove, steps, feeds, takes, raises, moved, movedAll, by-a-command, by-its-answer, Stands, stands, ends, Raised, RequestStands, isSeen, rowAfter, rowOf, unitSince, PullsBav, HoldsBav}
 
@@ -102,80 +99,28 @@ clears Enables = false
 clears Disables = true
 clears Stores = false
 
-or-true : (a b : Bool) → b ≡ true → (a || b) ≡ true
-or-true true b e = refl
-or-true false b e = e
-
 pub or-first : (a b : Bool) → a ≡ true → (a || b) ≡ true
 or-first true b e = refl
 or-first false b e = absurd (false≢true e)
 
-skip : (a : Bool) {b : Bool} → a ≡ false → (a || b) ≡ true → b ≡ true
-skip a {b} f e = sym (ap (λ (t : Bool). t || b) f) ∙ e
+or-second : (a b : Bool) → b ≡ true → (a || b) ≡ true
+or-second true b e = refl
+or-second false b e = e
 
-pub only : (a b : Bool) → b ≡ false → (a || b) ≡ true → a ≡ true
-only true b f e = refl
-only false b f e = absurd (false≢true (sym f ∙ e))
-
-module _ (s : Serial) (k : Command) where
-  abbrev Fine : Verdict → Type 0
-  Fine v = clears (v .effect) ≡ true → isEnding (k .command) ≡ true
-
-  fine-cond : (t : Bool) (v w : Verdict) → (t ≡ true → Fine v) → (t ≡ false → Fine w) → Fine (cond t v w)
-  fine-cond true v w p q = p refl
-  fine-cond false v w p q = q refl
-
-  kept : (r : Reply) → Fine (says r Keeps)
-  kept r e = absurd (false≢true e)
-
-  fine-open : (n requested attributes : ℕ) → Fine (openBy (k .«buffer_length») n requested attributes)
-  fine-open n requested attributes =
-      fine-cond (ltb n 3) _ _ (λ _. kept (Status 0x02)) (λ _.
-      fine-cond (eqb (attributes / 64) 0) _ _ (λ _. kept (Status 0x13)) (λ _.
-      fine-cond (eqb (attributes / 32 % 2) 1) _ _ (λ _. kept (Status 0x11)) (λ _.
-      fine-cond (ltb 128 requested) _ _ (λ _. kept (Status 0x0C)) (λ _.
-      fine-cond (ltb (k .«buffer_length») 4) _ _ (λ _. kept (Status 0x0C)) (λ _.
-      fine-cond (ltb 3 n) _ _ (λ _. kept (Status 0x01)) (λ _ e. absurd (false≢true e)))))))
-
-  fine-poll : (a b : Bool) → Fine (pollBy a b)
-  fine-poll a b = fine-cond (a && b) _ _ (λ _. kept Polled) (λ _. kept (Status 0x0A))
-
-  fine-read : (m : Mode) (accepted : ℕ) → Fine (readBy m accepted (k .«buffer_length») (held (s .input)))
-  fine-read Input accepted e = absurd (false≢true e)
-  fine-read Output accepted e = absurd (false≢true e)
-  fine-read Update accepted e = absurd (false≢true e)
-
-  stored : (r : Reply) → Fine (says r Stores)
-  stored r e = absurd (false≢true e)
-
-  fine-write : (m : Mode) (n room : ℕ) → Fine (writeBy m n room)
-  fine-write Input n room = kept (Status 0x0E)
-  fine-write Output n room = fine-cond (ltb room n) _ _ (λ _. kept (Status 0x08)) (λ _. stored (Status 0x00))
-  fine-write Update n room = fine-cond (ltb room n) _ _ (λ _. kept (Status 0x08)) (λ _. stored (Status 0x00))
-
-  fine-in : (m : Mode) (accepted n : ℕ) → supported (k .command) ≡ true → eqb (k .command) 0x00 ≡ false → eqb (k .command) 0x0A ≡ false → Fine (openedBy m accepted s k n)
-  fine-in m accepted n among a b =
-      fine-cond (eqb (k .command) 0x01) _ _ (λ e _. or-first (eqb (k .command) 0x01) (eqb (k .command) 0x09 || eqb (k .command) 0xFF) e) (λ c.
-      fine-cond (eqb (k .command) 0x03) _ _ (λ _. fine-read m accepted) (λ d.
-      fine-cond (eqb (k .command) 0x04) _ _ (λ _. fine-write m n (room (s .output))) (λ e.
-      fine-cond (eqb (k .command) 0x08) _ _ (λ _ x. absurd (false≢true x)) (λ f _.
-      or-true (eqb (k .command) 0x01) (eqb (k .command) 0x09 || eqb (k .command) 0xFF)
-      (or-first (eqb (k .command) 0x09) (eqb (k .command) 0xFF) (only (eqb (k .command) 0x09) (eqb (k .command) 0x0A) b (skip (eqb (k .command) 0x08) f (skip (eqb (k .command) 0x04) e (skip (eqb (k .command) 0x03) d (skip (eqb (k .command) 0x01) c (skip (eqb (k .command) 0x00) a among)))))))))))
-
-  fine-command : (o : Opening) (n : ℕ) (d : List ℕ) → supported (k .command) ≡ true → Fine (commandBy o s k n d)
-  fine-command Closed n d among =
-      fine-cond (eqb (k .command) 0x00) _ _ (λ _. fine-open n (valueOf (getD d 0 0 ∷ getD d 1 0 ∷ [])) (getD d 2 0)) (λ _.
-      fine-cond (eqb (k .command) 0x0A) _ _ (λ _. fine-poll (s .enabled) (s .requesting)) (λ _. kept (Status 0x04)))
-  fine-command (OpenFor m accepted) n d among =
-      fine-cond (eqb (k .command) 0x00) _ _ (λ _. kept (Status 0x05)) (λ a.
-      fine-cond (eqb (k .command) 0x0A) _ _ (λ _. fine-poll (s .enabled) (s .requesting)) (λ b. fine-in m accepted n among a b))
-
-  pub fine-verdict : (n : ℕ) (d : List ℕ) → Fine (verdictOf s k n d)
-  fine-verdict n d =
-      fine-cond (eqb (k .command) 0xFE) _ _ (λ _. kept Silent) (λ _.
-      fine-cond (eqb (k .command) 0xFF) _ _ (λ e _. or-true (eqb (k .command) 0x01) (eqb (k .command) 0x09 || eqb (k .command) 0xFF) (or-true (eqb (k .command) 0x09) (eqb (k .command) 0xFF) e)) (λ _.
-      fine-cond (eqb (k .device) 0) _ _ (λ _. kept Silent) (λ _.
-      fine-cond (supported (k .command)) _ _ (λ among. fine-cond (ltb 256 n) _ _ (λ _. kept (Status 0x08)) (λ _. fine-command (s .opening) n d among)) (λ _. kept (Status 0x0D)))))
+pub fine-verdict : (s : Serial) (k : Command) (n : ℕ) (d : List ℕ) → clears (verdictOf s k n d .effect) ≡ true → isEnding (k .command) ≡ true
+fine-verdict s k n d =
+    verdict-is s k {P = λ (v : Verdict). clears (v .effect) ≡ true → isEnding (k .command) ≡ true} (record {
+      silent = λ e. absurd (false≢true e);
+      resets = λ e _. or-second (eqb (k .command) 0x01) (eqb (k .command) 0x09 || eqb (k .command) 0xFF) (or-second (eqb (k .command) 0x09) (eqb (k .command) 0xFF) e);
+      refuses = λ number h e. absurd (false≢true e);
+      opens = λ m accepted h e. absurd (false≢true e);
+      closes = λ e _. or-first (eqb (k .command) 0x01) (eqb (k .command) 0x09 || eqb (k .command) 0xFF) e;
+      reads = λ i h g e. absurd (false≢true e);
+      stores = λ e. absurd (false≢true e);
+      enables = λ e. absurd (false≢true e);
+      disables = λ e _. or-second (eqb (k .command) 0x01) (eqb (k .command) 0x09 || eqb (k .command) 0xFF) (or-first (eqb (k .command) 0x09) (eqb (k .command) 0xFF) e);
+      polled = λ _ e. absurd (false≢true e);
+    }) n d
 
 -- An effect that does not clear a request leaves it.
 pub left-by : (s : Serial) (e : Effect) (d : List ℕ) → clears e ≡ false → applied s e d .requesting ≡ s .requesting
