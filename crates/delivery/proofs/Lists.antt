@@ -33,6 +33,10 @@ one-has {A = A} {P = P} {Q = Q} (that q o) = that q (deeper (one-has o))
     deeper (this p a) = this (p .0, there (p .1)) a
     deeper (that q o) = that q (deeper o)
 
+pub has-all {ℓ κ} : {A : Type ℓ} {P : A → Type κ} {xs : List A} {x : A} → All P xs → Has x xs → P x
+has-all (also p a) here = p
+has-all (also p a) (there h) = has-all a h
+
 -- A round of every unit.
 pub all-step : {P Q : Station → Type 0} (seen : Lines) → ((st : Station) (busy : Bool) → P st → Q (stationStep st seen busy)) → (hosts : ℕ) {ss : List Station} → All P ss → All Q (unitsAfter seen hosts ss)
 all-step seen f hosts none = none

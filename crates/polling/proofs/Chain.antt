@@ -27,7 +27,7 @@ use Rattle.answer.specs.declared.Response.the-variants.{Complete}
 use Rattle.polling.proofs.Handing.{Shape, a-command, a-poll, a-null, Shapes, shape-since}
 use Rattle.delivery.proofs.Run.{in-frame-called}
 use Rattle.delivery.proofs.Verdicts.{verdict-is, or-left}
-use Rattle.delivery.proofs.Lists.{all-map, all-zip, all-step, all-becomes}
+use Rattle.delivery.proofs.Lists.{has-all, all-map, all-zip, all-step, all-becomes}
 use Rattle.frame.specs.Frame.{pollOf, dataOf, over}
 use Rattle.frame.specs.declared.Frame.{Frame}
 use Rattle.frame.specs.declared.Stage.{Stage}
@@ -200,10 +200,6 @@ frame-talks (waits quiet framed d a why) b e = absurd (true≢false (sym e ∙ a
 becomes-has : {seen : Lines} {hosts : ℕ} {ss : List Station} {st new : Station} → Becomes seen hosts ss st new → Has st ss
 becomes-has first-one = here
 becomes-has (behind b) = there (becomes-has b)
-
-has-all : {P : Station → Type 0} {ss : List Station} {x : Station} → All P ss → Has x ss → P x
-has-all (also p a) here = p
-has-all (also p a) (there h) = has-all a h
 
 same-has : {ss : List Station} {x y : Station} → Different ss → Has x ss → Has y ss → x .unit .own ≡ y .unit .own → x ≡ y
 same-has d here here e = refl

@@ -30,7 +30,7 @@ use Rattle.polling.proofs.Does.{isPoll, held, Onward, same-frame, no-mo
 use Rattle.controller.specs.Controller.{newController}
 
 -- An idle stage is free, so nothing that is lent can be refused.
-free : (stage : Stage) → isIdle stage ≡ true → stage ≡ Free
+pub free : (stage : Stage) → isIdle stage ≡ true → stage ≡ Free
 free Free e = refl
 free (Resting first) e = absurd (false≢true e)
 free (Waiting f) e = absurd (false≢true e)

@@ -6,3 +6,4 @@ pub mod Requests
 pub mod Handing
 pub mod OnTheBus
 pub mod Chain
+pub mod Beginning

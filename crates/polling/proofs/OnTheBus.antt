@@ -395,7 +395,7 @@ handed-held w v code q r busy e = by (runs-it (pollOf code) (every-run w v q r) 
     by (runs-one found x) = goes found x (every-response w v r (pollOf code) found x busy)
 
 -- A request's pull is seen.
-asking-low : (l : Lines) {ss : List Station} {st : Station} → Has st ss → st .unit .asking ≡ true → levelsWith l ss .bav ≡ true
+pub asking-low : (l : Lines) {ss : List Station} {st : Station} → Has st ss → st .unit .asking ≡ true → levelsWith l ss .bav ≡ true
 asking-low l {st = st} (here {xs = ss}) e = bav-kept (wired l (pullsOf (st .unit))) ss (or-true (l .bav) (st .unit .asking) e)
   where
     or-true : (a b : Bool) → b ≡ true → (a || b) ≡ true

@@ -4,3 +4,4 @@ pub mod History
 pub mod Requests
 pub mod Handing
 pub mod Chain
+pub mod Beginning
