@@ -51,14 +51,15 @@ pub struct Desk {
     pub failed: u32,
     // Where the present line of the script begins.
     pub start: usize,
-    // Whether frames are pictured; the strip, and how many columns stand on it.
+    // The descriptor that the dump goes to, 0 for none; whether frames are pictured; the strip, and how many columns stand on it.
+    pub dump: u8,
     pub pictured: bool,
     pub strip: [u8; 384],
     pub columns: usize,
 }
 
 impl Desk {
-    pub fn new(pictured: bool) -> Desk {
+    pub fn new(dump: u8, pictured: bool) -> Desk {
         Desk {
             round: 0,
             codes: [0; 16],
@@ -85,6 +86,7 @@ impl Desk {
             held: 0,
             failed: 0,
             start: 0,
+            dump,
             pictured,
             strip: [b' '; 384],
             columns: 0,
@@ -293,12 +295,12 @@ impl Desk {
     }
 
     // With the strip shown when it is full, and in the first round with no line low.
-    pub fn shown(self, page: &mut [u8]) -> Desk {
+    pub fn shown(self) -> Desk {
         let least = self.least();
         if least == 0 {
             return self;
         }
-        look::strip(page, self, least);
+        look::strip(self, least);
         let mut d = self;
         d.columns = 0;
         d

@@ -2,29 +2,29 @@
 use crate::Desk;
 
 // The pictures of a round.
-pub fn pictured(page: &mut [u8], dump: &mut [u8], d: Desk, before: &[u8; 18]) -> Desk {
+pub fn pictured(d: Desk, before: &[u8; 18]) -> Desk {
     let marks = d.marks;
-    dumped(dump, d, before, &marks);
+    if 0 < d.dump {
+        dumped(d, before, &marks);
+    }
     if d.pictured {
-        return with_column(d, &marks).shown(page);
+        return with_column(d, &marks).shown();
     }
     d
 }
 
 // The changes of a round; before the first the head, and the lines of a quiet start.
-fn dumped(dump: &mut [u8], d: Desk, before: &[u8; 18], marks: &[u8; 18]) {
-    if page::is_open(dump) {
-        dump_head(dump, d, before);
-        picture::dump::round(dump, d.round, before, marks, d.count, false);
-    }
-}
-
-fn dump_head(dump: &mut [u8], d: Desk, before: &[u8; 18]) {
+fn dumped(d: Desk, before: &[u8; 18], marks: &[u8; 18]) {
     if d.round == 1 {
         let codes = d.codes;
-        picture::dump::head(dump, &codes, d.count);
-        picture::dump::round(dump, 0, before, before, d.count, true);
+        dump_head(d.dump, before, &codes, d.count);
     }
+    picture::dump::round(d.dump, d.round, before, marks, d.count, false);
+}
+
+fn dump_head(dump: u8, before: &[u8; 18], codes: &[u8; 16], count: usize) {
+    picture::dump::head(dump, codes, count);
+    picture::dump::round(dump, 0, before, before, count, true);
 }
 
 // With a column more on the strip.
@@ -37,13 +37,13 @@ fn with_column(d: Desk, marks: &[u8; 18]) -> Desk {
 }
 
 // The strip, if it has at least so many columns.
-pub fn strip(page: &mut [u8], d: Desk, least: usize) {
+pub fn strip(d: Desk, least: usize) {
     let strip = d.strip;
-    show(page, &strip, d.columns, least, d.round);
+    show(&strip, d.columns, least, d.round);
 }
 
-fn show(page: &mut [u8], strip: &[u8], n: usize, least: usize, round: u64) {
+fn show(strip: &[u8], n: usize, least: usize, round: u64) {
     if least <= n {
-        picture::strip::show(page, strip, n, round);
+        picture::strip::show(strip, n, round);
     }
 }

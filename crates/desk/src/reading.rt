@@ -16,7 +16,7 @@ struct Reading {
 }
 
 // How many lines of a script cannot be played; each is said.
-pub fn faults(page: &mut [u8], name: &[u8], text: &[u8], bytes: &mut [u8]) -> u32 {
+pub fn faults(name: &[u8], text: &[u8], bytes: &mut [u8]) -> u32 {
     let mut r = Reading {
         plan: Plan::new(),
         number: 1,
@@ -25,26 +25,19 @@ pub fn faults(page: &mut [u8], name: &[u8], text: &[u8], bytes: &mut [u8]) -> u3
     };
     let mut i = 0;
     while i < text.len() {
-        r = read_to(r, page, name, text, i, bytes);
+        r = read_to(r, name, text, i, bytes);
         i += 1;
     }
     r.found
 }
 
 // Up to a letter of the script: where a line ends, it is read.
-fn read_to(
-    r: Reading,
-    page: &mut [u8],
-    name: &[u8],
-    text: &[u8],
-    i: usize,
-    bytes: &mut [u8],
-) -> Reading {
+fn read_to(r: Reading, name: &[u8], text: &[u8], i: usize, bytes: &mut [u8]) -> Reading {
     if is_end(text, i) {
         let line = part(text, r.start, i);
         let s = script::read(line, bytes);
         let plan = planned(r.plan, s);
-        let found = is_fault(page, name, r.number, line, s, plan);
+        let found = is_fault(name, r.number, line, s, plan);
         return Reading {
             plan,
             number: r.number % 1000000000 + 1,
@@ -68,27 +61,20 @@ fn planned(plan: Plan, s: Statement) -> Plan {
 }
 
 // 1 for a line that cannot be played, else 0.
-fn is_fault(
-    page: &mut [u8],
-    name: &[u8],
-    number: u64,
-    line: &[u8],
-    s: Statement,
-    plan: Plan,
-) -> u32 {
+fn is_fault(name: &[u8], number: u64, line: &[u8], s: Statement, plan: Plan) -> u32 {
     if LONGEST < line.len() {
-        fault::long_line(page, name, number);
+        fault::long_line(name, number);
         return 1;
     }
     if s.is_wrong() {
-        fault::misread(page, name, number, line, s);
+        fault::misread(name, number, line, s);
         return 1;
     }
     let why = plan.fault;
     match why {
         Fault::None => 0,
         _ => {
-            fault::misplaced(page, name, number, why);
+            fault::misplaced(name, number, why);
             1
         }
     }

@@ -1,6 +1,5 @@
 // The units and the ring, as an application may look at them.
 use crate::Desk;
-use crate::tell;
 use ring::Entry;
 use ring::Ring;
 use serial::Mode;
@@ -8,80 +7,76 @@ use serial::Opening;
 use unit::Unit;
 
 // The unit at a place, if there is one.
-pub fn unit_at(page: &mut [u8], d: Desk, i: usize, u: Unit) {
+pub fn unit_at(d: Desk, i: usize, u: Unit) {
     if i < d.count {
-        one(page, d, i, u);
+        let turns = d.turns;
+        one(d.round, turns[i % 16], u);
     }
 }
 
-fn one(page: &mut [u8], d: Desk, i: usize, u: Unit) {
+fn one(round: u64, turns: u32, u: Unit) {
     let looks = host::look(u);
-    tell::at(page, d);
-    page::code(page, u.own);
+    page::tell(b"@#", round, u.own as u64, 0, 0);
     let known = looks.opening;
-    opening(page, known);
-    queues(page, looks.input, looks.output);
-    let turns = d.turns;
-    service(page, looks.enabled, looks.requesting, turns[i % 16]);
+    opening(known);
+    queues(looks.input, looks.output);
+    service(looks.enabled, looks.requesting, turns);
 }
 
-fn service(page: &mut [u8], enabled: bool, requesting: bool, turns: u32) {
-    tell::if_so(page, enabled, b", enabled");
-    tell::if_so(page, requesting, b", requesting");
-    page::words(page, b", turns ");
-    page::count(page, turns);
-    page::end(page);
+fn service(enabled: bool, requesting: bool, turns: u32) {
+    if enabled {
+        page::say(b", enabled");
+    }
+    if requesting {
+        page::say(b", requesting");
+    }
+    page::tell(b", turns #\n", turns as u64, 0, 0, 0);
 }
 
-pub fn queues(page: &mut [u8], input: usize, output: usize) {
-    page::words(page, b", input ");
-    page::decimal(page, input as u64);
-    page::words(page, b", output ");
-    page::decimal(page, output as u64);
+pub fn queues(input: usize, output: usize) {
+    page::tell(b", input #, output #", input as u64, output as u64, 0, 0);
 }
 
-fn opening(page: &mut [u8], o: Opening) {
+fn opening(o: Opening) {
     match o {
-        Opening::Closed => page::words(page, b": closed"),
+        Opening::Closed => page::say(b": closed"),
         Opening::OpenFor(m, accepted) => {
-            mode(page, m);
-            page::words(page, b", accepted length ");
-            page::code(page, accepted);
+            mode(m);
+            page::tell(b", accepted length #", accepted as u64, 0, 0, 0);
         }
     }
 }
 
-fn mode(page: &mut [u8], m: Mode) {
+fn mode(m: Mode) {
     match m {
-        Mode::Input => page::words(page, b": open for input"),
-        Mode::Output => page::words(page, b": open for output"),
-        Mode::Update => page::words(page, b": open for update"),
+        Mode::Input => page::say(b": open for input"),
+        Mode::Output => page::say(b": open for output"),
+        Mode::Update => page::say(b": open for update"),
     }
 }
 
 // The ring in order, the front first, marked entries with a star.
-pub fn ring(page: &mut [u8], d: Desk, r: Ring) {
-    tell::at(page, d);
-    page::words(page, b"ring of ");
-    page::decimal(page, r.len() as u64);
-    page::words(page, b":");
-    entries(page, r);
-    page::end(page);
+pub fn ring(round: u64, r: Ring) {
+    page::tell(b"@ring of #:", round, r.len() as u64, 0, 0);
+    entries(r);
 }
 
-pub fn entries(page: &mut [u8], r: Ring) {
+pub fn entries(r: Ring) {
     let mut i = 0;
     while i < 16 {
-        entry(page, i < r.len(), r.entry(i));
+        entry(i < r.len(), r.entry(i));
         i += 1;
     }
+    page::say(b"\n");
 }
 
-fn entry(page: &mut [u8], is_there: bool, e: Entry) {
+fn entry(is_there: bool, e: Entry) {
     if is_there {
-        page::letter(page, b' ');
-        page::code(page, e.code);
-        tell::if_so(page, e.marked, b"*");
+        let code = e.code;
+        page::tell(b" #", code as u64, 0, 0, 0);
+        if e.marked {
+            page::say(b"*");
+        }
     }
 }
 

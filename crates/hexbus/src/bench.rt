@@ -51,30 +51,24 @@ impl Bench {
     }
 
     // A round of every party, after what hosts do by themselves.
-    pub fn round(
-        self,
-        page: &mut [u8],
-        dump: &mut [u8],
-        data: &[u8],
-        response: &mut [u8],
-    ) -> Bench {
-        self.by_itself(page).all_step(page, dump, data, response)
+    pub fn round(self, bytes: &[u8; 131072], response: &mut [u8; 65536]) -> Bench {
+        self.by_itself().all_step(bytes, response)
     }
 
-    fn by_itself(self, page: &mut [u8]) -> Bench {
+    fn by_itself(self) -> Bench {
         let d = self.desk;
         let i = d.is_due();
         if i < 16 {
-            return asked(page, calls::raised(self.with_desk(d.put_off(i)), i));
+            return asked(calls::raised(self.with_desk(d.put_off(i)), i));
         }
         self
     }
 
-    fn all_step(self, page: &mut [u8], dump: &mut [u8], data: &[u8], response: &mut [u8]) -> Bench {
+    fn all_step(self, bytes: &[u8; 131072], response: &mut [u8; 65536]) -> Bench {
         let d = self.desk;
         let before = stage_of(self.bus);
-        let rounded = stepped(self.bus, d, data, response);
-        told(page, dump, response, rounded, d, before)
+        let rounded = stepped(self.bus, d, bytes, response);
+        told(response, rounded, d, before)
     }
 
     // A request that was handed over is acknowledged at once, where the script says so.
@@ -102,8 +96,8 @@ impl Bench {
 }
 
 // What a raise has come to.
-fn asked(page: &mut [u8], b: Bench) -> Bench {
-    tell::call(page, b.desk, Verb::Raise, 0);
+fn asked(b: Bench) -> Bench {
+    tell::call(b.desk, Verb::Raise, 0);
     b
 }
 
@@ -145,32 +139,27 @@ fn is_free(stage: Stage) -> bool {
     }
 }
 
-// A round of the bus, with what was lent for its command.
-fn stepped(bus: Bus, d: Desk, data: &[u8], response: &mut [u8]) -> Rounded {
-    let hosts = d.busy_hosts();
+// A round of the bus, with what was lent for its command: bytes of the second half, and the front of the response buffer.
+fn stepped(bus: Bus, d: Desk, bytes: &[u8], response: &mut [u8]) -> Rounded {
     let lent = d.lent;
-    let known = tell::front(data, d.length);
+    let hosts = d.busy_hosts();
+    let data = reading::part(bytes, 65536, 65536 + d.length % 65536);
     if lent <= response.len() {
-        return bus.round(hosts, known, &mut response[0..lent]);
+        return bus.round(hosts, data, &mut response[0..lent]);
     }
-    bus.round(hosts, known, response)
+    // No script lends more than there is.
+    Rounded {
+        bus,
+        outcome: Stepping::Buffer,
+    }
 }
 
 // The bus after a round, with the round told and what is handed over dealt with.
-fn told(
-    page: &mut [u8],
-    dump: &mut [u8],
-    response: &[u8],
-    rounded: Rounded,
-    d: Desk,
-    before: Stage,
-) -> Bench {
+fn told(response: &[u8], rounded: Rounded, d: Desk, before: Stage) -> Bench {
     let outcome = rounded.outcome;
     let old = d.marks;
     let bus = rounded.bus;
     let desk = tell::all(
-        page,
-        dump,
         later(d, bus),
         &old,
         before,

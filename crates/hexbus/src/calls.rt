@@ -24,11 +24,11 @@ struct Given {
 }
 
 // A bus with a controller of the default time-out and no unit.
-pub fn start(pictured: bool) -> Bench {
+pub fn start(dump: u8, pictured: bool) -> Bench {
     let made = application::make(application::TIMEOUT);
     Bench {
         bus: Bus::new(made.controller),
-        desk: Desk::new(pictured),
+        desk: Desk::new(dump, pictured),
     }
 }
 
@@ -66,11 +66,25 @@ fn with_unit(bus: Bus, s: Station, d: Desk) -> Bench {
     }
 }
 
-// Submits a command with bytes, which are kept for its frame.
-pub fn submit(b: Bench, s: Statement, bytes: &[u8], data: &mut [u8], response: &[u8]) -> Bench {
-    let known = tell::front(bytes, s.length);
-    copy(data, known);
-    submitted(b, s, known, tell::front(response, s.lent as usize))
+// Submits a command with the bytes of its statement, which are kept for its frame.
+pub fn submit(b: Bench, s: Statement, bytes: &mut [u8; 131072], response: &[u8; 65536]) -> Bench {
+    keep(bytes, s.length);
+    submitted(
+        b,
+        s,
+        tell::front(bytes, s.length),
+        tell::front(response, s.lent as usize),
+    )
+}
+
+// So many bytes of the first half go to the second.
+fn keep(bytes: &mut [u8; 131072], length: usize) {
+    let n = length % 65537;
+    let mut i = 0;
+    while i < n {
+        bytes[65536 + i] = bytes[i];
+        i += 1;
+    }
 }
 
 fn submitted(b: Bench, s: Statement, known: &[u8], response: &[u8]) -> Bench {
@@ -98,20 +112,6 @@ fn refusal_of(outcome: Submitting) -> u8 {
         Submitting::PollCommand => 3,
         Submitting::FullRing => 4,
         Submitting::ShortResponse => 11,
-    }
-}
-
-fn copy(to: &mut [u8], from: &[u8]) {
-    let mut i = 0;
-    while i < from.len() {
-        put(to, i, from[i]);
-        i += 1;
-    }
-}
-
-fn put(to: &mut [u8], i: usize, b: u8) {
-    if i < to.len() {
-        to[i] = b;
     }
 }
 

@@ -75,50 +75,22 @@ fn wish(w: Wishes, i: usize) -> Wishes {
 }
 
 fn lend_text(w: Wishes, text: &mut [u8; 1048577]) {
-    let mut page = [0u8; 65536];
-    let mut dump = [0u8; 65536];
-    let mut bytes = [0u8; 65536];
-    let mut data = [0u8; 65536];
+    let mut bytes = [0u8; 131072];
     let mut response = [0u8; 65536];
-    lend(
-        w,
-        text,
-        &mut page,
-        &mut dump,
-        &mut bytes,
-        &mut data,
-        &mut response,
-    );
-}
-
-fn lend(
-    w: Wishes,
-    text: &mut [u8; 1048577],
-    page: &mut [u8; 65536],
-    dump: &mut [u8; 65536],
-    bytes: &mut [u8; 65536],
-    data: &mut [u8; 65536],
-    response: &mut [u8; 65536],
-) {
-    scripts(w, text, page, dump, bytes, data, response);
+    scripts(w, text, &mut bytes, &mut response);
 }
 
 // Each script in the order of the words.
 fn scripts(
     w: Wishes,
-    text: &mut [u8],
-    page: &mut [u8],
-    dump: &mut [u8],
-    bytes: &mut [u8],
-    data: &mut [u8],
-    response: &mut [u8],
+    text: &mut [u8; 1048577],
+    bytes: &mut [u8; 131072],
+    response: &mut [u8; 65536],
 ) {
     let n = os::arg_count();
     let mut i = 2;
     while i < n {
-        page::begin(page, 1);
-        one(w, i, text, page, dump, bytes, data, response);
-        page::flush(page);
+        one(w, i, text, bytes, response);
         i += 1;
     }
 }
@@ -126,12 +98,9 @@ fn scripts(
 fn one(
     w: Wishes,
     i: usize,
-    text: &mut [u8],
-    page: &mut [u8],
-    dump: &mut [u8],
-    bytes: &mut [u8],
-    data: &mut [u8],
-    response: &mut [u8],
+    text: &mut [u8; 1048577],
+    bytes: &mut [u8; 131072],
+    response: &mut [u8; 65536],
 ) {
     let mut name = [0u8; 4096];
     let n = os::arg(i, &mut name);
@@ -139,45 +108,19 @@ fn one(
     if is_option(w, i, word) {
         return;
     }
-    named(w, word, text, page, dump, bytes, data, response);
+    named(w, word, text, bytes, response);
 }
 
 fn named(
     w: Wishes,
     name: &[u8],
-    text: &mut [u8],
-    page: &mut [u8],
-    dump: &mut [u8],
-    bytes: &mut [u8],
-    data: &mut [u8],
-    response: &mut [u8],
+    text: &mut [u8; 1048577],
+    bytes: &mut [u8; 131072],
+    response: &mut [u8; 65536],
 ) {
-    let length = load(name, text, page);
-    loaded(
-        w,
-        name,
-        tell::front(text, length),
-        page,
-        dump,
-        bytes,
-        data,
-        response,
-    );
-}
-
-// Nothing was loaded where there is not even the end of a line.
-fn loaded(
-    w: Wishes,
-    name: &[u8],
-    text: &[u8],
-    page: &mut [u8],
-    dump: &mut [u8],
-    bytes: &mut [u8],
-    data: &mut [u8],
-    response: &mut [u8],
-) {
-    if 0 < text.len() {
-        checked(w, name, text, page, dump, bytes, data, response);
+    let length = load(name, text);
+    if 0 < length {
+        checked(w, name, tell::front(text, length), bytes, response);
     }
 }
 
@@ -192,7 +135,7 @@ fn is_option(w: Wishes, i: usize, word: &[u8]) -> bool {
 }
 
 // Reads a script and ends its last line; 0 where it cannot be had whole, which is said.
-fn load(name: &[u8], text: &mut [u8], page: &mut [u8]) -> usize {
+fn load(name: &[u8], text: &mut [u8]) -> usize {
     let file = os::open_read(name);
     if file < 0 {
         os::fail(name);
@@ -204,9 +147,8 @@ fn load(name: &[u8], text: &mut [u8], page: &mut [u8]) -> usize {
         text[n] = b'\n';
         return n + 1;
     }
-    page::words(page, name);
-    page::words(page, b": the script is too large: at most 1,048,576 bytes");
-    page::end(page);
+    page::say(name);
+    page::say(b": the script is too large: at most 1,048,576 bytes\n");
     0
 }
 
@@ -215,88 +157,67 @@ fn checked(
     w: Wishes,
     name: &[u8],
     text: &[u8],
-    page: &mut [u8],
-    dump: &mut [u8],
-    bytes: &mut [u8],
-    data: &mut [u8],
-    response: &mut [u8],
+    bytes: &mut [u8; 131072],
+    response: &mut [u8; 65536],
 ) {
-    let faults = reading::faults(page, name, text, bytes);
+    let faults = reading::faults(name, text, bytes);
     if 0 < faults {
-        not_run(page, name);
+        page::say(name);
+        page::say(b": nothing was run\n");
     } else {
-        played(w, name, text, page, dump, bytes, data, response);
+        played(w, name, text, bytes, response);
     }
-}
-
-fn not_run(page: &mut [u8], name: &[u8]) {
-    page::words(page, name);
-    page::words(page, b": nothing was run\n");
 }
 
 fn played(
     w: Wishes,
     name: &[u8],
     text: &[u8],
-    page: &mut [u8],
-    dump: &mut [u8],
-    bytes: &mut [u8],
-    data: &mut [u8],
-    response: &mut [u8],
+    bytes: &mut [u8; 131072],
+    response: &mut [u8; 65536],
 ) {
-    started(w, page, dump, name);
-    let d = play::whole(page, dump, text, w.pictured, bytes, data, response);
-    ended(page, dump, name, d.round, d.held, d.failed);
+    let dump = open_dump(w.dump);
+    title(name);
+    let t = play::whole(text, dump, w.pictured, bytes, response);
+    summary(name, dump, t.round, t.held, t.failed);
 }
 
-fn started(w: Wishes, page: &mut [u8], dump: &mut [u8], name: &[u8]) {
-    open_dump(w, dump);
-    title(page, name);
+fn title(name: &[u8]) {
+    page::say(name);
+    page::say(b"\n");
 }
 
-fn ended(page: &mut [u8], dump: &mut [u8], name: &[u8], round: u64, held: u32, failed: u32) {
-    close_dump(dump, round);
-    page::words(page, name);
-    summary(page, round, held, failed);
-}
-
-fn title(page: &mut [u8], name: &[u8]) {
-    page::words(page, name);
-    page::end(page);
-}
-
-fn summary(page: &mut [u8], round: u64, held: u32, failed: u32) {
-    page::words(page, b": ");
-    page::decimal(page, round);
-    page::words(page, b" rounds; expectations held ");
-    page::count(page, held);
-    page::words(page, b", failed ");
-    page::count(page, failed);
-    page::words(page, b"\n\n");
-}
-
-fn close_dump(dump: &mut [u8], round: u64) {
-    if page::is_open(dump) {
-        picture::dump::stamp(dump, round % 1000000000000 + 1);
-        page::flush(dump);
+fn summary(name: &[u8], dump: u8, round: u64, held: u32, failed: u32) {
+    if 0 < dump {
+        picture::dump::end(dump, round % 1000000000000 + 1);
     }
+    page::say(name);
+    page::tell(
+        b": # rounds; expectations held #, failed #\n\n",
+        round,
+        held as u64,
+        failed as u64,
+        0,
+    );
 }
 
-fn open_dump(w: Wishes, dump: &mut [u8]) {
-    page::begin(dump, 0);
-    if 0 < w.dump {
-        let mut name = [0u8; 4096];
-        let n = os::arg(w.dump, &mut name);
-        let file = os::open_overwrite(&name[..n]);
-        if file < 0 {
-            os::fail(&name[..n]);
-            return;
-        }
-        page::begin(dump, descriptor(file));
+// The descriptor of the dump that a word names; 0 for none.
+fn open_dump(i: usize) -> u8 {
+    if i == 0 {
+        return 0;
     }
+    let mut name = [0u8; 4096];
+    let n = os::arg(i, &mut name);
+    let word = &name[..n];
+    let file = os::open_overwrite(word);
+    if file < 0 {
+        os::fail(word);
+        return 0;
+    }
+    descriptor(file)
 }
 
-// A page keeps its descriptor in a byte; 0 for one that does not fit.
+// A dump keeps its descriptor in a byte; 0 for one that does not fit.
 fn descriptor(file: i32) -> u8 {
     let mut k = 3u8;
     while k < 255 {

@@ -18,22 +18,21 @@ pub struct Tally {
     pub failed: u32,
 }
 
+// The first half of the bytes is for those of a statement, the second for those of the command that was submitted last.
 pub fn whole(
-    page: &mut [u8],
-    dump: &mut [u8],
     text: &[u8],
+    dump: u8,
     pictured: bool,
-    bytes: &mut [u8],
-    data: &mut [u8],
-    response: &mut [u8],
+    bytes: &mut [u8; 131072],
+    response: &mut [u8; 65536],
 ) -> Tally {
-    let mut b = calls::start(pictured);
+    let mut b = calls::start(dump, pictured);
     let mut i = 0;
     while i < 16777216 {
         if text.len() <= i {
             break;
         }
-        b = played_to(b, page, dump, text, i, bytes, data, response);
+        b = played_to(b, text, i, bytes, response);
         i += 1;
     }
     counted(b.desk)
@@ -50,103 +49,69 @@ fn counted(d: Desk) -> Tally {
 // Up to a letter of the script: where a line ends, it is played.
 fn played_to(
     b: Bench,
-    page: &mut [u8],
-    dump: &mut [u8],
     text: &[u8],
     i: usize,
-    bytes: &mut [u8],
-    data: &mut [u8],
-    response: &mut [u8],
+    bytes: &mut [u8; 131072],
+    response: &mut [u8; 65536],
 ) -> Bench {
     if reading::is_end(text, i) {
-        return played(
-            b.past(i),
-            page,
-            dump,
-            b.line(text, i),
-            bytes,
-            data,
-            response,
-        );
+        return played(b.past(i), b.line(text, i), bytes, response);
     }
     b
 }
 
-fn played(
-    b: Bench,
-    page: &mut [u8],
-    dump: &mut [u8],
-    line: &[u8],
-    bytes: &mut [u8],
-    data: &mut [u8],
-    response: &mut [u8],
-) -> Bench {
+fn played(b: Bench, line: &[u8], bytes: &mut [u8; 131072], response: &mut [u8; 65536]) -> Bench {
     let s = script::read(line, bytes);
-    echo(page, line, s);
-    acted(b, page, dump, s, bytes, data, response)
+    echo(line, s);
+    acted(b, s, bytes, response)
 }
 
 // A statement as it was written, before what comes of it; the words of `say` alone.
-fn echo(page: &mut [u8], line: &[u8], s: Statement) {
+fn echo(line: &[u8], s: Statement) {
     let verb = s.verb;
     match verb {
         Verb::Blank => {}
-        Verb::Say => said(page, line, s.at),
-        _ => tell::echo(page, line),
+        Verb::Say => said(line, s.at),
+        _ => tell::echo(line),
     }
 }
 
 // The rest of a line, from a place on.
-fn said(page: &mut [u8], line: &[u8], at: usize) {
+fn said(line: &[u8], at: usize) {
     let words = script::word::next(line, at);
-    page::words(page, reading::part(line, words.start, line.len()));
-    page::end(page);
+    page::say(reading::part(line, words.start, line.len()));
+    page::say(b"\n");
 }
 
 // A statement that was read, with its bytes.
-fn acted(
-    b: Bench,
-    page: &mut [u8],
-    dump: &mut [u8],
-    s: Statement,
-    bytes: &[u8],
-    data: &mut [u8],
-    response: &mut [u8],
-) -> Bench {
+fn acted(b: Bench, s: Statement, bytes: &mut [u8; 131072], response: &mut [u8; 65536]) -> Bench {
     let verb = s.verb;
     match verb {
-        Verb::Run => run(b, page, dump, s, data, response),
-        _ => called(b, page, s, bytes, data, response),
+        Verb::Run => run(b, s, bytes, response),
+        _ => called(b, s, bytes, response),
     }
 }
 
-fn called(
-    b: Bench,
-    page: &mut [u8],
-    s: Statement,
-    bytes: &[u8],
-    data: &mut [u8],
-    response: &[u8],
-) -> Bench {
+fn called(b: Bench, s: Statement, bytes: &mut [u8; 131072], response: &[u8; 65536]) -> Bench {
     let verb = s.verb;
     match verb {
-        Verb::Expect => { b.with_desk(judged(b, page, s, tell::front(bytes, s.length), response)) }
-        Verb::Show => shown(b, page, s, response),
-        _ => answered(page, done(b, s, bytes, data, response), s),
+        Verb::Expect => b.with_desk(judged(b, s, tell::front(bytes, s.length), response)),
+        Verb::Show => shown(b, s, response),
+        _ => answered(done(b, s, bytes, response), s),
     }
 }
 
-fn answered(page: &mut [u8], b: Bench, s: Statement) -> Bench {
+fn answered(b: Bench, s: Statement) -> Bench {
     let verb = s.verb;
-    tell::call(page, b.desk, verb, s.code);
+    tell::call(b.desk, verb, s.code);
     b
 }
 
 // A call, which says nothing by itself.
-fn done(b: Bench, s: Statement, bytes: &[u8], data: &mut [u8], response: &[u8]) -> Bench {
+fn done(b: Bench, s: Statement, bytes: &mut [u8; 131072], response: &[u8; 65536]) -> Bench {
     let verb = s.verb;
     match verb {
-        Verb::Submit => calls::submit(b, s, bytes, data, response),
+        Verb::Submit => calls::submit(b, s, bytes, response),
         Verb::Feed => calls::feed(b, s, tell::front(bytes, s.length)),
         _ => made(b, s),
     }
@@ -187,68 +152,58 @@ fn acknowledge(b: Bench, s: Statement) -> Bench {
     }
 }
 
-fn shown(b: Bench, page: &mut [u8], s: Statement, response: &[u8]) -> Bench {
+fn shown(b: Bench, s: Statement, response: &[u8]) -> Bench {
     let d = b.desk;
     let topic = s.topic;
     match topic {
         Topic::Units => {
-            units(b, page);
+            units(b);
             b
         }
         Topic::Picture => b.with_desk(d.with_picture()),
+        Topic::Ring => {
+            show::ring(d.round, bench::ring_of(b.bus));
+            b
+        }
         _ => {
-            kept(page, d, topic, b, response);
+            tell::data(tell::front(response, d.received));
             b
         }
     }
 }
 
-fn kept(page: &mut [u8], d: Desk, topic: Topic, b: Bench, response: &[u8]) {
-    match topic {
-        Topic::Ring => show::ring(page, d, bench::ring_of(b.bus)),
-        _ => tell::data(page, tell::front(response, d.received)),
-    }
-}
-
-fn units(b: Bench, page: &mut [u8]) {
+fn units(b: Bench) {
     let d = b.desk;
     let bus = b.bus;
     let mut i = 0;
     while i < 16 {
         let s = bus.stations[i];
         let u = s.unit;
-        show::unit_at(page, d, i, u);
+        show::unit_at(d, i, u);
         i += 1;
     }
 }
 
 // An expectation.
-fn judged(b: Bench, page: &mut [u8], s: Statement, bytes: &[u8], response: &[u8]) -> Desk {
+fn judged(b: Bench, s: Statement, bytes: &[u8], response: &[u8]) -> Desk {
     let d = b.desk;
     let topic = s.topic;
     match topic {
-        Topic::Ring => judge::ring(page, d, bench::ring_of(b.bus), bytes),
-        Topic::Quiet => judge::quiet(page, d, b.is_quiet()),
-        Topic::Queued => queued(b, page, s),
-        _ => judge::kept(page, d, s, bytes, response),
+        Topic::Ring => judge::ring(d, bench::ring_of(b.bus), bytes),
+        Topic::Quiet => judge::quiet(d, b.is_quiet()),
+        Topic::Queued => queued(b, s),
+        _ => judge::kept(d, s, bytes, response),
     }
 }
 
-fn queued(b: Bench, page: &mut [u8], s: Statement) -> Desk {
+fn queued(b: Bench, s: Statement) -> Desk {
     let d = b.desk;
     let station = b.station(d.find(s.code));
-    judge::queued(page, d, s, station.unit)
+    judge::queued(d, s, station.unit)
 }
 
 // Rounds up to so many, or until the end that the statement names.
-fn run(
-    bench: Bench,
-    page: &mut [u8],
-    dump: &mut [u8],
-    s: Statement,
-    data: &[u8],
-    response: &mut [u8],
-) -> Bench {
+fn run(bench: Bench, s: Statement, bytes: &[u8; 131072], response: &mut [u8; 65536]) -> Bench {
     let topic = s.topic;
     let mut b = bench;
     let mut i = 0u32;
@@ -257,10 +212,10 @@ fn run(
             break;
         }
         i += 1;
-        b = b.round(page, dump, data, response);
+        b = b.round(bytes, response);
         progress(i, s.first);
     }
-    ran(b, page, topic, i)
+    ran(b, topic, i)
 }
 
 fn is_over(b: Bench, topic: Topic) -> bool {
@@ -268,21 +223,15 @@ fn is_over(b: Bench, topic: Topic) -> bool {
     d.is_over(topic, b.is_quiet())
 }
 
-fn ran(b: Bench, page: &mut [u8], topic: Topic, i: u32) -> Bench {
-    tell::ran(page, b.desk, topic, is_over(b, topic), i);
+fn ran(b: Bench, topic: Topic, i: u32) -> Bench {
+    let d = b.desk;
+    tell::ran(d.round, topic, is_over(b, topic), i);
     b
 }
 
 // Long runs are heard of while they last.
 fn progress(i: u32, all: u32) {
     if i % 50000 == 0 {
-        let mut page = [0u8; 128];
-        lend_progress(&mut page, i, all);
+        page::warn(b"hexbus: # of # rounds\n", i as u64, all as u64);
     }
-}
-
-fn lend_progress(page: &mut [u8], i: u32, all: u32) {
-    page::begin(page, 2);
-    tell::progress(page, i, all);
-    page::flush(page);
 }

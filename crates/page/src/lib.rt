@@ -1,152 +1,147 @@
-// Text that is written in large pieces. A page is lent memory. Its first four bytes are its own: how many letters stand behind them,
-// low byte first in three, and the descriptor that they go to, 0 for none. What would go past its end is left out.
+// Text that programs write. What is said goes to the standard output at once. What is put together piece by piece stands on a page, which
+// is lent memory: each call takes how many letters stand on it and returns how many do then. What would go past its end is left out.
 pub mod names;
 
-// The longest page.
-const MOST: usize = 16777216;
+use libc::STDERR_FILENO;
+use libc::STDOUT_FILENO;
 
-// An empty page whose letters go to a descriptor.
-pub fn begin(page: &mut [u8], descriptor: u8) {
-    set_length(page, 0);
-    put(page, 3, descriptor);
+// Words as they are.
+pub fn say(words: &[u8]) {
+    io::write_all(STDOUT_FILENO, words);
 }
 
-// Whether its letters go anywhere.
-pub fn is_open(page: &[u8]) -> bool {
-    0 < at(page, 3)
+// Words with numbers among them: # stands for the next of the numbers, % for the next as a byte in hexadecimal, $ as a status and & as a
+// command, each with its name, and @ as a round, to the right in eight letters. Numbers for which no sign stands are passed over.
+pub fn tell(words: &[u8], first: u64, second: u64, third: u64, fourth: u64) {
+    let numbers = [first, second, third, fourth];
+    told(STDOUT_FILENO, words, &numbers);
 }
 
-// Writes what stands on the page, and empties it.
-pub fn flush(page: &mut [u8]) {
-    let e = place(page) % MOST;
-    let descriptor = (at(page, 3) % 256) as i32;
-    if 0 < descriptor {
-        write(descriptor, page, e);
+// The same to the standard error.
+pub fn warn(words: &[u8], first: u64, second: u64) {
+    let numbers = [first, second, 0, 0];
+    told(STDERR_FILENO, words, &numbers);
+}
+
+fn told(descriptor: i32, words: &[u8], numbers: &[u64; 4]) {
+    let mut page = [0u8; 256];
+    let n = fill(&mut page, words, numbers);
+    write(descriptor, &page, n);
+}
+
+// Each byte in hexadecimal, with a space before it; up to 256 of them.
+pub fn bytes(s: &[u8]) {
+    let mut page = [0u8; 768];
+    let n = put_bytes(&mut page, s);
+    write(STDOUT_FILENO, &page, n);
+}
+
+// Writes the letters that stand on a page.
+pub fn write(descriptor: i32, page: &[u8], n: usize) {
+    if n <= page.len() {
+        io::write_all(descriptor, &page[0..n]);
     }
-    set_length(page, 0);
 }
 
-pub fn letter(page: &mut [u8], b: u8) {
-    let at = place(page) % MOST;
-    if at < page.len() {
-        put(page, at, b);
-        set_place(page, at + 1);
+pub fn letter(page: &mut [u8], n: usize, b: u8) -> usize {
+    if n < page.len() {
+        page[n] = b;
+        return n + 1;
     }
+    n
 }
 
-pub fn words(page: &mut [u8], s: &[u8]) {
+pub fn words(page: &mut [u8], n: usize, s: &[u8]) -> usize {
+    let mut at = n;
     let mut i = 0;
     while i < s.len() {
-        letter(page, s[i]);
+        at = letter(page, at, s[i]);
         i += 1;
     }
+    at
 }
 
-pub fn decimal(page: &mut [u8], n: u64) {
+pub fn decimal(page: &mut [u8], n: usize, number: u64) -> usize {
     let mut digits = [0u8; 20];
-    let k = io::decimal(n, &mut digits);
-    words(page, &digits[..k]);
+    let k = io::decimal(number, &mut digits);
+    words(page, n, &digits[..k])
 }
 
-pub fn count(page: &mut [u8], n: u32) {
-    decimal(page, n as u64);
-}
-
-pub fn code(page: &mut [u8], b: u8) {
-    decimal(page, b as u64);
-}
-
-// A number with spaces before it, up to so many letters in all.
-pub fn right(page: &mut [u8], n: u64, width: usize) {
-    let mut digits = [0u8; 20];
-    let k = io::decimal(n, &mut digits);
-    indent(page, k, width);
-    words(page, &digits[..k]);
-}
-
-// Spaces for what is missing from k to the width.
-fn indent(page: &mut [u8], k: usize, width: usize) {
-    if k < width {
-        repeat(page, b' ', width - k);
-    }
-}
-
-pub fn repeat(page: &mut [u8], b: u8, times: usize) {
+fn fill(page: &mut [u8], words: &[u8], numbers: &[u64; 4]) -> usize {
+    let mut n = 0;
+    let mut k = 0;
     let mut i = 0;
-    while i < times {
-        letter(page, b);
+    while i < words.len() {
+        let b = words[i];
+        n = sign(page, n, b, numbers[k % 4]);
+        k = k % 4 + signs(b) % 2;
         i += 1;
     }
+    n
+}
+
+// A letter, or the number that it stands for.
+fn sign(page: &mut [u8], n: usize, b: u8, number: u64) -> usize {
+    match b {
+        b'#' => decimal(page, n, number),
+        b'%' => hex(page, n, (number % 256) as u8),
+        b'$' => names::status(page, n, (number % 256) as u8),
+        b'&' => names::command(page, n, (number % 256) as u8),
+        b'@' => round(page, n, number),
+        _ => letter(page, n, b),
+    }
+}
+
+// How many numbers a letter stands for.
+fn signs(b: u8) -> usize {
+    match b {
+        b'#' => 1,
+        b'%' => 1,
+        b'$' => 1,
+        b'&' => 1,
+        b'@' => 1,
+        _ => 0,
+    }
+}
+
+fn round(page: &mut [u8], n: usize, number: u64) -> usize {
+    let mut digits = [0u8; 20];
+    let k = io::decimal(number, &mut digits);
+    let at = blanks(page, n, k);
+    let end = words(page, at, &digits[..k]);
+    words(page, end, b"  ")
+}
+
+// Blanks for what k letters leave of eight.
+fn blanks(page: &mut [u8], n: usize, k: usize) -> usize {
+    let mut at = n;
+    let mut i = k;
+    while i < 8 {
+        at = letter(page, at, b' ');
+        i += 1;
+    }
+    at
+}
+
+fn put_bytes(page: &mut [u8], s: &[u8]) -> usize {
+    let mut n = 0;
+    let mut i = 0;
+    while i < s.len() {
+        let at = letter(page, n, b' ');
+        n = hex(page, at, s[i]);
+        i += 1;
+    }
+    n
 }
 
 // A byte as two digits, upper case as in the papers.
-pub fn hex(page: &mut [u8], b: u8) {
-    letter(page, digit(b / 16));
-    letter(page, digit(b));
-}
-
-// Each byte in hexadecimal, with a space before it.
-pub fn bytes(page: &mut [u8], s: &[u8]) {
-    let mut i = 0;
-    while i < s.len() {
-        letter(page, b' ');
-        hex(page, s[i]);
-        i += 1;
-    }
-}
-
-// Ends a line; a page that is nearly full is written.
-pub fn end(page: &mut [u8]) {
-    letter(page, b'\n');
-    if page.len() / 8 * 7 < place(page) {
-        flush(page);
-    }
+fn hex(page: &mut [u8], n: usize, b: u8) -> usize {
+    let at = letter(page, n, digit(b / 16));
+    letter(page, at, digit(b))
 }
 
 // The last hexadecimal digit of n.
 pub fn digit(n: u8) -> u8 {
     let d = n % 16;
     if d < 10 { b'0' + d } else { b'A' + (d - 10) }
-}
-
-// Where the next letter goes.
-fn place(page: &[u8]) -> usize {
-    4 + at(page, 0) % 256 + 256 * (at(page, 1) % 256) + 65536 * (at(page, 2) % 256)
-}
-
-fn set_place(page: &mut [u8], at: usize) {
-    if 4 <= at {
-        set_length(page, at - 4);
-    }
-}
-
-fn set_length(page: &mut [u8], n: usize) {
-    put(page, 0, (n % 256) as u8);
-    put(page, 1, (n / 256 % 256) as u8);
-    put(page, 2, (n / 65536 % 256) as u8);
-}
-
-fn put(page: &mut [u8], i: usize, b: u8) {
-    if i < page.len() {
-        page[i] = b;
-    }
-}
-
-fn write(descriptor: i32, page: &[u8], e: usize) {
-    if 4 <= e {
-        if e <= page.len() {
-            io::write_all(descriptor, &page[4..e]);
-        }
-    }
-}
-
-fn at(page: &[u8], i: usize) -> usize {
-    if i < page.len() {
-        return wide(page[i]);
-    }
-    0
-}
-
-fn wide(b: u8) -> usize {
-    b as usize
 }

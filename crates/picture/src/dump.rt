@@ -2,38 +2,40 @@
 // party, the lines as it leaves them: 0 where it pulls.
 use crate::CONTROLLER;
 
-// The head of the dump of a bus with these units.
-pub fn head(page: &mut [u8], codes: &[u8; 16], count: usize) {
-    row(
+// The head of the dump of a bus with these units, to a descriptor.
+pub fn head(descriptor: u8, codes: &[u8; 16], count: usize) {
+    let mut page = [0u8; 4096];
+    let n = parties(&mut page, codes, count);
+    page::write(descriptor as i32, &page, n);
+}
+
+fn parties(page: &mut [u8], codes: &[u8; 16], count: usize) -> usize {
+    let bus = page::words(
         page,
-        b"$comment one time unit to a round; 0 is low, or pulled $end",
+        0,
+        b"$comment one time unit to a round; 0 is low, or pulled $end\n$timescale 1 us $end\n$scope module bus $end\n",
     );
-    row(page, b"$timescale 1 us $end");
-    row(page, b"$scope module bus $end");
-    lines(page, b'r');
-    party(page, b"controller", 0, b'q');
-    units(page, codes, count);
-    row(page, b"$upscope $end");
-    row(page, b"$enddefinitions $end");
+    let controller = wires(page, bus, b'r');
+    let first = party(page, controller, b"controller", 0, b'q');
+    let end = units(page, first, codes, count);
+    page::words(page, end, b"$upscope $end\n$enddefinitions $end\n")
 }
 
-fn row(page: &mut [u8], words: &[u8]) {
-    page::words(page, words);
-    page::end(page);
-}
-
-fn units(page: &mut [u8], codes: &[u8; 16], count: usize) {
+fn units(page: &mut [u8], n: usize, codes: &[u8; 16], count: usize) -> usize {
+    let mut at = n;
     let mut i = 0;
     while i < 16 {
-        unit(page, codes[i], i, count);
+        at = unit(page, at, codes[i], i, count);
         i += 1;
     }
+    at
 }
 
-fn unit(page: &mut [u8], code: u8, i: usize, count: usize) {
+fn unit(page: &mut [u8], n: usize, code: u8, i: usize, count: usize) -> usize {
     if i < count {
-        party(page, b"unit_", code, letter(i));
+        return party(page, n, b"unit_", code, letter(i));
     }
+    n
 }
 
 // The letter that the wires of a party, or of the bus, are named by.
@@ -41,46 +43,50 @@ fn letter(i: usize) -> u8 {
     b'a' + (i % 18) as u8
 }
 
-fn party(page: &mut [u8], name: &[u8], code: u8, id: u8) {
-    page::words(page, b"$scope module ");
-    page::words(page, name);
-    code_if_any(page, code);
-    page::words(page, b" $end");
-    page::end(page);
-    lines(page, id);
-    page::words(page, b"$upscope $end");
-    page::end(page);
+fn party(page: &mut [u8], n: usize, name: &[u8], code: u8, id: u8) -> usize {
+    let scope = page::words(page, n, b"$scope module ");
+    let named = page::words(page, scope, name);
+    let coded = code_if_any(page, named, code);
+    let first = page::words(page, coded, b" $end\n");
+    let last = wires(page, first, id);
+    page::words(page, last, b"$upscope $end\n")
 }
 
-fn code_if_any(page: &mut [u8], code: u8) {
+fn code_if_any(page: &mut [u8], n: usize, code: u8) -> usize {
     if 0 < code {
-        page::code(page, code);
+        return page::decimal(page, n, code as u64);
     }
+    n
 }
 
 // The six wires of the bus or of a party.
-fn lines(page: &mut [u8], id: u8) {
-    wire(page, id, b'b', b"BAV");
-    wire(page, id, b'h', b"HSK");
-    wire(page, id, b'3', b"D3");
-    wire(page, id, b'2', b"D2");
-    wire(page, id, b'1', b"D1");
-    wire(page, id, b'0', b"D0");
+fn wires(page: &mut [u8], n: usize, id: u8) -> usize {
+    with_id(
+        page,
+        n,
+        id,
+        b"$var wire 1 ~b BAV $end\n$var wire 1 ~h HSK $end\n$var wire 1 ~3 D3 $end\n$var wire 1 ~2 D2 $end\n$var wire 1 ~1 D1 $end\n$var wire 1 ~0 D0 $end\n",
+    )
 }
 
-fn wire(page: &mut [u8], id: u8, line: u8, name: &[u8]) {
-    page::words(page, b"$var wire 1 ");
-    page::letter(page, id);
-    page::letter(page, line);
-    page::letter(page, b' ');
-    page::words(page, name);
-    page::words(page, b" $end");
-    page::end(page);
+// Words in which ~ stands for a letter.
+fn with_id(page: &mut [u8], n: usize, id: u8, words: &[u8]) -> usize {
+    let mut at = n;
+    let mut i = 0;
+    while i < words.len() {
+        at = page::letter(page, at, id_or(words[i], id));
+        i += 1;
+    }
+    at
 }
 
-// What a round has changed, or everything at the first.
+fn id_or(b: u8, id: u8) -> u8 {
+    if b == b'~' { id } else { b }
+}
+
+// What a round has changed, or everything at the first, to a descriptor.
 pub fn round(
-    page: &mut [u8],
+    descriptor: u8,
     number: u64,
     before: &[u8; 18],
     after: &[u8; 18],
@@ -88,23 +94,56 @@ pub fn round(
     first: bool,
 ) {
     if first | differs(before, after) {
-        stamp(page, number);
-        changes(page, before, after, count, first);
+        let mut page = [0u8; 512];
+        let n = stamp(&mut page, number);
+        let end = changes(&mut page, n, before, after, count, first);
+        page::write(descriptor as i32, &page, end);
     }
 }
 
-fn changes(page: &mut [u8], before: &[u8; 18], after: &[u8; 18], count: usize, first: bool) {
+// The end of a dump: the time after its last round.
+pub fn end(descriptor: u8, number: u64) {
+    let mut page = [0u8; 32];
+    let n = stamp(&mut page, number);
+    page::write(descriptor as i32, &page, n);
+}
+
+fn stamp(page: &mut [u8], number: u64) -> usize {
+    let n = page::letter(page, 0, b'#');
+    let end = page::decimal(page, n, number);
+    page::letter(page, end, b'\n')
+}
+
+fn changes(
+    page: &mut [u8],
+    n: usize,
+    before: &[u8; 18],
+    after: &[u8; 18],
+    count: usize,
+    first: bool,
+) -> usize {
+    let mut at = n;
     let mut i = 0;
     while i < 18 {
-        shown_changes(page, i, count, before[i], after[i], first);
+        at = shown_changes(page, at, i, count, before[i], after[i], first);
         i += 1;
     }
+    at
 }
 
-pub fn stamp(page: &mut [u8], number: u64) {
-    page::letter(page, b'#');
-    page::decimal(page, number);
-    page::end(page);
+fn shown_changes(
+    page: &mut [u8],
+    n: usize,
+    i: usize,
+    count: usize,
+    before: u8,
+    after: u8,
+    first: bool,
+) -> usize {
+    if is_shown(i, count) {
+        return party_changes(page, n, letter(i), before, after, first);
+    }
+    n
 }
 
 fn is_shown(i: usize, count: usize) -> bool {
@@ -126,28 +165,34 @@ fn differs(before: &[u8; 18], after: &[u8; 18]) -> bool {
     false
 }
 
-fn shown_changes(page: &mut [u8], i: usize, count: usize, before: u8, after: u8, first: bool) {
-    if is_shown(i, count) {
-        party_changes(page, letter(i), before, after, first);
+// Each wire of a party, from BAV to D0.
+fn party_changes(page: &mut [u8], n: usize, id: u8, before: u8, after: u8, first: bool) -> usize {
+    let wires = [b'b', b'h', b'3', b'2', b'1', b'0'];
+    let mut old = before;
+    let mut new = after;
+    let mut at = n;
+    let mut i = 0;
+    while i < 6 {
+        at = change(page, at, id, wires[i], old / 32 % 2, new / 32 % 2, first);
+        old = old % 32 * 2;
+        new = new % 32 * 2;
+        i += 1;
     }
+    at
 }
 
-fn party_changes(page: &mut [u8], id: u8, before: u8, after: u8, first: bool) {
+fn change(
+    page: &mut [u8],
+    n: usize,
+    id: u8,
+    wire: u8,
+    before: u8,
+    after: u8,
+    first: bool,
+) -> usize {
     if first | (before != after) {
-        change(page, id, b'b', before / 32 % 2, after / 32 % 2, first);
-        change(page, id, b'h', before / 16 % 2, after / 16 % 2, first);
-        change(page, id, b'3', before / 8 % 2, after / 8 % 2, first);
-        change(page, id, b'2', before / 4 % 2, after / 4 % 2, first);
-        change(page, id, b'1', before / 2 % 2, after / 2 % 2, first);
-        change(page, id, b'0', before % 2, after % 2, first);
+        let row = [b'0' + after % 2, id, wire, b'\n'];
+        return page::words(page, n, &row);
     }
-}
-
-fn change(page: &mut [u8], id: u8, line: u8, before: u8, after: u8, first: bool) {
-    if first | (before != after) {
-        page::letter(page, b'0' + after % 2);
-        page::letter(page, id);
-        page::letter(page, line);
-        page::end(page);
-    }
+    n
 }

@@ -51,20 +51,12 @@ fn also(who: u8, i: usize) -> u8 {
 }
 
 // The picture of the n rounds up to this one.
-pub fn show(page: &mut [u8], strip: &[u8], n: usize, last: u64) {
-    rounds(page, n, last);
-    row(page, b"          BAV ", strip, 0, n);
-    row(page, b"          HSK ", strip, WIDTH, n);
-    row(page, b"          D   ", strip, 2 * WIDTH, n);
-    row(page, b"          by  ", strip, 3 * WIDTH, n);
-}
-
-fn rounds(page: &mut [u8], n: usize, last: u64) {
-    page::words(page, b"          rounds ");
-    page::decimal(page, first(n, last));
-    page::words(page, b" to ");
-    page::decimal(page, last);
-    page::end(page);
+pub fn show(strip: &[u8], n: usize, last: u64) {
+    page::tell(b"          rounds # to #\n", first(n, last), last, 0, 0);
+    row(b"          BAV ", part(strip, 0, n));
+    row(b"          HSK ", part(strip, WIDTH, n));
+    row(b"          D   ", part(strip, 2 * WIDTH, n));
+    row(b"          by  ", part(strip, 3 * WIDTH, n));
 }
 
 // The n letters from a place on.
@@ -85,8 +77,8 @@ fn first(n: usize, last: u64) -> u64 {
     0
 }
 
-fn row(page: &mut [u8], name: &[u8], strip: &[u8], at: usize, n: usize) {
-    page::words(page, name);
-    page::words(page, part(strip, at, n));
-    page::end(page);
+fn row(name: &[u8], letters: &[u8]) {
+    page::say(name);
+    page::say(letters);
+    page::say(b"\n");
 }

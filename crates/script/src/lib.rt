@@ -90,75 +90,69 @@ pub struct Statement {
 // The statement of a line, its bytes at the front of the lent memory.
 pub fn read(line: &[u8], bytes: &mut [u8]) -> Statement {
     let w = word::next(line, 0);
-    let verb = verb_of(word::part(line, w));
-    let s = Statement::new(verb, w);
+    let k = word::place(
+        b"controller unit submit feed take raise acknowledge busy run show expect say",
+        word::part(line, w),
+    );
+    let s = Statement::new(k, w);
+    if k == 10 {
+        return s.expect(line, bytes);
+    }
+    // What follows each of these verbs, a letter for a part.
+    s.parts(
+        word::nth(b"o do dco dbs dme do ae dne re he - -", k),
+        line,
+        bytes,
+    )
+}
+
+// The verb at a place of the list; behind its end there is none.
+fn verb_of(k: usize, blank: bool) -> Verb {
+    match k {
+        0 => Verb::Controller,
+        1 => Verb::Unit,
+        2 => Verb::Submit,
+        3 => Verb::Feed,
+        4 => Verb::Take,
+        5 => Verb::Raise,
+        6 => Verb::Acknowledge,
+        7 => Verb::Busy,
+        8 => Verb::Run,
+        9 => Verb::Show,
+        10 => Verb::Expect,
+        11 => Verb::Say,
+        _ => if blank { Verb::Blank } else { Verb::Wrong },
+    }
+}
+
+// What is wrong with the first word: it is no verb.
+fn missing(verb: Verb) -> Expected {
     match verb {
-        Verb::Blank => s,
-        Verb::Controller => s.options(line, bytes),
-        Verb::Unit => s.device(line).options(line, bytes),
-        Verb::Submit => s.device(line).command_code(line).options(line, bytes),
-        Verb::Feed => s.device(line).data(line, bytes).some_bytes(line),
-        Verb::Take => s.device(line).count_if_any(line).end(line),
-        Verb::Raise => s.device(line).options(line, bytes),
-        Verb::Acknowledge => s.acknowledged(line).end(line),
-        Verb::Busy => s.device(line).count(line).end(line),
-        Verb::Run => s.run(line).end(line),
-        Verb::Show => s.show(line).end(line),
-        Verb::Expect => s.expect(line, bytes),
-        Verb::Say => s,
-        Verb::Wrong => s.wrong(w, Expected::Statement),
+        Verb::Wrong => Expected::Statement,
+        _ => Expected::Nothing,
     }
 }
 
-fn verb_of(w: &[u8]) -> Verb {
-    if w.len() == 0 {
-        return Verb::Blank;
+// What is expected, by its place in the list.
+fn expected_of(k: usize) -> Topic {
+    match k {
+        0 => Topic::Status,
+        1 => Topic::Received,
+        2 => Topic::Taken,
+        3 => Topic::Ring,
+        4 => Topic::Quiet,
+        5 => Topic::Request,
+        6 => Topic::Refusal,
+        7 => Topic::Turns,
+        8 => Topic::Waited,
+        _ => Topic::Queued,
     }
-    if word::is(w, b"controller") {
-        return Verb::Controller;
-    }
-    if word::is(w, b"unit") {
-        return Verb::Unit;
-    }
-    if word::is(w, b"submit") {
-        return Verb::Submit;
-    }
-    if word::is(w, b"feed") {
-        return Verb::Feed;
-    }
-    if word::is(w, b"take") {
-        return Verb::Take;
-    }
-    if word::is(w, b"raise") {
-        return Verb::Raise;
-    }
-    other_verb(w)
-}
-
-fn other_verb(w: &[u8]) -> Verb {
-    if word::is(w, b"acknowledge") {
-        return Verb::Acknowledge;
-    }
-    if word::is(w, b"busy") {
-        return Verb::Busy;
-    }
-    if word::is(w, b"run") {
-        return Verb::Run;
-    }
-    if word::is(w, b"show") {
-        return Verb::Show;
-    }
-    if word::is(w, b"expect") {
-        return Verb::Expect;
-    }
-    if word::is(w, b"say") {
-        return Verb::Say;
-    }
-    Verb::Wrong
 }
 
 impl Statement {
-    fn new(verb: Verb, w: Word) -> Statement {
+    // The statement of a verb, by its place, before what follows it.
+    fn new(k: usize, w: Word) -> Statement {
+        let verb = verb_of(k, w.is_none());
         let command = Command {
             device: 0,
             command: 0,
@@ -177,7 +171,53 @@ impl Statement {
             length: 0,
             at: w.end,
             word: w,
-            expected: Expected::Nothing,
+            expected: missing(verb),
+        }
+    }
+
+    // With the parts that a form has a letter for each.
+    fn parts(self, form: &[u8], line: &[u8], bytes: &mut [u8]) -> Statement {
+        let mut s = self;
+        let mut i = 0;
+        while i < form.len() {
+            s = s.part(form[i], line, bytes);
+            i += 1;
+        }
+        s
+    }
+
+    fn part(self, letter: u8, line: &[u8], bytes: &mut [u8]) -> Statement {
+        match letter {
+            b'b' => self.data(line, bytes),
+            b'g' => self.entries(line, bytes),
+            b'o' => self.options(line, bytes),
+            _ => self.one_word(letter, line),
+        }
+    }
+
+    // A part without bytes.
+    fn one_word(self, letter: u8, line: &[u8]) -> Statement {
+        match letter {
+            b'd' => self.device(line),
+            b'c' => self.command_code(line),
+            b'n' => self.count(line),
+            b'm' => self.count_if_any(line),
+            b's' => self.some_bytes(line),
+            b'e' => self.end(line),
+            _ => self.about_word(letter, line),
+        }
+    }
+
+    // A part that says what a statement is about.
+    fn about_word(self, letter: u8, line: &[u8]) -> Statement {
+        match letter {
+            b'a' => self.acknowledged(line),
+            b'r' => self.run(line),
+            b'h' => self.show(line),
+            b'y' => self.byte(line),
+            b'q' => self.number_or_none(line, 256),
+            b'f' => self.number_or_none(line, 0),
+            _ => self,
         }
     }
 
@@ -311,14 +351,11 @@ impl Statement {
 
     fn acknowledged(self, line: &[u8]) -> Statement {
         let w = word::next(line, self.at);
-        let name = word::part(line, w);
-        if word::is(name, b"each") {
-            return self.about(Topic::Each, w);
+        match word::place(b"each by-hand", word::part(line, w)) {
+            0 => self.about(Topic::Each, w),
+            1 => self.about(Topic::Hand, w),
+            _ => self.device(line),
         }
-        if word::is(name, b"by-hand") {
-            return self.about(Topic::Hand, w);
-        }
-        self.device(line)
     }
 
     fn run(self, line: &[u8]) -> Statement {
@@ -338,14 +375,11 @@ impl Statement {
 
     // How far a run goes at most, where its end is another.
     fn until(self, line: &[u8], w: Word) -> Statement {
-        let name = word::part(line, w);
-        if word::is(name, b"ended") {
-            return self.about(Topic::Ended, w).limit(line);
+        match word::place(b"ended quiet", word::part(line, w)) {
+            0 => self.about(Topic::Ended, w).limit(line),
+            1 => self.about(Topic::Quiet, w).limit(line),
+            _ => self.wrong(w, Expected::RunTopic),
         }
-        if word::is(name, b"quiet") {
-            return self.about(Topic::Quiet, w).limit(line);
-        }
-        self.wrong(w, Expected::RunTopic)
     }
 
     fn limit(self, line: &[u8]) -> Statement {
@@ -360,75 +394,29 @@ impl Statement {
 
     fn show(self, line: &[u8]) -> Statement {
         let w = word::next(line, self.at);
-        let name = word::part(line, w);
-        if word::is(name, b"units") {
-            return self.about(Topic::Units, w);
+        match word::place(b"units ring data lines", word::part(line, w)) {
+            0 => self.about(Topic::Units, w),
+            1 => self.about(Topic::Ring, w),
+            2 => self.about(Topic::Buffer, w),
+            3 => self.about(Topic::Picture, w),
+            _ => self.wrong(w, Expected::ShowTopic),
         }
-        if word::is(name, b"ring") {
-            return self.about(Topic::Ring, w);
-        }
-        if word::is(name, b"data") {
-            return self.about(Topic::Buffer, w);
-        }
-        if word::is(name, b"lines") {
-            return self.about(Topic::Picture, w);
-        }
-        self.wrong(w, Expected::ShowTopic)
     }
 
     fn expect(self, line: &[u8], bytes: &mut [u8]) -> Statement {
         let w = word::next(line, self.at);
-        let name = word::part(line, w);
-        if word::is(name, b"status") {
-            return self.about(Topic::Status, w).byte(line).end(line);
+        let k = word::place(
+            b"status data taken ring quiet request refusal turns waited queued",
+            word::part(line, w),
+        );
+        if 9 < k {
+            return self.wrong(w, Expected::ExpectTopic);
         }
-        if word::is(name, b"data") {
-            return self.about(Topic::Received, w).data(line, bytes);
-        }
-        if word::is(name, b"taken") {
-            return self.about(Topic::Taken, w).data(line, bytes);
-        }
-        if word::is(name, b"ring") {
-            return self.about(Topic::Ring, w).entries(line, bytes);
-        }
-        if word::is(name, b"quiet") {
-            return self.about(Topic::Quiet, w).end(line);
-        }
-        self.expect_number(line, w)
-    }
-
-    fn expect_number(self, line: &[u8], w: Word) -> Statement {
-        let name = word::part(line, w);
-        if word::is(name, b"request") {
-            return self.about(Topic::Request, w)
-                .number_or_none(line, 256)
-                .end(line);
-        }
-        if word::is(name, b"refusal") {
-            return self.about(Topic::Refusal, w)
-                .number_or_none(line, 0)
-                .end(line);
-        }
-        if word::is(name, b"turns") {
-            return self.about(Topic::Turns, w)
-                .device(line)
-                .count(line)
-                .end(line);
-        }
-        if word::is(name, b"waited") {
-            return self.about(Topic::Waited, w)
-                .device(line)
-                .count(line)
-                .end(line);
-        }
-        if word::is(name, b"queued") {
-            return self.about(Topic::Queued, w)
-                .device(line)
-                .count(line)
-                .count(line)
-                .end(line);
-        }
-        self.wrong(w, Expected::ExpectTopic)
+        self.about(expected_of(k), w).parts(
+            word::nth(b"ye b b g e qe fe dne dne dnne", k),
+            line,
+            bytes,
+        )
     }
 
     fn number_or_none(self, line: &[u8], none: u32) -> Statement {
@@ -482,7 +470,7 @@ impl Statement {
         let mut s = self.past(w);
         if b.ok {
             if times.ok {
-                if word::has_room(bytes, self.length, times.value) {
+                if word::has_room(self.length, times.value) {
                     s.length = word::fill(bytes, self.length, (b.value % 256) as u8, times.value);
                     return s;
                 }
@@ -582,21 +570,21 @@ impl Statement {
         let mut command = s.command;
         s.first = n.value;
         s.second = 1;
-        if word::is(name, b"unit") {
-            command.logical_unit = (n.value % 256) as u8;
-        }
-        if word::is(name, b"record") {
-            command.record_number = (n.value % 65536) as u16;
-        }
-        if word::is(name, b"buffer") {
-            command.buffer_length = (n.value % 65536) as u16;
-        }
-        if word::is(name, b"lent") {
-            s.lent = n.value;
+        match field(name) {
+            0 => command.logical_unit = (n.value % 256) as u8,
+            1 => command.record_number = (n.value % 65536) as u16,
+            2 => command.buffer_length = (n.value % 65536) as u16,
+            3 => s.lent = n.value,
+            _ => {}
         }
         s.command = command;
         s
     }
+}
+
+// Which option of submit a name is.
+fn field(name: &[u8]) -> usize {
+    word::place(b"unit record buffer lent", name)
 }
 
 // Whether no option with a number comes: the line ends, or its data begins.
@@ -614,17 +602,11 @@ fn setting(known: bool) -> u32 {
 
 // The largest number of an option of submit; 0 where there is no such option.
 fn largest(name: &[u8]) -> u32 {
-    if word::is(name, b"unit") {
-        return 255;
+    match field(name) {
+        0 => 255,
+        1 => 65535,
+        2 => 65535,
+        3 => 65535,
+        _ => 0,
     }
-    if word::is(name, b"record") {
-        return 65535;
-    }
-    if word::is(name, b"buffer") {
-        return 65535;
-    }
-    if word::is(name, b"lent") {
-        return 65535;
-    }
-    0
 }

@@ -80,6 +80,32 @@ pub fn is(w: &[u8], name: &[u8]) -> bool {
     false
 }
 
+// Which of the words of a list a word is, 0 for the first; 16 for none of the first sixteen.
+pub fn place(list: &[u8], w: &[u8]) -> usize {
+    let mut at = 0;
+    let mut i = 0;
+    while i < 16 {
+        let v = next(list, at);
+        if is(part(list, v), w) {
+            return if v.is_none() { 16 } else { i };
+        }
+        at = v.end;
+        i += 1;
+    }
+    16
+}
+
+// The word at a place of a list; none behind its end.
+pub fn nth(list: &[u8], k: usize) -> &[u8] {
+    let mut w = next(list, 0);
+    let mut i = 0;
+    while i < k {
+        w = next(list, w.end);
+        i += 1;
+    }
+    part(list, w)
+}
+
 fn begins(w: &[u8], name: &[u8]) -> bool {
     let mut i = 0;
     while i < name.len() {
@@ -152,31 +178,17 @@ pub fn byte(w: &[u8]) -> Number {
 
 // A command's code in hexadecimal, or the name of one.
 pub fn command(w: &[u8]) -> Number {
-    if is(w, b"open") {
-        return some(0x00);
+    match place(b"open close read write enable disable null reset", w) {
+        0 => some(0x00),
+        1 => some(0x01),
+        2 => some(0x03),
+        3 => some(0x04),
+        4 => some(0x08),
+        5 => some(0x09),
+        6 => some(0xFE),
+        7 => some(0xFF),
+        _ => byte(w),
     }
-    if is(w, b"close") {
-        return some(0x01);
-    }
-    if is(w, b"read") {
-        return some(0x03);
-    }
-    if is(w, b"write") {
-        return some(0x04);
-    }
-    if is(w, b"enable") {
-        return some(0x08);
-    }
-    if is(w, b"disable") {
-        return some(0x09);
-    }
-    if is(w, b"null") {
-        return some(0xFE);
-    }
-    if is(w, b"reset") {
-        return some(0xFF);
-    }
-    byte(w)
 }
 
 // A word up to its star.
@@ -214,10 +226,13 @@ pub fn times(line: &[u8], w: Word) -> Number {
     some(1)
 }
 
+// The most bytes of a statement.
+const MOST: usize = 65536;
+
 // Whether so many bytes more fit behind n others.
-pub fn has_room(bytes: &[u8], n: usize, times: u32) -> bool {
-    if n <= bytes.len() {
-        return times as usize <= bytes.len() - n;
+pub fn has_room(n: usize, times: u32) -> bool {
+    if n <= MOST {
+        return times as usize <= MOST - n;
     }
     false
 }

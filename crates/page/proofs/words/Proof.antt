@@ -7,10 +7,10 @@ use Rattle.page.proofs.words.Statement.{statement}
 use Rattle.page.proofs.words.Tie as tie
 
 abbrev Inv-loop : tie.InvT-loop
-Inv-loop page₀ s i₀ page i = length page ≡ length page₀
+Inv-loop page₀ n s at₀ i₀ page at i = length page ≡ length page₀
 
 abbrev μ-loop : tie.MeasureT-loop
-μ-loop page₀ s i₀ page i = length s - i
+μ-loop page₀ n s at₀ i₀ page at i = length s - i
 
 loop-holds : tie.Need-loop-holds Inv-loop μ-loop
 loop-holds c = search needs

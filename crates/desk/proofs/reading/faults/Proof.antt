@@ -7,10 +7,10 @@ use Rattle.desk.proofs.reading.faults.Statement.{statement}
 use Rattle.desk.proofs.reading.faults.Tie as tie
 
 abbrev Inv-loop : tie.InvT-loop
-Inv-loop page₀ name text bytes₀ r₀ i₀ page bytes r i = (length page ≡ length page₀) × (length bytes ≡ length bytes₀)
+Inv-loop name text bytes₀ r₀ i₀ bytes r i = length bytes ≡ length bytes₀
 
 abbrev μ-loop : tie.MeasureT-loop
-μ-loop page₀ name text bytes₀ r₀ i₀ page bytes r i = length text - i
+μ-loop name text bytes₀ r₀ i₀ bytes r i = length text - i
 
 new-requires : tie.Need-new-requires Inv-loop μ-loop
 new-requires c κs = search needs
@@ -33,9 +33,6 @@ loop-again c = search needs
 same-length : tie.Need-same-length Inv-loop μ-loop
 same-length c = search needs
 
-same-length-2 : tie.Need-same-length-2 Inv-loop μ-loop
-same-length-2 c = search needs
-
 returns : tie.Need-returns Inv-loop μ-loop
 returns c = search needs
 
@@ -52,5 +49,4 @@ faults-spec =
     loop-less
     loop-again
     same-length
-    same-length-2
     returns)

@@ -1,16 +1,15 @@
--- Lent memory keeps its length; what is left to go through grows less.
+-- What is left to go through grows less.
 use borrow.Author.Needs.{needs}
-use lib.ListN.{length}
 use Prim.Native.Nat.{_-_}
-use mathlib.Core.Path.{_≡_}
 use Rattle.desk.proofs.show.entries.Statement.{statement}
 use Rattle.desk.proofs.show.entries.Tie as tie
+use Rattle.ring.proofs.Ring.entry.Reads as Ring-entry-reads
 
 abbrev Inv-loop : tie.InvT-loop
-Inv-loop page₀ r i₀ page i = length page ≡ length page₀
+Inv-loop r i₀ t3 i = Unit {0}
 
 abbrev μ-loop : tie.MeasureT-loop
-μ-loop page₀ r i₀ page i = 16 - i
+μ-loop r i₀ t3 i = 16 - i
 
 loop-holds : tie.Need-loop-holds Inv-loop μ-loop
 loop-holds c = search needs
@@ -33,8 +32,11 @@ loop-less c = search needs
 loop-again : tie.Need-loop-again Inv-loop μ-loop
 loop-again c = search needs
 
-same-length : tie.Need-same-length Inv-loop μ-loop
-same-length c = search needs
+slice-aggregate-say : tie.Need-slice-aggregate-say Inv-loop μ-loop
+slice-aggregate-say c = search needs
+
+say-requires : tie.Need-say-requires Inv-loop μ-loop
+say-requires c κs = search needs
 
 returns : tie.Need-returns Inv-loop μ-loop
 returns c = search needs
@@ -52,5 +54,6 @@ entries-spec =
     add-i
     loop-less
     loop-again
-    same-length
+    slice-aggregate-say
+    say-requires
     returns)

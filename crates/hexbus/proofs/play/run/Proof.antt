@@ -1,16 +1,14 @@
--- Lent memory keeps its length; what is left to go through grows less.
+-- What is left to go through grows less.
 use borrow.Author.Needs.{needs}
-use lib.ListN.{length}
 use Prim.Native.Nat.{_-_}
-use mathlib.Core.Path.{_≡_}
 use Rattle.hexbus.proofs.play.run.Statement.{statement}
 use Rattle.hexbus.proofs.play.run.Tie as tie
 
 abbrev Inv-loop : tie.InvT-loop
-Inv-loop page₀ dump₀ s «data» response₀ topic b₀ i₀ page dump response b i = (length page ≡ length page₀) × (length dump ≡ length dump₀) × (length response ≡ length response₀)
+Inv-loop s bytes response₀ topic b₀ i₀ response b i = Unit {0}
 
 abbrev μ-loop : tie.MeasureT-loop
-μ-loop page₀ dump₀ s «data» response₀ topic b₀ i₀ page dump response b i = s .first - i
+μ-loop s bytes response₀ topic b₀ i₀ response b i = s .first - i
 
 loop-holds : tie.Need-loop-holds Inv-loop μ-loop
 loop-holds c = search needs
@@ -36,15 +34,6 @@ loop-again c = search needs
 ran-requires : tie.Need-ran-requires Inv-loop μ-loop
 ran-requires c κs = search needs
 
-same-length : tie.Need-same-length Inv-loop μ-loop
-same-length c = search needs
-
-same-length-2 : tie.Need-same-length-2 Inv-loop μ-loop
-same-length-2 c = search needs
-
-same-length-3 : tie.Need-same-length-3 Inv-loop μ-loop
-same-length-3 c = search needs
-
 returns : tie.Need-returns Inv-loop μ-loop
 returns c = search needs
 
@@ -62,7 +51,4 @@ run-spec =
     loop-less
     loop-again
     ran-requires
-    same-length
-    same-length-2
-    same-length-3
     returns)

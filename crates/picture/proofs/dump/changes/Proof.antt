@@ -7,10 +7,10 @@ use Rattle.picture.proofs.dump.changes.Statement.{statement}
 use Rattle.picture.proofs.dump.changes.Tie as tie
 
 abbrev Inv-loop : tie.InvT-loop
-Inv-loop page₀ before after count first i₀ page i = length page ≡ length page₀
+Inv-loop page₀ n before after count first at₀ i₀ page at i = length page ≡ length page₀
 
 abbrev μ-loop : tie.MeasureT-loop
-μ-loop page₀ before after count first i₀ page i = 18 - i
+μ-loop page₀ n before after count first at₀ i₀ page at i = 18 - i
 
 loop-holds : tie.Need-loop-holds Inv-loop μ-loop
 loop-holds c = search needs

@@ -7,10 +7,10 @@ use Rattle.picture.proofs.dump.units.Statement.{statement}
 use Rattle.picture.proofs.dump.units.Tie as tie
 
 abbrev Inv-loop : tie.InvT-loop
-Inv-loop page₀ codes count i₀ page i = length page ≡ length page₀
+Inv-loop page₀ n codes count at₀ i₀ page at i = length page ≡ length page₀
 
 abbrev μ-loop : tie.MeasureT-loop
-μ-loop page₀ codes count i₀ page i = 16 - i
+μ-loop page₀ n codes count at₀ i₀ page at i = 16 - i
 
 loop-holds : tie.Need-loop-holds Inv-loop μ-loop
 loop-holds c = search needs

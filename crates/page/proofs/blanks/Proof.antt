@@ -3,26 +3,20 @@ use borrow.Author.Needs.{needs}
 use lib.ListN.{length}
 use Prim.Native.Nat.{_-_}
 use mathlib.Core.Path.{_≡_}
-use Rattle.page.proofs.bytes.Statement.{statement}
-use Rattle.page.proofs.bytes.Tie as tie
+use Rattle.page.proofs.blanks.Statement.{statement}
+use Rattle.page.proofs.blanks.Tie as tie
 
 abbrev Inv-loop : tie.InvT-loop
-Inv-loop page₀ s i₀ page i = length page ≡ length page₀
+Inv-loop page₀ n k at₀ i₀ page at i = length page ≡ length page₀
 
 abbrev μ-loop : tie.MeasureT-loop
-μ-loop page₀ s i₀ page i = length s - i
+μ-loop page₀ n k at₀ i₀ page at i = 8 - i
 
 loop-holds : tie.Need-loop-holds Inv-loop μ-loop
 loop-holds c = search needs
 
 letter-requires : tie.Need-letter-requires Inv-loop μ-loop
 letter-requires c κs = search needs
-
-shared-slice-read-hex : tie.Need-shared-slice-read-hex Inv-loop μ-loop
-shared-slice-read-hex c = search needs
-
-hex-requires : tie.Need-hex-requires Inv-loop μ-loop
-hex-requires c κs = search needs
 
 add-i : tie.Need-add-i Inv-loop μ-loop
 add-i c = search needs
@@ -39,16 +33,14 @@ same-length c = search needs
 returns : tie.Need-returns Inv-loop μ-loop
 returns c = search needs
 
-pub bytes-spec : {M : Type 1} → statement M
-bytes-spec =
+pub blanks-spec : {M : Type 1} → statement M
+blanks-spec =
     tie.close
     (tie.spec
     Inv-loop
     μ-loop
     loop-holds
     letter-requires
-    shared-slice-read-hex
-    hex-requires
     add-i
     loop-less
     loop-again

@@ -1,0 +1,60 @@
+-- Lent memory keeps its length; what is left to go through grows less.
+use borrow.Author.Needs.{needs}
+use lib.ListN.{length}
+use Prim.Native.Nat.{_-_}
+use mathlib.Core.Path.{_≡_}
+use Rattle.page.proofs.names.named.Statement.{statement}
+use Rattle.page.proofs.names.named.Tie as tie
+
+abbrev Inv-loop : tie.InvT-loop
+Inv-loop page₀ n b list at₀ here₀ i₀ page at here i = length page ≡ length page₀
+
+abbrev μ-loop : tie.MeasureT-loop
+μ-loop page₀ n b list at₀ here₀ i₀ page at here i = length list - i
+
+hex-requires : tie.Need-hex-requires Inv-loop μ-loop
+hex-requires c κs = search needs
+
+loop-holds : tie.Need-loop-holds Inv-loop μ-loop
+loop-holds c = search needs
+
+is-name-requires : tie.Need-is-name-requires Inv-loop μ-loop
+is-name-requires c κs = search needs
+
+shared-slice-read-if-so : tie.Need-shared-slice-read-if-so Inv-loop μ-loop
+shared-slice-read-if-so c = search needs
+
+if-so-requires : tie.Need-if-so-requires Inv-loop μ-loop
+if-so-requires c κs = search needs
+
+add-i : tie.Need-add-i Inv-loop μ-loop
+add-i c = search needs
+
+loop-less : tie.Need-loop-less Inv-loop μ-loop
+loop-less c = search needs
+
+loop-again : tie.Need-loop-again Inv-loop μ-loop
+loop-again c = search needs
+
+same-length : tie.Need-same-length Inv-loop μ-loop
+same-length c = search needs
+
+returns : tie.Need-returns Inv-loop μ-loop
+returns c = search needs
+
+pub named-spec : {M : Type 1} → statement M
+named-spec =
+    tie.close
+    (tie.spec
+    Inv-loop
+    μ-loop
+    hex-requires
+    loop-holds
+    is-name-requires
+    shared-slice-read-if-so
+    if-so-requires
+    add-i
+    loop-less
+    loop-again
+    same-length
+    returns)

@@ -1,0 +1,56 @@
+-- Lent memory keeps its length; what is left to go through grows less.
+use borrow.Author.Needs.{needs}
+use lib.ListN.{length}
+use Prim.Native.Nat.{_-_}
+use mathlib.Core.Path.{_≡_}
+use Rattle.picture.proofs.dump.with_id.Statement.{statement}
+use Rattle.picture.proofs.dump.with_id.Tie as tie
+
+abbrev Inv-loop : tie.InvT-loop
+Inv-loop page₀ n id words at₀ i₀ page at i = length page ≡ length page₀
+
+abbrev μ-loop : tie.MeasureT-loop
+μ-loop page₀ n id words at₀ i₀ page at i = length words - i
+
+loop-holds : tie.Need-loop-holds Inv-loop μ-loop
+loop-holds c = search needs
+
+shared-slice-read-id-or : tie.Need-shared-slice-read-id-or Inv-loop μ-loop
+shared-slice-read-id-or c = search needs
+
+id-or-requires : tie.Need-id-or-requires Inv-loop μ-loop
+id-or-requires c κs = search needs
+
+letter-requires : tie.Need-letter-requires Inv-loop μ-loop
+letter-requires c κs = search needs
+
+add-i : tie.Need-add-i Inv-loop μ-loop
+add-i c = search needs
+
+loop-less : tie.Need-loop-less Inv-loop μ-loop
+loop-less c = search needs
+
+loop-again : tie.Need-loop-again Inv-loop μ-loop
+loop-again c = search needs
+
+same-length : tie.Need-same-length Inv-loop μ-loop
+same-length c = search needs
+
+returns : tie.Need-returns Inv-loop μ-loop
+returns c = search needs
+
+pub with-id-spec : {M : Type 1} → statement M
+with-id-spec =
+    tie.close
+    (tie.spec
+    Inv-loop
+    μ-loop
+    loop-holds
+    shared-slice-read-id-or
+    id-or-requires
+    letter-requires
+    add-i
+    loop-less
+    loop-again
+    same-length
+    returns)
