@@ -9,8 +9,12 @@ pub struct Bench {
     pub peer: Peer,
     pub manner: Manner,
     pub script: Script,
-    // The lent part of the response buffer.
+    // The response buffer, and its lent part.
+    pub response: [u8; 512],
     pub lent: usize,
+    // What the other end answers, and what it has heard.
+    pub answer: [u8; 512],
+    pub heard: [u8; 512],
 }
 
 impl Bench {
@@ -29,7 +33,10 @@ impl Bench {
             peer: Peer::new(manner),
             manner,
             script: Script::new(100000),
+            response: [0xEE; 512],
             lent: 512,
+            answer: [0; 512],
+            heard: [0; 512],
         }
     }
 
@@ -39,9 +46,10 @@ impl Bench {
         b
     }
 
-    pub fn with_peer(self, p: Peer) -> Bench {
+    // With a response buffer of EE.
+    pub fn with_response(self) -> Bench {
         let mut b = self;
-        b.peer = p;
+        b.response = [0xEE; 512];
         b
     }
 

@@ -5,59 +5,49 @@ use crate::peer::Peer;
 use crate::rounds;
 use play::Script;
 use play::wire;
-use text::Text;
 use text::slices;
 
 pub fn run(script: &[u8]) {
     let mut bytes = [0u8; 65536];
-    let mut answer = [0u8; 512];
-    let mut heard = [0u8; 512];
-    let mut response = [0xEEu8; 512];
-    play(script, &mut bytes, &mut answer, &mut heard, &mut response);
+    play(script, &mut bytes);
 }
 
-fn play(
-    script: &[u8],
-    bytes: &mut [u8; 65536],
-    answer: &mut [u8; 512],
-    heard: &mut [u8; 512],
-    response: &mut [u8; 512],
-) {
+fn play(script: &[u8], bytes: &mut [u8; 65536]) {
     let mut b = Bench::new();
     let mut i = 0;
     while i < script.len() {
         let letter = script[i];
         i += 1;
-        b = act(b, letter, bytes, answer, heard, response);
+        b = act(b, letter, bytes);
     }
 }
 
-fn act(
-    b: Bench,
-    letter: u8,
-    bytes: &mut [u8; 65536],
-    answer: &mut [u8; 512],
-    heard: &mut [u8; 512],
-    response: &mut [u8; 512],
-) -> Bench {
+fn act(b: Bench, letter: u8, bytes: &mut [u8; 65536]) -> Bench {
     let script = b.script;
     let read = b.with_script(script.read(letter, bytes));
     if script.is_action(letter) {
-        let after = action(read, letter, bytes, answer, heard, response);
+        let after = action(read, letter, bytes);
         return after.with_script(after.script.cleared());
     }
     if script.quoting {
         return read;
     }
-    let mut next = read;
+    answered(read, letter, script)
+}
+
+// With what a sign makes of the answer.
+fn answered(b: Bench, sign: u8, s: Script) -> Bench {
+    let mut next = b;
     let mut manner = b.manner;
-    manner.length = answered(manner.length, letter, script, answer);
+    let mut answer = b.answer;
+    manner.length = length_after(manner.length, sign, s, &mut answer);
     next.manner = manner;
+    next.answer = answer;
     next
 }
 
 // The length of the answer after a sign that changes it.
-fn answered(n: usize, sign: u8, s: Script, answer: &mut [u8; 512]) -> usize {
+fn length_after(n: usize, sign: u8, s: Script, answer: &mut [u8; 512]) -> usize {
     match sign {
         b'-' => 0,
         b'.' => play::added(n, s.hex, answer),
@@ -77,37 +67,36 @@ fn added_many(n: usize, more: usize, bytes: &mut [u8]) -> usize {
     n
 }
 
-fn action(
-    b: Bench,
-    letter: u8,
-    bytes: &[u8; 65536],
-    answer: &[u8; 512],
-    heard: &mut [u8; 512],
-    response: &mut [u8; 512],
-) -> Bench {
+fn action(b: Bench, letter: u8, bytes: &[u8; 65536]) -> Bench {
     match letter {
-        b'm' => {
-            slices::fill(response, 0xEE);
-            calls::make(b)
-        }
-        b's' => calls::submit(b, bytes, response),
+        b'm' => calls::make(b.with_response()),
+        b's' => calls::submit(b, bytes),
         b'y' => calls::acknowledge(b),
-        b'r' => rounds::free(b, true, bytes, response),
-        b'q' => rounds::free(b, false, bytes, response),
-        b'f' => {
-            slices::fill(response, 0xEE);
-            let met = b.with_peer(Peer::new(b.manner));
-            rounds::go(met.begun(), bytes, answer, heard, response)
-        }
-        b'g' => rounds::go(b, bytes, answer, heard, response),
+        b'r' => rounds::free(b, true, bytes),
+        b'q' => rounds::free(b, false, bytes),
+        b'f' => rounds::go(met(b), bytes),
+        b'g' => rounds::go(b, bytes),
         b'i' => {
             calls::look(b.controller);
             b
         }
         b'j' => {
-            wire::buffer(Text::of(b"  "), response);
+            show_response(b);
             b
         }
         _ => b.set(letter),
     }
+}
+
+// Before the first round with a new unit at the other end.
+fn met(b: Bench) -> Bench {
+    let mut next = b.with_response().begun();
+    next.peer = Peer::new(b.manner);
+    next
+}
+
+fn show_response(b: Bench) {
+    page::say(b"  ");
+    let response = b.response;
+    wire::show_buffer(&response);
 }

@@ -1,6 +1,5 @@
-// The lines between two parties, and rounds and bytes as lines of text.
+// The lines between two parties, and rounds and bytes as text.
 use line::Lines;
-use text::Text;
 use text::slices;
 
 // No line pulled.
@@ -24,32 +23,33 @@ pub fn put(bytes: &mut [u8], i: usize, nibble: u8) {
     }
 }
 
-// A round as a line: what a party sees, and what it then pulls.
-pub fn shown(round: u32, seen: Lines, pulls: Lines) -> Text {
-    let start = Text::of(b"  ").decimal(round as usize).words(b":");
-    lines(lines(start, seen).words(b" |"), pulls)
+// A round: what a party sees, and what it then pulls.
+pub fn show(round: u32, seen: Lines, pulls: Lines) {
+    page::tell(b"  #:", round as u64, 0, 0, 0);
+    lines(seen);
+    page::say(b" |");
+    lines(pulls);
 }
 
 // Lines that are low or pulled, by name, and the nibble.
-fn lines(text: Text, l: Lines) -> Text {
-    let bav = named(text, l.bav, b" BAV");
-    named(bav, l.hsk, b" HSK")
-        .words(b" ")
-        .decimal(l.nibble as usize)
+fn lines(l: Lines) {
+    named(l.bav, b" BAV");
+    named(l.hsk, b" HSK");
+    page::tell(b" #", l.nibble as u64, 0, 0, 0);
 }
 
-fn named(text: Text, low: bool, name: &[u8]) -> Text {
+fn named(low: bool, name: &[u8]) {
     if low {
-        return text.words(name);
+        page::say(name);
+    } else {
+        page::say(b" -");
     }
-    text.words(b" -")
 }
 
 // A lent buffer: its first bytes, and how many of all are EE.
-pub fn buffer(text: Text, bytes: &[u8]) {
-    text.words(b"buffer")
-        .bytes(slices::part(bytes, 0, 8))
-        .words(b" .., EE: ")
-        .decimal(slices::count(bytes, 0xEE))
-        .end();
+pub fn show_buffer(bytes: &[u8]) {
+    page::say(b"buffer");
+    page::bytes(slices::part(bytes, 0, 8));
+    let n = slices::count(bytes, 0xEE);
+    page::tell(b" .., EE: #\n", n as u64, 0, 0, 0);
 }

@@ -6,78 +6,89 @@ use host::Raised;
 use host::Taken;
 use serial::Mode;
 use serial::Opening;
-use text::Text;
 use unit::Unit;
 
 pub fn make(b: Bench) -> Bench {
     let script = b.script;
     let own = script.command.device;
-    let text = Text::of(b"  own code ")
-        .decimal(own as usize)
-        .words(b", retry ")
-        .decimal(script.decimal as usize);
+    page::tell(
+        b"  own code #, retry #",
+        own as u64,
+        script.decimal as u64,
+        0,
+        0,
+    );
     match host::make(own, script.decimal) {
         Made::New(u) => {
-            text.words(b": made").end();
+            page::say(b": made\n");
             b.with_unit(u).with_script(script.begun())
         }
         Made::Setting => {
-            text.words(b": refusal 5").end();
+            page::say(b": refusal 5\n");
             b
         }
     }
 }
 
-pub fn feed(b: Bench, byte: u8, input: &mut [u8; 256]) -> Bench {
-    let text = Text::of(b"  fed ").hex(byte);
-    match host::feed(b.unit, input, byte) {
+pub fn feed(b: Bench, byte: u8) -> Bench {
+    page::tell(b"  fed %", byte as u64, 0, 0, 0);
+    let mut input = b.input;
+    match host::feed(b.unit, &mut input, byte) {
         Fed::Queued(u) => {
-            text.end();
-            b.with_unit(u)
+            page::say(b"\n");
+            fed(b, u, input)
         }
         Fed::Full => {
-            text.words(b": refusal 6").end();
+            page::say(b": refusal 6\n");
             b
         }
         Fed::NotOpen => {
-            text.words(b": refusal 7").end();
+            page::say(b": refusal 7\n");
             b
         }
     }
 }
 
+fn fed(b: Bench, u: Unit, input: [u8; 256]) -> Bench {
+    let mut next = b.with_unit(u);
+    next.input = input;
+    next
+}
+
 // Feeds so many bytes, each one more than the last. Only refusals are told.
-pub fn feed_many(bench: Bench, input: &mut [u8; 256]) -> Bench {
+pub fn feed_many(bench: Bench) -> Bench {
     let mut b = bench;
     let mut i = 0;
     while i < bench.script.decimal {
-        b = feed_next(b, input);
+        b = feed_next(b);
         i += 1;
     }
     b
 }
 
-fn feed_next(b: Bench, input: &mut [u8; 256]) -> Bench {
+fn feed_next(b: Bench) -> Bench {
     let byte = b.next;
-    match host::feed(b.unit, input, byte) {
+    let mut input = b.input;
+    match host::feed(b.unit, &mut input, byte) {
         Fed::Queued(u) => {
-            let mut next = b.with_unit(u);
+            let mut next = fed(b, u, input);
             next.next = byte % 255 + 1;
             next
         }
-        Fed::Full => feed(b, byte, input),
-        Fed::NotOpen => feed(b, byte, input),
+        Fed::Full => feed(b, byte),
+        Fed::NotOpen => feed(b, byte),
     }
 }
 
-pub fn take(b: Bench, output: &[u8; 256]) -> Bench {
-    match host::take(b.unit, output) {
+pub fn take(b: Bench) -> Bench {
+    let output = b.output;
+    match host::take(b.unit, &output) {
         Taken::Byte(byte, u) => {
-            Text::of(b"  taken ").hex(byte).end();
+            page::tell(b"  taken %\n", byte as u64, 0, 0, 0);
             b.with_unit(u)
         }
         Taken::Nothing => {
-            Text::of(b"  taken nothing").end();
+            page::say(b"  taken nothing\n");
             b
         }
     }
@@ -86,11 +97,11 @@ pub fn take(b: Bench, output: &[u8; 256]) -> Bench {
 pub fn raise(b: Bench) -> Bench {
     match host::raise(b.unit) {
         Raised::Held(u) => {
-            Text::of(b"  raised").end();
+            page::say(b"  raised\n");
             b.with_unit(u)
         }
         Raised::NotEnabled => {
-            Text::of(b"  raised: refusal 7").end();
+            page::say(b"  raised: refusal 7\n");
             b
         }
     }
@@ -99,29 +110,39 @@ pub fn raise(b: Bench) -> Bench {
 pub fn look(u: Unit) {
     let looks = host::look(u);
     let how = looks.opening;
-    let text = opening(Text::of(b"  unit "), how)
-        .words(b", input ")
-        .decimal(looks.input)
-        .words(b", output ")
-        .decimal(looks.output);
-    text.if_so(looks.enabled, b", enabled")
-        .if_so(looks.requesting, b", requesting")
-        .end();
+    opening(how);
+    queues(looks.input, looks.output);
+    service(looks.enabled, looks.requesting);
 }
 
-fn opening(text: Text, opening: Opening) -> Text {
+fn opening(opening: Opening) {
     match opening {
-        Opening::Closed => text.words(b"closed"),
-        Opening::OpenFor(mode, accepted) => mode_of(text.words(b"open for "), mode)
-            .words(b", length ")
-            .decimal(accepted as usize),
+        Opening::Closed => page::say(b"  unit closed"),
+        Opening::OpenFor(mode, accepted) => {
+            mode_of(mode);
+            page::tell(b", length #", accepted as u64, 0, 0, 0);
+        }
     }
 }
 
-fn mode_of(text: Text, mode: Mode) -> Text {
+fn mode_of(mode: Mode) {
     match mode {
-        Mode::Input => text.words(b"input"),
-        Mode::Output => text.words(b"output"),
-        Mode::Update => text.words(b"update"),
+        Mode::Input => page::say(b"  unit open for input"),
+        Mode::Output => page::say(b"  unit open for output"),
+        Mode::Update => page::say(b"  unit open for update"),
     }
+}
+
+fn queues(input: usize, output: usize) {
+    page::tell(b", input #, output #", input as u64, output as u64, 0, 0);
+}
+
+fn service(enabled: bool, requesting: bool) {
+    if enabled {
+        page::say(b", enabled");
+    }
+    if requesting {
+        page::say(b", requesting");
+    }
+    page::say(b"\n");
 }

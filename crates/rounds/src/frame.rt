@@ -5,9 +5,7 @@ use crate::rounds;
 use line::Lines;
 use line::Listener;
 use line::Sender;
-use play::Script;
 use play::wire;
-use text::Text;
 use text::slices;
 
 // For how many rounds in a row HSK is seen high before the frame ends without a response.
@@ -25,11 +23,12 @@ pub enum Stage {
     Over,
 }
 
-// A frame, how many nibbles of the command are done and of the response taken, and for how many rounds HSK was seen high.
+// A frame, how many nibbles of the command are done and of the response taken, these, and for how many rounds HSK was seen high.
 pub struct Frame {
     stage: Stage,
     sent: usize,
     got: usize,
+    answer: [u8; 512],
     quiet: u32,
 }
 
@@ -39,18 +38,12 @@ pub struct Sent {
     frame: Frame,
 }
 
-pub fn run(
-    bench: Bench,
-    data: &[u8; 512],
-    answer: &mut [u8; 512],
-    buffer: &mut [u8; 256],
-    input: &mut [u8; 256],
-    output: &mut [u8; 256],
-) -> Bench {
+pub fn run(bench: Bench) -> Bench {
     let frame = Frame {
         stage: Stage::Before,
         sent: 0,
         got: 0,
+        answer: [0; 512],
         quiet: 0,
     };
     let mut sent = Sent {
@@ -59,139 +52,142 @@ pub fn run(
     };
     let mut i = 0u32;
     while i < LONGEST {
-        sent = turn(sent, data, answer, buffer, input, output);
+        sent = turn(sent);
         if sent.is_over() {
             break;
         }
         i += 1;
     }
-    ended(sent, answer, buffer, input, output)
+    ended(sent)
 }
 
 // A round of both ends.
-fn turn(
-    s: Sent,
-    data: &[u8; 512],
-    answer: &mut [u8; 512],
-    buffer: &mut [u8; 256],
-    input: &mut [u8; 256],
-    output: &mut [u8; 256],
-) -> Sent {
+fn turn(s: Sent) -> Sent {
     let frame = s.frame;
     let bench = s.bench;
-    let b = fed(bench.later(), input);
+    let b = fed(bench.later());
     let seen = line::wired(frame.pulls(), unit::pulls(b.unit));
-    let next = frame.step(b.script, data, seen, answer);
+    let next = frame.step(b, seen);
     Sent {
-        bench: with_unit(b, seen, buffer, input, output),
+        bench: with_unit(b, seen),
         frame: next,
     }
 }
 
-fn ended(
-    s: Sent,
-    answer: &[u8; 512],
-    buffer: &mut [u8; 256],
-    input: &[u8; 256],
-    output: &mut [u8; 256],
-) -> Bench {
+fn ended(s: Sent) -> Bench {
     let b = s.bench;
     let frame = s.frame;
-    tell(b.script.round, frame.got, answer);
-    let rested = rest(rest(b, buffer, input, output), buffer, input, output);
+    frame.tell(b.script.round);
+    let rested = rest(rest(b));
     calls::look(rested.unit);
     rested
 }
 
 // A round in which the controller pulls nothing.
-fn rest(bench: Bench, buffer: &mut [u8; 256], input: &[u8; 256], output: &mut [u8; 256]) -> Bench {
-    with_unit(
-        bench.later(),
-        unit::pulls(bench.unit),
-        buffer,
-        input,
-        output,
-    )
+fn rest(bench: Bench) -> Bench {
+    with_unit(bench.later(), unit::pulls(bench.unit))
 }
 
 // After the unit's round at these levels.
-fn with_unit(
-    b: Bench,
-    seen: Lines,
-    buffer: &mut [u8; 256],
-    input: &[u8; 256],
-    output: &mut [u8; 256],
-) -> Bench {
+fn with_unit(b: Bench, seen: Lines) -> Bench {
     let script = b.script;
-    rounds::round(
-        b,
-        seen,
-        script.is_busy(),
-        script.is_shown(),
-        buffer,
-        input,
-        output,
-    )
+    rounds::round(b, seen, script.is_busy(), script.is_shown())
 }
 
-fn fed(b: Bench, input: &mut [u8; 256]) -> Bench {
+fn fed(b: Bench) -> Bench {
     if b.script.round == b.feeding {
-        return calls::feed(b, 0x5A, input);
+        return calls::feed(b, 0x5A);
     }
     b
 }
 
 impl Frame {
-    fn step(self, s: Script, data: &[u8], seen: Lines, answer: &mut [u8; 512]) -> Frame {
+    fn step(self, b: Bench, seen: Lines) -> Frame {
         let stage = self.stage;
         match stage {
             Stage::Before => self.at(Stage::Leading),
             Stage::Leading => self.at(Stage::Sending(Sender::Next)),
-            Stage::Sending(sender) => self.sending(s, data, sender, seen.hsk),
-            Stage::Listening(ear) => self.listening(ear, seen, answer),
+            Stage::Sending(sender) => self.sending(b, sender, seen.hsk),
+            Stage::Listening(ear) => self.listening(ear, seen),
             Stage::Over => self,
         }
     }
 
     fn at(self, stage: Stage) -> Frame {
+        let answer = self.answer;
         Frame {
             stage,
             sent: self.sent,
             got: self.got,
+            answer,
             quiet: self.quiet,
         }
     }
 
-    fn sending(self, s: Script, data: &[u8], sender: Sender, hsk: bool) -> Frame {
-        let done = self.sent;
+    fn sending(self, b: Bench, sender: Sender, hsk: bool) -> Frame {
+        let script = b.script;
         if sender.sent(hsk) {
-            let mut frame = self;
-            frame.sent = done % 100000 + 1;
-            if 2 * (s.length % 65536 + 9) <= frame.sent {
-                return frame.at(Stage::Listening(Listener::Ready));
-            }
-            return frame.at(Stage::Sending(Sender::Next));
+            return self.sent_one(script.length);
         }
-        let nibble = command::nibble(s.command, slices::part(data, 0, s.length), done);
+        let data = b.data;
+        let known = slices::part(&data, 0, script.length);
+        let nibble = command::nibble(script.command, known, self.sent);
         self.at(Stage::Sending(sender.step(hsk, nibble)))
     }
 
-    fn listening(self, ear: Listener, seen: Lines, answer: &mut [u8; 512]) -> Frame {
+    // One nibble more of a command with so much data is done.
+    fn sent_one(self, length: usize) -> Frame {
         let mut frame = self;
-        let got = self.got;
-        if ear.taken(seen.hsk) {
-            wire::put(answer, got, seen.nibble);
-            frame.got = got % 100000 + 1;
+        frame.sent = self.sent % 100000 + 1;
+        if 2 * (length % 65536 + 9) <= frame.sent {
+            return frame.at(Stage::Listening(Listener::Ready));
         }
-        let heard = ear.step(seen.hsk, false);
+        frame.at(Stage::Sending(Sender::Next))
+    }
+
+    fn listening(self, ear: Listener, seen: Lines) -> Frame {
+        let mut frame = self.heard(ear.taken(seen.hsk), seen.nibble);
         frame.quiet = if seen.hsk { 0 } else { self.quiet % 100000 + 1 };
-        if is_whole(got, answer, seen.hsk) {
+        let heard = ear.step(seen.hsk, false);
+        if frame.is_whole(self.got, seen.hsk) {
             return frame.at(Stage::Over);
         }
         if TIME_OUT <= frame.quiet {
             return frame.at(Stage::Over);
         }
         frame.at(Stage::Listening(heard))
+    }
+
+    // With a nibble more of the response, if one was taken.
+    fn heard(self, taken: bool, nibble: u8) -> Frame {
+        if taken {
+            let mut frame = self;
+            let mut answer = self.answer;
+            wire::put(&mut answer, self.got, nibble);
+            frame.answer = answer;
+            frame.got = self.got % 100000 + 1;
+            return frame;
+        }
+        self
+    }
+
+    // Whether the response's last nibble was taken before this round and HSK is seen high.
+    fn is_whole(self, got: usize, hsk: bool) -> bool {
+        if hsk {
+            return false;
+        }
+        if got < 4 {
+            return false;
+        }
+        self.length() <= got / 2
+    }
+
+    // The length of the response.
+    fn length(self) -> usize {
+        let answer = self.answer;
+        let low = answer[0];
+        let high = answer[1];
+        field::value_of(low, high) as usize % 65536 + 3
     }
 
     // What the controller pulls.
@@ -204,6 +200,21 @@ impl Frame {
             Stage::Listening(ear) => wire::pulling(true, ear.hsk(), 15),
             Stage::Over => wire::released(),
         }
+    }
+
+    fn tell(self, round: u32) {
+        page::tell(b"  # rounds, ", round as u64, 0, 0, 0);
+        if self.got == 0 {
+            page::say(b"no response\n");
+            return;
+        }
+        let n = self.length();
+        if self.got / 2 < n {
+            page::tell(b"response nibbles #\n", self.got as u64, 0, 0, 0);
+            return;
+        }
+        let answer = self.answer;
+        response(slices::part(&answer, 0, n));
     }
 }
 
@@ -225,42 +236,13 @@ impl Sent {
     }
 }
 
-// Whether the response's last nibble was taken and HSK is seen high.
-fn is_whole(got: usize, answer: &[u8; 512], hsk: bool) -> bool {
-    if hsk {
-        return false;
-    }
-    if got < 4 {
-        return false;
-    }
-    length_of(answer) <= got / 2
-}
-
-// The length of the response that stands at the front.
-fn length_of(answer: &[u8; 512]) -> usize {
-    let low = answer[0];
-    let high = answer[1];
-    field::value_of(low, high) as usize % 65536 + 3
-}
-
-fn tell(round: u32, got: usize, answer: &[u8; 512]) {
-    let rounds = Text::of(b"  ").decimal(round as usize).words(b" rounds, ");
-    let n = length_of(answer);
-    if got == 0 {
-        rounds.words(b"no response").end();
+fn response(s: &[u8]) {
+    if 32 < s.len() {
+        page::tell(b"response of #\n", s.len() as u64, 0, 0, 0);
+        text::rows(s);
         return;
     }
-    if got / 2 < n {
-        rounds.words(b"response nibbles ").decimal(got).end();
-        return;
-    }
-    if 32 < n {
-        rounds.words(b"response of ").decimal(n).end();
-        text::rows(slices::part(answer, 0, n));
-        return;
-    }
-    rounds
-        .words(b"response")
-        .bytes(slices::part(answer, 0, n))
-        .end();
+    page::say(b"response");
+    page::bytes(s);
+    page::say(b"\n");
 }

@@ -1,8 +1,7 @@
 // The class of each device code.
-use text::Text;
 
 pub fn run() {
-    Text::of(b"Classes of the device codes").end();
+    page::say(b"Classes of the device codes\n");
     let mut classes = [0u8; 256];
     fill(&mut classes);
     text::rows(&classes);

@@ -3,11 +3,10 @@ use crate::messages;
 use crate::messages::Message;
 use crate::nibbles;
 use crate::papers;
-use text::Text;
 use text::slices;
 
 pub fn run() {
-    Text::of(b"Worked examples (source document 000, 7.1 and 7.2)").end();
+    page::say(b"Worked examples (source document 000, 7.1 and 7.2)\n");
     // The scan of 7.1 prints O and 0 alike; its words, odd parity, make the last byte the letter O.
     example(
         b"7.1 open, command",
@@ -24,17 +23,21 @@ pub fn run() {
 }
 
 fn example(title: &[u8], m: Message, data: &[u8]) {
-    Text::of(title).end();
+    page::say(title);
     let mut space = [0u8; 32];
     let answer = m.write(data, &mut space);
-    messages::written(Text::of(b"  written: "), answer).end();
+    page::say(b"\n  written: ");
+    messages::written(answer);
     read_back(m, slices::part(&space, 0, messages::length_of(answer)));
-    Text::of(b"  nibbles").end();
+    page::say(b"  nibbles\n");
     nibbles::of(m, data, messages::length_of(answer));
 }
 
 fn read_back(m: Message, s: &[u8]) {
-    Text::of(b"  bytes").bytes(s).end();
-    m.read(Text::of(b"  read: "), s).end();
-    messages::data(Text::of(b"  "), m.data_of(s)).end();
+    page::say(b"\n  bytes");
+    page::bytes(s);
+    page::say(b"\n  read: ");
+    m.read(s);
+    page::say(b"\n  ");
+    messages::data(m.data_of(s));
 }

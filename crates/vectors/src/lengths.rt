@@ -3,7 +3,6 @@ use crate::messages;
 use crate::messages::Message;
 use crate::papers;
 use header::Command;
-use text::Text;
 use text::slices;
 use writer::Written;
 
@@ -11,7 +10,7 @@ use writer::Written;
 const BEFORE: u8 = 0xEE;
 
 pub fn run() {
-    Text::of(b"Writing into buffers of EE: room to spare, one byte short, exactly as long").end();
+    page::say(b"Writing into buffers of EE: room to spare, one byte short, exactly as long\n");
     let mut data = [0u8; 65536];
     let mut space = [0u8; 65600];
     every_length(&mut data, &mut space);
@@ -55,7 +54,8 @@ fn lengths(title: &[u8], m: Message, data: &[u8], space: &mut [u8; 65600]) {
 // Into all of the space, into one byte too few, and into just enough.
 fn rooms(title: &[u8], m: Message, data: &[u8], space: &mut [u8]) {
     let n = data.len();
-    Text::of(title).words(b", data length ").decimal(n).end();
+    page::say(title);
+    page::tell(b", data length #\n", n as u64, 0, 0, 0);
     into(m, data, space);
     // No data here is longer. The test says that the sum fits.
     if n <= 65536 {
@@ -80,59 +80,70 @@ fn into(m: Message, data: &[u8], out: &mut [u8]) {
 // What became of the buffer that a message was written into.
 fn outcome(m: Message, data: &[u8], answer: Written, s: &[u8]) {
     let n = messages::length_of(answer);
-    let text = Text::of(b"  into ").decimal(s.len()).words(b": ");
-    kept(messages::written(text, answer), slices::part(s, n, s.len()));
+    page::tell(b"  into #: ", s.len() as u64, 0, 0, 0);
+    messages::written(answer);
+    kept(slices::part(s, n, s.len()));
     if 0 < n {
         read_back(m, data, slices::part(s, 0, n));
     }
 }
 
 // The bytes past the message; where the writer refused, all of them.
-fn kept(text: Text, s: &[u8]) {
-    text.words(b", still EE: ")
-        .decimal(slices::count(s, BEFORE))
-        .words(b" of ")
-        .decimal(s.len())
-        .end();
+fn kept(s: &[u8]) {
+    let n = slices::count(s, BEFORE);
+    page::tell(b", still EE: # of #\n", n as u64, s.len() as u64, 0, 0);
 }
 
 fn read_back(m: Message, data: &[u8], s: &[u8]) {
     parts(m, s);
-    let found = m.data_of(s);
-    m.read(Text::of(b"    read: "), s)
-        .words(b", data length ")
-        .decimal(found.len())
-        .words(b", ")
-        .decimal(slices::same(found, data))
-        .words(b" as given")
-        .end();
+    page::say(b"    read: ");
+    m.read(s);
+    found(m.data_of(s), data);
+}
+
+fn found(found: &[u8], data: &[u8]) {
+    let same = slices::same(found, data);
+    page::tell(
+        b", data length #, # as given\n",
+        found.len() as u64,
+        same as u64,
+        0,
+        0,
+    );
 }
 
 // The header, the first and the last byte of the data, and a response's status.
 fn parts(m: Message, s: &[u8]) {
     let n = s.len();
     match m {
-        Message::Command(_) => header_and_data(slices::part(s, 0, 9), slices::part(s, 9, n)).end(),
+        Message::Command(_) => {
+            header_and_data(slices::part(s, 0, 9), slices::part(s, 9, n));
+            page::say(b"\n");
+        }
         Message::Response(_) => {
             if 2 < n {
-                header_and_data(slices::part(s, 0, 2), slices::part(s, 2, n - 1))
-                    .words(b", status ")
-                    .hex(s[n - 1])
-                    .end();
+                header_and_data(slices::part(s, 0, 2), slices::part(s, 2, n - 1));
+                status(s[n - 1]);
             }
         }
     }
 }
 
-fn header_and_data(before: &[u8], data: &[u8]) -> Text {
-    let text = Text::of(b"    header").bytes(before);
+fn status(b: u8) {
+    page::tell(b", status %\n", b as u64, 0, 0, 0);
+}
+
+fn header_and_data(before: &[u8], data: &[u8]) {
+    page::say(b"    header");
+    page::bytes(before);
     let n = data.len();
     if n == 0 {
-        text.words(b", no data")
+        page::say(b", no data");
     } else {
-        text.words(b", data ")
-            .hex(data[0])
-            .words(b" to ")
-            .hex(data[n - 1])
+        ends(data[0], data[n - 1]);
     }
+}
+
+fn ends(first: u8, last: u8) {
+    page::tell(b", data % to %", first as u64, last as u64, 0, 0);
 }

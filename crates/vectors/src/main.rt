@@ -10,12 +10,12 @@ mod readings;
 
 fn main() {
     examples::run();
-    text::blank();
+    page::say(b"\n");
     readings::run();
-    text::blank();
+    page::say(b"\n");
     lengths::run();
-    text::blank();
+    page::say(b"\n");
     nibbles::run();
-    text::blank();
+    page::say(b"\n");
     classes::run();
 }

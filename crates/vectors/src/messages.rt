@@ -1,7 +1,6 @@
 // Commands and responses under one name, so that each case is run on both.
 ghost use Prim.Native.Nat.{_≤_};
 use header::Command;
-use text::Text;
 use writer::Written;
 
 // The fields of a message. Its data stands beside it.
@@ -20,10 +19,10 @@ impl Message {
     }
 
     // What reading a slice as a message of this kind comes to, in words.
-    pub fn read(self, text: Text, s: &[u8]) -> Text {
+    pub fn read(self, s: &[u8]) {
         match self {
-            Message::Command(_) => command_read(text, s),
-            Message::Response(_) => response_read(text, s),
+            Message::Command(_) => command_read(s),
+            Message::Response(_) => response_read(s),
         }
     }
 
@@ -53,41 +52,45 @@ impl Message {
     }
 }
 
-fn command_read(text: Text, s: &[u8]) -> Text {
+fn command_read(s: &[u8]) {
     match command::read(s) {
-        command::Reading::Fields(c) => fields(text, c),
-        command::Reading::Short => text.words(b"refusal 9"),
-        command::Reading::Disagrees => text.words(b"refusal 10"),
+        command::Reading::Fields(c) => fields(c),
+        command::Reading::Short => page::say(b"refusal 9"),
+        command::Reading::Disagrees => page::say(b"refusal 10"),
     }
 }
 
-fn fields(text: Text, c: Command) -> Text {
-    text.words(b"device ")
-        .decimal(c.device as usize)
-        .words(b", command ")
-        .hex(c.command)
-        .words(b", logical unit ")
-        .decimal(c.logical_unit as usize)
-        .words(b", record number ")
-        .decimal(c.record_number as usize)
-        .words(b", buffer length ")
-        .decimal(c.buffer_length as usize)
+fn fields(c: Command) {
+    page::tell(
+        b"device #, command %, logical unit #",
+        c.device as u64,
+        c.command as u64,
+        c.logical_unit as u64,
+        0,
+    );
+    page::tell(
+        b", record number #, buffer length #",
+        c.record_number as u64,
+        c.buffer_length as u64,
+        0,
+        0,
+    );
 }
 
-fn response_read(text: Text, s: &[u8]) -> Text {
+fn response_read(s: &[u8]) {
     match response::read(s) {
-        response::Reading::Status(status) => text.words(b"status ").hex(status),
-        response::Reading::Short => text.words(b"refusal 9"),
-        response::Reading::Disagrees => text.words(b"refusal 10"),
+        response::Reading::Status(status) => page::tell(b"status %", status as u64, 0, 0, 0),
+        response::Reading::Short => page::say(b"refusal 9"),
+        response::Reading::Disagrees => page::say(b"refusal 10"),
     }
 }
 
 // What writing a message comes to, in words.
-pub fn written(text: Text, answer: Written) -> Text {
+pub fn written(answer: Written) {
     match answer {
-        Written::Length(n) => text.words(b"length ").decimal(n),
-        Written::TooLong => text.words(b"refusal 2"),
-        Written::NoRoom => text.words(b"refusal 11"),
+        Written::Length(n) => page::tell(b"length #", n as u64, 0, 0, 0),
+        Written::TooLong => page::say(b"refusal 2"),
+        Written::NoRoom => page::say(b"refusal 11"),
     }
 }
 
@@ -101,10 +104,12 @@ pub fn length_of(answer: Written) -> usize {
 }
 
 // A data field, byte for byte.
-pub fn data(text: Text, s: &[u8]) -> Text {
+pub fn data(s: &[u8]) {
     if s.len() == 0 {
-        text.words(b"no data")
+        page::say(b"no data\n");
     } else {
-        text.words(b"data").bytes(s)
+        page::say(b"data");
+        page::bytes(s);
+        page::say(b"\n");
     }
 }

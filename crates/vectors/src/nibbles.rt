@@ -1,14 +1,12 @@
 // Messages as nibbles.
 use crate::messages::Message;
 use crate::papers;
-use text::Text;
 use text::slices;
 
 pub fn run() {
-    Text::of(b"Nibbles, and two past the end").end();
-    Text::of(b"M1, command").end();
+    page::say(b"Nibbles, and two past the end\nM1, command\n");
     of(papers::open(), b"\x50\x00\xC0", 13);
-    Text::of(b"M2, response").end();
+    page::say(b"M2, response\n");
     of(Message::Response(0x00), b"\x50\x00\x00\x00", 8);
     let mut data = [0u8; 65535];
     longest(&mut data);
@@ -33,7 +31,7 @@ fn fill(m: Message, data: &[u8], nibbles: &mut [u8]) {
 
 fn longest(data: &mut [u8; 65535]) {
     slices::fill_by_rule(data);
-    Text::of(b"Command, data length 65535").end();
+    page::say(b"Command, data length 65535\n");
     let last_byte = 18 + 2 * 65534;
     at(data, last_byte);
     at(data, last_byte + 1);
@@ -43,9 +41,5 @@ fn longest(data: &mut [u8; 65535]) {
 
 fn at(data: &[u8], i: usize) {
     let nibble = papers::open().nibble(data, i);
-    Text::of(b"  nibble ")
-        .decimal(i)
-        .words(b": ")
-        .decimal(nibble as usize)
-        .end();
+    page::tell(b"  nibble #: #\n", i as u64, nibble as u64, 0, 0);
 }

@@ -2,22 +2,17 @@
 use crate::messages;
 use crate::messages::Message;
 use crate::papers;
-use text::Text;
 use text::slices;
 
 pub fn run() {
-    Text::of(b"Reading the first bytes of M1 and a second command behind it").end();
+    page::say(b"Reading the first bytes of M1 and a second command behind it\n");
     cuts(
         papers::open(),
         b"\x14\x00\x01\x00\x00\x04\x00\x03\x00\x50\x00\xC0\x14\x03\x01\x00\x00\x50\x00\x00\x00",
     );
-    reading(
-        papers::open(),
-        Text::of(b"  M10, 9 bytes that announce 1: "),
-        b"\x14\x00\x01\x00\x00\x04\x00\x01\x00",
-    );
-    text::blank();
-    Text::of(b"Reading the first bytes of M2 and a second response behind it").end();
+    page::say(b"  M10, 9 bytes that announce 1: ");
+    reading(papers::open(), b"\x14\x00\x01\x00\x00\x04\x00\x01\x00");
+    page::say(b"\nReading the first bytes of M2 and a second response behind it\n");
     cuts(
         Message::Response(0x00),
         b"\x04\x00\x50\x00\x00\x00\x00\x00\x00\x05",
@@ -25,7 +20,9 @@ pub fn run() {
 }
 
 fn cuts(m: Message, s: &[u8]) {
-    Text::of(b"  all").bytes(s).end();
+    page::say(b"  all");
+    page::bytes(s);
+    page::say(b"\n");
     let mut k = 0;
     while k < s.len() {
         cut(m, s, k);
@@ -35,11 +32,12 @@ fn cuts(m: Message, s: &[u8]) {
 }
 
 fn cut(m: Message, s: &[u8], k: usize) {
-    let text = Text::of(b"  first ").decimal(k).words(b": ");
-    reading(m, text, slices::part(s, 0, k));
+    page::tell(b"  first #: ", k as u64, 0, 0, 0);
+    reading(m, slices::part(s, 0, k));
 }
 
-fn reading(m: Message, text: Text, s: &[u8]) {
-    let read = m.read(text, s).words(b", ");
-    messages::data(read, m.data_of(s)).end();
+fn reading(m: Message, s: &[u8]) {
+    m.read(s);
+    page::say(b", ");
+    messages::data(m.data_of(s));
 }

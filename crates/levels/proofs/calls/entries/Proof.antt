@@ -1,14 +1,15 @@
--- Nothing has to hold from turn to turn; the places that are left grow fewer.
+-- What is left to go through grows less.
 use borrow.Author.Needs.{needs}
 use Prim.Native.Nat.{_-_}
 use Rattle.levels.proofs.calls.entries.Statement.{statement}
 use Rattle.levels.proofs.calls.entries.Tie as tie
+use Rattle.ring.proofs.Ring.entry.Reads as Ring-entry-reads
 
 abbrev Inv-loop : tie.InvT-loop
-Inv-loop ring text₀ i₀ text i = Unit {0}
+Inv-loop ring i₀ i = Unit {0}
 
 abbrev μ-loop : tie.MeasureT-loop
-μ-loop ring text₀ i₀ text i = 16 - i
+μ-loop ring i₀ i = 16 - i
 
 loop-holds : tie.Need-loop-holds Inv-loop μ-loop
 loop-holds c = search needs
@@ -19,8 +20,8 @@ len-requires c κs = search needs
 entry-requires : tie.Need-entry-requires Inv-loop μ-loop
 entry-requires c κs = search needs
 
-with-entry-requires : tie.Need-with-entry-requires Inv-loop μ-loop
-with-entry-requires c κs = search needs
+entry-requires-2 : tie.Need-entry-requires-2 Inv-loop μ-loop
+entry-requires-2 c κs = search needs
 
 add-i : tie.Need-add-i Inv-loop μ-loop
 add-i c = search needs
@@ -43,7 +44,7 @@ entries-spec =
     loop-holds
     len-requires
     entry-requires
-    with-entry-requires
+    entry-requires-2
     add-i
     loop-less
     loop-again

@@ -1,14 +1,14 @@
--- Nothing has to hold from turn to turn; the rounds that are left grow fewer.
+-- What is left to go through grows less.
 use borrow.Author.Needs.{needs}
 use Prim.Native.Nat.{_-_}
 use Rattle.levels.proofs.rounds.free.Statement.{statement}
 use Rattle.levels.proofs.rounds.free.Tie as tie
 
 abbrev Inv-loop : tie.InvT-loop
-Inv-loop bench every bytes response₀ b₀ i₀ response b i = Unit {0}
+Inv-loop bench every bytes b₀ i₀ b i = Unit {0}
 
 abbrev μ-loop : tie.MeasureT-loop
-μ-loop bench every bytes response₀ b₀ i₀ response b i = bench .script .decimal - i
+μ-loop bench every bytes b₀ i₀ b i = bench .script .decimal - i
 
 loop-holds : tie.Need-loop-holds Inv-loop μ-loop
 loop-holds c = search needs

@@ -1,14 +1,14 @@
--- Nothing has to hold from turn to turn; the rounds that are left grow fewer.
+-- What is left to go through grows less.
 use borrow.Author.Needs.{needs}
 use Prim.Native.Nat.{_-_}
 use Rattle.levels.proofs.rounds.go.Statement.{statement}
 use Rattle.levels.proofs.rounds.go.Tie as tie
 
 abbrev Inv-loop : tie.InvT-loop
-Inv-loop bench bytes answer heard₀ response₀ b₀ i₀ heard response b i = Unit {0}
+Inv-loop bench bytes b₀ i₀ b i = Unit {0}
 
 abbrev μ-loop : tie.MeasureT-loop
-μ-loop bench bytes answer heard₀ response₀ b₀ i₀ heard response b i = 100000 - i
+μ-loop bench bytes b₀ i₀ b i = 100000 - i
 
 loop-holds : tie.Need-loop-holds Inv-loop μ-loop
 loop-holds c = search needs

@@ -1,4 +1,4 @@
--- Nothing has to hold from turn to turn; the letters that are left grow fewer.
+-- What is left to go through grows less.
 use borrow.Author.Needs.{needs}
 use lib.ListN.{length}
 use Prim.Native.Nat.{_-_}
@@ -6,10 +6,10 @@ use Rattle.levels.proofs.script.play.Statement.{statement}
 use Rattle.levels.proofs.script.play.Tie as tie
 
 abbrev Inv-loop : tie.InvT-loop
-Inv-loop script bytes₀ answer₀ heard₀ response₀ b₀ i₀ bytes answer heard response b i = Unit {0}
+Inv-loop script bytes₀ b₀ i₀ bytes b i = Unit {0}
 
 abbrev μ-loop : tie.MeasureT-loop
-μ-loop script bytes₀ answer₀ heard₀ response₀ b₀ i₀ bytes answer heard response b i = length script - i
+μ-loop script bytes₀ b₀ i₀ bytes b i = length script - i
 
 new-requires : tie.Need-new-requires Inv-loop μ-loop
 new-requires c κs = search needs

@@ -1,14 +1,14 @@
--- Nothing has to hold from turn to turn; the bytes that are left grow fewer.
+-- What is left to go through grows less.
 use borrow.Author.Needs.{needs}
 use Prim.Native.Nat.{_-_}
 use Rattle.rounds.proofs.calls.feed_many.Statement.{statement}
 use Rattle.rounds.proofs.calls.feed_many.Tie as tie
 
 abbrev Inv-loop : tie.InvT-loop
-Inv-loop bench input₀ b₀ i₀ input b i = Unit {0}
+Inv-loop bench b₀ i₀ b i = Unit {0}
 
 abbrev μ-loop : tie.MeasureT-loop
-μ-loop bench input₀ b₀ i₀ input b i = bench .script .decimal - i
+μ-loop bench b₀ i₀ b i = bench .script .decimal - i
 
 loop-holds : tie.Need-loop-holds Inv-loop μ-loop
 loop-holds c = search needs

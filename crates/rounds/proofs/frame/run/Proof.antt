@@ -1,14 +1,14 @@
--- Nothing has to hold from turn to turn; the rounds that are left grow fewer.
+-- What is left to go through grows less.
 use borrow.Author.Needs.{needs}
 use Prim.Native.Nat.{_-_}
 use Rattle.rounds.proofs.frame.run.Statement.{statement}
 use Rattle.rounds.proofs.frame.run.Tie as tie
 
 abbrev Inv-loop : tie.InvT-loop
-Inv-loop «data» answer₀ buffer₀ input₀ output₀ sent₀ i₀ answer buffer input output sent i = Unit {0}
+Inv-loop sent₀ i₀ sent i = Unit {0}
 
 abbrev μ-loop : tie.MeasureT-loop
-μ-loop «data» answer₀ buffer₀ input₀ output₀ sent₀ i₀ answer buffer input output sent i = 20000 - i
+μ-loop sent₀ i₀ sent i = 20000 - i
 
 begun-requires : tie.Need-begun-requires Inv-loop μ-loop
 begun-requires c κs = search needs

@@ -1,4 +1,4 @@
--- Nothing has to hold from turn to turn; the letters that are left grow fewer.
+-- What is left to go through grows less.
 use borrow.Author.Needs.{needs}
 use lib.ListN.{length}
 use Prim.Native.Nat.{_-_}
@@ -6,10 +6,10 @@ use Rattle.rounds.proofs.script.play.Statement.{statement}
 use Rattle.rounds.proofs.script.play.Tie as tie
 
 abbrev Inv-loop : tie.InvT-loop
-Inv-loop script data₀ answer₀ buffer₀ input₀ output₀ b₀ i₀ «data» answer buffer input output b i = Unit {0}
+Inv-loop script b₀ i₀ b i = Unit {0}
 
 abbrev μ-loop : tie.MeasureT-loop
-μ-loop script data₀ answer₀ buffer₀ input₀ output₀ b₀ i₀ «data» answer buffer input output b i = length script - i
+μ-loop script b₀ i₀ b i = length script - i
 
 loop-holds : tie.Need-loop-holds Inv-loop μ-loop
 loop-holds c = search needs

@@ -1,4 +1,4 @@
--- Nothing has to hold from turn to turn; the cuts that are left grow fewer.
+-- What is left to go through grows less.
 use borrow.Author.Needs.{needs}
 use lib.ListN.{length}
 use Prim.Native.Nat.{_-_}
@@ -11,17 +11,20 @@ Inv-loop m s k₀ k = Unit {0}
 abbrev μ-loop : tie.MeasureT-loop
 μ-loop m s k₀ k = length s - k
 
-slice-aggregate-of : tie.Need-slice-aggregate-of Inv-loop μ-loop
-slice-aggregate-of c = search needs
+slice-aggregate-say : tie.Need-slice-aggregate-say Inv-loop μ-loop
+slice-aggregate-say c = search needs
 
-of-requires : tie.Need-of-requires Inv-loop μ-loop
-of-requires c κs = search needs
+say-requires : tie.Need-say-requires Inv-loop μ-loop
+say-requires c κs = search needs
 
 bytes-requires : tie.Need-bytes-requires Inv-loop μ-loop
 bytes-requires c κs = search needs
 
-end-requires : tie.Need-end-requires Inv-loop μ-loop
-end-requires c κs = search needs
+slice-aggregate-say-2 : tie.Need-slice-aggregate-say-2 Inv-loop μ-loop
+slice-aggregate-say-2 c = search needs
+
+say-requires-2 : tie.Need-say-requires-2 Inv-loop μ-loop
+say-requires-2 c κs = search needs
 
 loop-holds : tie.Need-loop-holds Inv-loop μ-loop
 loop-holds c = search needs
@@ -50,10 +53,11 @@ cuts-spec =
     (tie.spec
     Inv-loop
     μ-loop
-    slice-aggregate-of
-    of-requires
+    slice-aggregate-say
+    say-requires
     bytes-requires
-    end-requires
+    slice-aggregate-say-2
+    say-requires-2
     loop-holds
     cut-requires
     add-k
