@@ -1,0 +1,3 @@
+// The library that a gateway links: every call of a unit, of the controller, of the messages and of the classes, for C
+// (include/hexbus.h).
+mod unit_calls;

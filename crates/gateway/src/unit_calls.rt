@@ -1,0 +1,135 @@
+// A unit in 23 words of its caller's.
+ghost use mathlib.Core.Path.{_≡_};
+ghost use Rattle.host.specs.Calls.{making, feeding, inputAfter, taking, raising, looksOf};
+ghost use Rattle.unit.specs.Calls.{stepping, bufferAfter, outputAfter};
+ghost use Rattle.unit.specs.Unit.{pullsOf};
+ghost use Rattle.unitwords.specs.Unit.{loaded};
+ghost use Rattle.words.specs.Words.{linesNumber, number};
+ghost use Rattle.gateway.specs.Unit.{linesOf, unitAfter, unitMade, takenNumber, takenWords, acceptedOf, looksWords};
+use host::Fed;
+use host::Made;
+use host::Raised;
+use host::Taken;
+use line::Lines;
+use serial::Opening;
+use unit::Stepped;
+
+// Makes a new unit with its own code and retry count.
+#[no_mangle]
+pub extern "C" fn hexbus_unit_make(unit: &mut [u32; 23], own: u8, retry: u32) -> u32
+    ensures { λ r. ⌜ (r ≡ number (making own retry)) × (now (unit .exit) ≡ unitMade (making own retry) (now (unit .entry))) ⌝ }
+{
+    match host::make(own, retry) {
+        Made::New(u) => {
+            unitwords::save_new(unit, u);
+            0
+        }
+        Made::Setting => 5,
+    }
+}
+
+// Steps a unit through a round.
+#[no_mangle]
+pub extern "C" fn hexbus_unit_step(
+    unit: &mut [u32; 23],
+    bav: bool,
+    hsk: bool,
+    nibble: u8,
+    busy: bool,
+    command: &mut [u8],
+    input: &[u8; 256],
+    output: &mut [u8; 256],
+) -> u32
+    ensures { λ r. ⌜ (r ≡ number (stepping (loaded (now (unit .entry))) (linesOf bav hsk nibble) busy (now (command .entry)) (now (input .entry)))) × ((now (unit .exit) ≡ unitAfter (stepping (loaded (now (unit .entry))) (linesOf bav hsk nibble) busy (now (command .entry)) (now (input .entry))) (now (unit .entry))) × ((now (command .exit) ≡ bufferAfter (loaded (now (unit .entry))) (linesOf bav hsk nibble) busy (now (command .entry)) (now (input .entry))) × (now (output .exit) ≡ outputAfter (loaded (now (unit .entry))) (linesOf bav hsk nibble) busy (now (command .entry)) (now (input .entry)) (now (output .entry))))) ⌝ }
+{
+    let u = unitwords::load(unit);
+    let seen = Lines { bav, hsk, nibble };
+    match unit::step(u, seen, busy, command, input, output) {
+        Stepped::On(v) => {
+            unitwords::save(unit, v);
+            0
+        }
+        Stepped::Level => 5,
+        Stepped::Buffer => 11,
+    }
+}
+
+// What a unit pulls after its last step.
+#[no_mangle]
+pub extern "C" fn hexbus_unit_pulls(unit: &[u32; 23]) -> u32
+    ensures { λ r. ⌜ r ≡ linesNumber (pullsOf (loaded (now (unit .entry)))) ⌝ }
+{
+    words::lines(unit::pulls(unitwords::load(unit)))
+}
+
+// Feeds a byte to a unit's input queue.
+#[no_mangle]
+pub extern "C" fn hexbus_unit_feed(unit: &mut [u32; 23], input: &mut [u8; 256], b: u8) -> u32
+    ensures { λ r. ⌜ (r ≡ number (feeding (loaded (now (unit .entry))) b)) × ((now (unit .exit) ≡ unitAfter (feeding (loaded (now (unit .entry))) b) (now (unit .entry))) × (now (input .exit) ≡ inputAfter (loaded (now (unit .entry))) b (now (input .entry)))) ⌝ }
+{
+    let u = unitwords::load(unit);
+    match host::feed(u, input, b) {
+        Fed::Queued(v) => {
+            unitwords::save(unit, v);
+            0
+        }
+        Fed::Full => 6,
+        Fed::NotOpen => 7,
+    }
+}
+
+// Takes the oldest byte of a unit's output queue.
+#[no_mangle]
+pub extern "C" fn hexbus_unit_take(unit: &mut [u32; 23], output: &[u8; 256]) -> u32
+    ensures { λ r. ⌜ (r ≡ takenNumber (taking (loaded (now (unit .entry))) (now (output .entry)))) × (now (unit .exit) ≡ takenWords (taking (loaded (now (unit .entry))) (now (output .entry))) (now (unit .entry))) ⌝ }
+{
+    let u = unitwords::load(unit);
+    match host::take(u, output) {
+        Taken::Byte(b, v) => {
+            unitwords::save(unit, v);
+            b as u32
+        }
+        Taken::Nothing => 256,
+    }
+}
+
+// Raises a unit's request for service.
+#[no_mangle]
+pub extern "C" fn hexbus_unit_raise(unit: &mut [u32; 23]) -> u32
+    ensures { λ r. ⌜ (r ≡ number (raising (loaded (now (unit .entry))))) × (now (unit .exit) ≡ unitAfter (raising (loaded (now (unit .entry)))) (now (unit .entry))) ⌝ }
+{
+    let u = unitwords::load(unit);
+    match host::raise(u) {
+        Raised::Held(v) => {
+            unitwords::save(unit, v);
+            0
+        }
+        Raised::NotEnabled => 7,
+    }
+}
+
+// Looks at a unit.
+#[no_mangle]
+pub extern "C" fn hexbus_unit_look(unit: &[u32; 23], answer: &mut [u32; 6])
+    ensures { λ _. ⌜ now (answer .exit) ≡ looksWords (looksOf (loaded (now (unit .entry)))) ⌝ }
+{
+    let l = host::look(unitwords::load(unit));
+    let opening = l.opening;
+    *answer = [
+        unitwords::opening_number(opening),
+        accepted(opening),
+        l.input as u32,
+        l.output as u32,
+        words::bit(l.enabled),
+        words::bit(l.requesting),
+    ];
+}
+
+fn accepted(o: Opening) -> u32
+    ensures { λ r. ⌜ r ≡ acceptedOf o ⌝ }
+{
+    match o {
+        Opening::Closed => 0,
+        Opening::OpenFor(_, accepted) => accepted as u32,
+    }
+}
