@@ -1,1 +1,2 @@
 pub mod Unit
+pub mod Messages

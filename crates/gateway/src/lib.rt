@@ -1,3 +1,4 @@
 // The library that a gateway links: every call of a unit, of the controller, of the messages and of the classes, for C
 // (include/hexbus.h).
+mod message_calls;
 mod unit_calls;
