@@ -13,7 +13,7 @@ use Rattle.serial.specs.declared.Reply.{Reply}
 use Rattle.serial.specs.declared.Reply.the-variants.{Status, Opened, Bytes}
 use Rattle.unit.specs.declared.Unit.{Unit}
 use Rattle.words.specs.Words.{at, numberIn, flagOf, flagIn}
-use Rattle.words.proofs.Laws.{back2, back8, back16, flag-back, listener-back, sender-back, command-back, wordsFrom, word-by-word}
+use Rattle.words.proofs.Laws.{back2, back8, back16, flag-back, listener-back, sender-back, command-back, elementsFrom, one-by-one}
 use Rattle.unitwords.specs.Unit.{openingOf, openingNumber, acceptedIn, queueOf, serialIn, replyOf, replyTag, replyIn, loadedPhase, phaseIn, loaded, settingsIn, savedIn}
 use Rattle.unitwords.specs.RoundTrip.{OpeningFits, closed, opened-for, ReplyFits, silent, status, opened, bytes, polled, PhaseFits, idle, selecting, taking, answered, responding, sitting-out, InRange, LoadedSavedIn, LoadedSaved}
 
@@ -64,7 +64,7 @@ beside-back ws u p h e = λ i. record {
 }
 
 -- Whatever the phase, it stands behind the words of the rest.
-rest-stays : (ws : List ℕ) (u : Unit) (p : Phase) → loaded (phaseIn (serialIn (settingsIn (wordsFrom 23 0 ws) u) (u .serial)) p) ≡ beside ws u (loadedPhase (phaseIn (serialIn (settingsIn (wordsFrom 23 0 ws) u) (u .serial)) p))
+rest-stays : (ws : List ℕ) (u : Unit) (p : Phase) → loaded (phaseIn (serialIn (settingsIn (elementsFrom 0 23 0 ws) u) (u .serial)) p) ≡ beside ws u (loadedPhase (phaseIn (serialIn (settingsIn (elementsFrom 0 23 0 ws) u) (u .serial)) p))
 rest-stays ws u Idle = refl
 rest-stays ws u (Selecting ear half low) = refl
 rest-stays ws u (Receiving ear (Taking p)) = refl
@@ -72,7 +72,7 @@ rest-stays ws u (Receiving ear (Answered reply)) = refl
 rest-stays ws u (Responding reply i sender wait) = refl
 rest-stays ws u (SittingOut last) = refl
 
-phase-back : (ws : List ℕ) (u : Unit) (p : Phase) → PhaseFits p → loadedPhase (phaseIn (serialIn (settingsIn (wordsFrom 23 0 ws) u) (u .serial)) p) ≡ p
+phase-back : (ws : List ℕ) (u : Unit) (p : Phase) → PhaseFits p → loadedPhase (phaseIn (serialIn (settingsIn (elementsFrom 0 23 0 ws) u) (u .serial)) p) ≡ p
 phase-back ws u p idle = refl
 phase-back ws u p (selecting {ear} {half} {low} h) = λ i. Selecting (listener-back ear i) (flag-back (at ws 14) half i) (back8 (at ws 15) low h i)
 phase-back ws u q (taking {ear} {p} c n l) = λ i. Receiving (listener-back ear i) (Taking (record {
@@ -90,7 +90,7 @@ phase-back ws u p (sitting-out {last}) = λ i. SittingOut (flag-back (at ws 14) 
 
 pub loaded-saved-in : LoadedSavedIn
 loaded-saved-in ws u n h =
-    subst⁻¹ (λ (l : List ℕ). loaded (savedIn l u) ≡ u) (word-by-word 23 ws n)
+    subst⁻¹ (λ (l : List ℕ). loaded (savedIn l u) ≡ u) (one-by-one 0 23 ws n)
     (rest-stays ws u (u .phase) ∙ beside-back ws u _ h (phase-back ws u (u .phase) (h .phase)))
 
 pub loaded-saved : LoadedSaved

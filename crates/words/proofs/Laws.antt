@@ -4,7 +4,7 @@ use native.Mathlib.Omega.{arith}
 use mathlib.Core.Path.{_≡_, refl, _∙_, ap}
 use mathlib.Core.Bool.{Bool, true, false}
 use mathlib.Core.List.{List, [], _∷_}
-use lib.ListN.{length, drop, drop-of-length-le}
+use lib.ListN.{length, drop, getD, drop-of-length-le}
 use lib.Seq.{drop-cons}
 use Rattle.header.specs.Header.{InRange}
 use Rattle.header.specs.declared.Command.{Command}
@@ -12,7 +12,7 @@ use Rattle.line.specs.declared.Listener.{Listener}
 use Rattle.line.specs.declared.Listener.the-variants.{Ready, Holding, Waiting}
 use Rattle.line.specs.declared.Sender.{Sender}
 use Rattle.line.specs.declared.Sender.the-variants.{Placed, Kept}
-use Rattle.words.specs.Words.{at, numberIn, flagOf, flagIn, listenerOf, listenerTag, senderOf, senderTag, senderIn, commandOf}
+use Rattle.words.specs.Words.{numberIn, flagOf, flagIn, listenerOf, listenerTag, senderOf, senderTag, senderIn, commandOf}
 use Rattle.words.specs.Ranges.{SenderFits, next, placed, kept}
 
 pub back8 : (word n : ℕ) → n < 256 → numberIn 256 word n % 256 ≡ n
@@ -23,6 +23,13 @@ back16 word n h = omega arith
 
 pub back2 : (word n : ℕ) → n < 4 → numberIn 4 word n % 4 ≡ n
 back2 word n h = omega arith
+
+-- A number that is put back where it stood changes nothing.
+pub again8 : (word : ℕ) → numberIn 256 word (word % 256) ≡ word
+again8 word = omega arith
+
+pub again16 : (word : ℕ) → numberIn 65536 word (word % 65536) ≡ word
+again16 word = omega arith
 
 pub flag-back : (word : ℕ) (b : Bool) → flagOf (flagIn word b) ≡ b
 flag-back word true = let e : (word / 2 * 2 + 1) % 2 ≡ 1 = omega arith in rw e
@@ -48,16 +55,16 @@ command-back d c l r b k h = λ i. record {
   «buffer_length» = back16 b (k .«buffer_length») (h .buffer) i;
 }
 
--- The words from place i on, so many of them.
-abbrev pub wordsFrom : ℕ → ℕ → List ℕ → List ℕ
-wordsFrom zero i ws = []
-wordsFrom (suc n) i ws = at ws i ∷ wordsFrom n (suc i) ws
+-- The elements of a list from place i on, so many of them.
+abbrev pub elementsFrom : {A : Type 0} → A → ℕ → ℕ → List A → List A
+elementsFrom d zero i l = []
+elementsFrom d (suc n) i l = getD l i d ∷ elementsFrom d n (suc i) l
 
-words-from : (n i : ℕ) (ws : List ℕ) → i + n ≡ length ws → drop i ws ≡ wordsFrom n i ws
-words-from zero i ws e = drop-of-length-le ws {i = i} (omega arith)
-words-from (suc n) i ws e =
-    let within : i < length ws = omega arith in
-    drop-cons ws i 0 within ∙ ap (λ (l : List ℕ). at ws i ∷ l) (words-from n (suc i) ws (omega arith))
+elements-from : {A : Type 0} (d : A) (n i : ℕ) (l : List A) → i + n ≡ length l → drop i l ≡ elementsFrom d n i l
+elements-from d zero i l e = drop-of-length-le l {i = i} (omega arith)
+elements-from d (suc n) i l e =
+    let within : i < length l = omega arith in
+    drop-cons l i d within ∙ ap (λ (r : List _). getD l i d ∷ r) (elements-from d n (suc i) l (omega arith))
 
-pub word-by-word : (n : ℕ) (ws : List ℕ) → length ws ≡ n → ws ≡ wordsFrom n 0 ws
-word-by-word n ws e = words-from n 0 ws (omega arith)
+pub one-by-one : {A : Type 0} (d : A) (n : ℕ) (l : List A) → length l ≡ n → l ≡ elementsFrom d n 0 l
+one-by-one d n l e = elements-from d n 0 l (omega arith)
