@@ -1,2 +1,3 @@
 pub mod Unit
 pub mod Messages
+pub mod Controller

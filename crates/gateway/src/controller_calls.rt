@@ -1,0 +1,224 @@
+// A controller in 33 words of its caller's.
+ghost use mathlib.Core.Path.{_≡_};
+ghost use lib.ListN.{length, getD};
+ghost use Rattle.application.specs.Calls.{making, controllerMade, submitting, controllerSubmitted, acknowledging, controllerAcknowledged, looksOf, submitted};
+ghost use Rattle.controller.specs.Calls.{stepping, controllerStepped, bufferAfter};
+ghost use Rattle.controller.specs.Controller.{controllerOf, idleStep, service, ringAfter, eventAfter, controllerStep, eventIn};
+ghost use Rattle.controllerwords.specs.Controller.{entryNumber, loadedRing, loaded, savedIn};
+ghost use Rattle.frame.specs.Frame.{pullsOf, frameBuffer};
+ghost use Rattle.ring.specs.Ring.{none, live};
+ghost use Rattle.words.specs.Words.{linesNumber, number};
+ghost use Rattle.gateway.specs.Controller.{controllerAfter, controllerMadeIn, eventWords, eventsAfter, inStage, looksWords};
+ghost use Rattle.gateway.specs.Messages.{commandIn};
+ghost use Rattle.gateway.specs.Unit.{linesOf};
+use application::Acknowledging;
+use application::Making;
+use application::Submitting;
+use frame::End;
+use frame::Lent;
+use frame::Moved;
+use frame::Stage;
+use line::Lines;
+use ring::Ring;
+use turn::Event;
+
+// Makes a new controller with its time-out count.
+#[no_mangle]
+pub extern "C" fn hexbus_controller_make(controller: &mut [u32; 33], timeout: u32) -> u32
+    ensures { λ r. ⌜ (r ≡ number (making timeout)) × (now (controller .exit) ≡ controllerMadeIn (making timeout) (controllerMade timeout) (now (controller .entry))) ⌝ }
+{
+    let made = application::make(timeout);
+    let outcome = made.outcome;
+    let c = made.controller;
+    match outcome {
+        Making::New => {
+            controllerwords::save_new(controller, c);
+            0
+        }
+        Making::Setting => 5,
+    }
+}
+
+// Steps a controller through a round.
+#[no_mangle]
+pub extern "C" fn hexbus_controller_step(
+    controller: &mut [u32; 33],
+    bav: bool,
+    hsk: bool,
+    nibble: u8,
+    busy: bool,
+    data: &[u8],
+    response: &mut [u8],
+    event: &mut [u32; 3],
+) -> u32
+    ensures { λ r. ⌜ (r ≡ number (stepping (loaded (now (controller .entry))) (linesOf bav hsk nibble) busy (now («data» .entry)) (now (response .entry)))) × ((now (controller .exit) ≡ controllerAfter (stepping (loaded (now (controller .entry))) (linesOf bav hsk nibble) busy (now («data» .entry)) (now (response .entry))) (controllerStepped (loaded (now (controller .entry))) (linesOf bav hsk nibble) busy (now («data» .entry)) (now (response .entry))) (now (controller .entry))) × ((now (response .exit) ≡ bufferAfter (loaded (now (controller .entry))) (linesOf bav hsk nibble) busy (now («data» .entry)) (now (response .entry))) × (now (event .exit) ≡ eventsAfter (stepping (loaded (now (controller .entry))) (linesOf bav hsk nibble) busy (now («data» .entry)) (now (response .entry))) (now (event .entry))))) ⌝ }
+{
+    if 15 < nibble {
+        return 5;
+    }
+    let stage = controllerwords::load_stage(controller);
+    match frame::check(stage, data.len(), response.len()) {
+        Lent::Fits => {
+            let seen = Lines { bav, hsk, nibble };
+            round(controller, stage, seen, busy, data, response, event);
+            0
+        }
+        Lent::Data => 10,
+        Lent::Buffer => 11,
+    }
+}
+
+// What a controller pulls after its last step.
+#[no_mangle]
+pub extern "C" fn hexbus_controller_pulls(controller: &[u32; 33]) -> u32
+    ensures { λ r. ⌜ r ≡ linesNumber (pullsOf (loaded (now (controller .entry)) .stage)) ⌝ }
+{
+    words::lines(frame::pulls(controllerwords::load_stage(controller)))
+}
+
+// Submits a command for the next frame.
+#[no_mangle]
+pub extern "C" fn hexbus_controller_submit(
+    controller: &mut [u32; 33],
+    fields: &[u32; 6],
+    data: &[u8],
+    response: &[u8],
+) -> u32
+    ensures { λ r. ⌜ (r ≡ number (submitting (loaded (now (controller .entry))) (commandIn (now (fields .entry))) (length (now («data» .entry))) (length (now (response .entry))))) × (now (controller .exit) ≡ controllerAfter (submitting (loaded (now (controller .entry))) (commandIn (now (fields .entry))) (length (now («data» .entry))) (length (now (response .entry)))) (controllerSubmitted (loaded (now (controller .entry))) (commandIn (now (fields .entry))) (length (now («data» .entry))) (length (now (response .entry)))) (now (controller .entry))) ⌝ }
+{
+    let c = controllerwords::load(controller);
+    let k = crate::message_calls::command_in(fields);
+    let s = application::submit(c, k, data, response);
+    let outcome = s.outcome;
+    let next = s.controller;
+    match outcome {
+        Submitting::Accepted => {
+            controllerwords::save(controller, next);
+            0
+        }
+        Submitting::Running => 1,
+        Submitting::TooLong => 2,
+        Submitting::PollCommand => 3,
+        Submitting::FullRing => 4,
+        Submitting::ShortResponse => 11,
+    }
+}
+
+// Acknowledges the request of a code that was handed over.
+#[no_mangle]
+pub extern "C" fn hexbus_controller_acknowledge(controller: &mut [u32; 33], code: u8) -> u32
+    ensures { λ r. ⌜ (r ≡ number (acknowledging (loaded (now (controller .entry))) code)) × (now (controller .exit) ≡ controllerAfter (acknowledging (loaded (now (controller .entry))) code) (controllerAcknowledged (loaded (now (controller .entry))) code) (now (controller .entry))) ⌝ }
+{
+    let c = controllerwords::load(controller);
+    let a = application::acknowledge(c, code);
+    let outcome = a.outcome;
+    let next = a.controller;
+    match outcome {
+        Acknowledging::Cleared => {
+            controllerwords::save(controller, next);
+            0
+        }
+        Acknowledging::NotMarked => 8,
+    }
+}
+
+// Looks at a controller.
+#[no_mangle]
+pub extern "C" fn hexbus_controller_look(controller: &[u32; 33], answer: &mut [u32; 3])
+    ensures { λ _. ⌜ now (answer .exit) ≡ looksWords (looksOf (loaded (now (controller .entry)))) ⌝ }
+{
+    let l = application::look(controllerwords::load(controller));
+    let ring = l.ring;
+    *answer = [
+        ring.len() as u32,
+        words::bit(l.may_start),
+        words::bit(l.submitted),
+    ];
+}
+
+// An entry of a controller's ring.
+#[no_mangle]
+pub extern "C" fn hexbus_controller_entry(controller: &[u32; 33], i: usize) -> u32
+    ensures { λ r. ⌜ r ≡ entryNumber (getD (live (loaded (now (controller .entry)) .ring)) i none) ⌝ }
+{
+    let ring = controllerwords::load_ring(controller);
+    controllerwords::entry_number(ring.entry(i))
+}
+
+// A round of a controller in a stage, the rest of it as the words say. The ring's words are touched only where the ring can change.
+fn round(
+    words: &mut [u32; 33],
+    stage: Stage,
+    seen: Lines,
+    busy: bool,
+    data: &[u8],
+    response: &mut [u8],
+    event: &mut [u32; 3],
+)
+    ensures { λ _. ⌜ (now (words .exit) ≡ savedIn (now (words .entry)) (controllerStep (inStage (now (words .entry)) stage) seen busy (now («data» .entry)))) × ((now (response .exit) ≡ frameBuffer stage seen (now (response .entry))) × (now (event .exit) ≡ eventWords (eventIn (inStage (now (words .entry)) stage) seen busy (now («data» .entry))))) ⌝ }
+{
+    if controller::is_idle(stage) {
+        idle(words, stage, seen.bav);
+        *event = [0, 0, 0];
+        return;
+    }
+    let timeout = controllerwords::timeout(words);
+    let m = frame::step(stage, timeout, seen, busy, data, response);
+    going(words, m, event);
+}
+
+fn idle(words: &mut [u32; 33], stage: Stage, bav: bool)
+    ensures { λ _. ⌜ now (words .exit) ≡ savedIn (now (words .entry)) (idleStep (inStage (now (words .entry)) stage) bav) ⌝ }
+{
+    if bav {
+        let ring = controllerwords::load_ring(words);
+        let is_empty = ring.len() == 0;
+        if is_empty {
+            controllerwords::save_stage(words, stage);
+            return;
+        }
+        service(words, ring);
+        return;
+    }
+    controllerwords::save_stage(words, stage);
+}
+
+// A service frame begins.
+fn service(words: &mut [u32; 33], ring: Ring)
+    ensures { λ _. ⌜ now (words .exit) ≡ savedIn (now (words .entry)) (service (controllerOf (inStage (now (words .entry)) Stage.Free .timeout) Stage.Free ring)) ⌝ }
+{
+    let stage = frame::begin(turn::frame_of(ring.entry(0)));
+    controllerwords::save_stage(words, stage);
+    controllerwords::save_ring(words, ring.turned());
+}
+
+// A round of a frame or of its rest.
+fn going(words: &mut [u32; 33], m: Moved, event: &mut [u32; 3])
+    ensures { λ _. ⌜ (now (words .exit) ≡ savedIn (now (words .entry)) (controllerOf (inStage (now (words .entry)) (m .stage) .timeout) (m .stage) (ringAfter (loadedRing (now (words .entry))) (m .end)))) × (now (event .exit) ≡ eventWords (eventAfter (m .end))) ⌝ }
+{
+    let stage = m.stage;
+    let end = m.end;
+    match end {
+        End::NotYet => {
+            controllerwords::save_stage(words, stage);
+            *event = [0, 0, 0];
+        }
+        End::Over(f, status, count) => {
+            let ring = controllerwords::load_ring(words);
+            let after = turn::ring_after(ring, f, status);
+            controllerwords::save_stage(words, stage);
+            controllerwords::save_ring(words, after);
+            *event = event_words(turn::event_of(f, status, count));
+        }
+    }
+}
+
+fn event_words(e: Event) -> [u32; 3]
+    ensures { λ r. ⌜ r ≡ eventWords e ⌝ }
+{
+    match e {
+        Event::Nothing => [0, 0, 0],
+        Event::Ended(status, count) => [1, status as u32, count as u32],
+        Event::Handed(code) => [2, code as u32, 0],
+    }
+}
