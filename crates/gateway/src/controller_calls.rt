@@ -1,26 +1,20 @@
 // A controller in 33 words of its caller's.
 ghost use mathlib.Core.Path.{_≡_};
 ghost use lib.ListN.{length, getD};
-ghost use Rattle.application.specs.Calls.{making, controllerMade, submitting, controllerSubmitted, acknowledging, controllerAcknowledged, looksOf, submitted};
+ghost use Rattle.application.specs.Calls.{making, controllerMade, submitting, controllerSubmitted, acknowledging, controllerAcknowledged, looksOf};
 ghost use Rattle.controller.specs.Calls.{stepping, controllerStepped, bufferAfter};
-ghost use Rattle.controller.specs.Controller.{controllerOf, idleStep, service, ringAfter, eventAfter, controllerStep, eventIn};
-ghost use Rattle.controllerwords.specs.Controller.{entryNumber, loadedRing, loaded, savedIn};
-ghost use Rattle.frame.specs.Frame.{pullsOf, frameBuffer};
+ghost use Rattle.controllerwords.specs.Controller.{entryNumber, loaded};
+ghost use Rattle.frame.specs.Frame.{pullsOf};
 ghost use Rattle.ring.specs.Ring.{none, live};
 ghost use Rattle.words.specs.Words.{linesNumber, number};
-ghost use Rattle.gateway.specs.Controller.{controllerAfter, controllerMadeIn, eventWords, eventsAfter, inStage, looksWords};
+ghost use Rattle.gateway.specs.Controller.{controllerAfter, controllerMadeIn, eventsAfter, looksWords};
 ghost use Rattle.gateway.specs.Messages.{commandIn};
 ghost use Rattle.gateway.specs.Unit.{linesOf};
 use application::Acknowledging;
 use application::Making;
 use application::Submitting;
-use frame::End;
 use frame::Lent;
-use frame::Moved;
-use frame::Stage;
 use line::Lines;
-use ring::Ring;
-use turn::Event;
 
 // Makes a new controller with its time-out count.
 #[no_mangle]
@@ -60,7 +54,7 @@ pub extern "C" fn hexbus_controller_step(
     match frame::check(stage, data.len(), response.len()) {
         Lent::Fits => {
             let seen = Lines { bav, hsk, nibble };
-            round(controller, stage, seen, busy, data, response, event);
+            controllerround::round(controller, stage, seen, busy, data, response, event);
             0
         }
         Lent::Data => 10,
@@ -143,82 +137,4 @@ pub extern "C" fn hexbus_controller_entry(controller: &[u32; 33], i: usize) -> u
 {
     let ring = controllerwords::load_ring(controller);
     controllerwords::entry_number(ring.entry(i))
-}
-
-// A round of a controller in a stage, the rest of it as the words say. The ring's words are touched only where the ring can change.
-fn round(
-    words: &mut [u32; 33],
-    stage: Stage,
-    seen: Lines,
-    busy: bool,
-    data: &[u8],
-    response: &mut [u8],
-    event: &mut [u32; 3],
-)
-    ensures { λ _. ⌜ (now (words .exit) ≡ savedIn (now (words .entry)) (controllerStep (inStage (now (words .entry)) stage) seen busy (now («data» .entry)))) × ((now (response .exit) ≡ frameBuffer stage seen (now (response .entry))) × (now (event .exit) ≡ eventWords (eventIn (inStage (now (words .entry)) stage) seen busy (now («data» .entry))))) ⌝ }
-{
-    if controller::is_idle(stage) {
-        idle(words, stage, seen.bav);
-        *event = [0, 0, 0];
-        return;
-    }
-    let timeout = controllerwords::timeout(words);
-    let m = frame::step(stage, timeout, seen, busy, data, response);
-    going(words, m, event);
-}
-
-fn idle(words: &mut [u32; 33], stage: Stage, bav: bool)
-    ensures { λ _. ⌜ now (words .exit) ≡ savedIn (now (words .entry)) (idleStep (inStage (now (words .entry)) stage) bav) ⌝ }
-{
-    if bav {
-        let ring = controllerwords::load_ring(words);
-        let is_empty = ring.len() == 0;
-        if is_empty {
-            controllerwords::save_stage(words, stage);
-            return;
-        }
-        service(words, ring);
-        return;
-    }
-    controllerwords::save_stage(words, stage);
-}
-
-// A service frame begins.
-fn service(words: &mut [u32; 33], ring: Ring)
-    ensures { λ _. ⌜ now (words .exit) ≡ savedIn (now (words .entry)) (service (controllerOf (inStage (now (words .entry)) Stage.Free .timeout) Stage.Free ring)) ⌝ }
-{
-    let stage = frame::begin(turn::frame_of(ring.entry(0)));
-    controllerwords::save_stage(words, stage);
-    controllerwords::save_ring(words, ring.turned());
-}
-
-// A round of a frame or of its rest.
-fn going(words: &mut [u32; 33], m: Moved, event: &mut [u32; 3])
-    ensures { λ _. ⌜ (now (words .exit) ≡ savedIn (now (words .entry)) (controllerOf (inStage (now (words .entry)) (m .stage) .timeout) (m .stage) (ringAfter (loadedRing (now (words .entry))) (m .end)))) × (now (event .exit) ≡ eventWords (eventAfter (m .end))) ⌝ }
-{
-    let stage = m.stage;
-    let end = m.end;
-    match end {
-        End::NotYet => {
-            controllerwords::save_stage(words, stage);
-            *event = [0, 0, 0];
-        }
-        End::Over(f, status, count) => {
-            let ring = controllerwords::load_ring(words);
-            let after = turn::ring_after(ring, f, status);
-            controllerwords::save_stage(words, stage);
-            controllerwords::save_ring(words, after);
-            *event = event_words(turn::event_of(f, status, count));
-        }
-    }
-}
-
-fn event_words(e: Event) -> [u32; 3]
-    ensures { λ r. ⌜ r ≡ eventWords e ⌝ }
-{
-    match e {
-        Event::Nothing => [0, 0, 0],
-        Event::Ended(status, count) => [1, status as u32, count as u32],
-        Event::Handed(code) => [2, code as u32, 0],
-    }
 }

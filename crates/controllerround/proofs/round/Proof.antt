@@ -1,10 +1,10 @@
--- `round` meets its contract: the idle controller apart from a frame and its rest.
+-- `controllerround::round` meets its contract: the idle controller apart from a frame and its rest.
 use mathlib.Core.Path.{_∙_, ap, sym}
 use Rattle.controllerwords.specs.Controller.{savedIn}
-use Rattle.gateway.proofs.Controllers.{idle-round, idle-event, going-round, going-event, idle-buffer}
+use Rattle.controllerround.proofs.Laws.{idle-round, idle-event, going-round, going-event, idle-buffer}
 use borrow.Author.Needs.{needs}
-use Rattle.gateway.proofs.controller_calls.round.Statement.{statement}
-use Rattle.gateway.proofs.controller_calls.round.Tie as tie
+use Rattle.controllerround.proofs.round.Statement.{statement}
+use Rattle.controllerround.proofs.round.Tie as tie
 
 is-idle-requires : tie.Need-is-idle-requires
 is-idle-requires c κs = search needs

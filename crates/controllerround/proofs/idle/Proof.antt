@@ -1,13 +1,13 @@
--- `idle` meets its contract: a service frame begins where BAV is seen low and the ring is not empty; else the stage is as it was.
+-- `controllerround::idle` meets its contract: a service frame begins where BAV is seen low and the ring is not empty; else the stage is as it was.
 use Prim.Native.Nat.{ℕ}
 use mathlib.Core.Path.{_∙_, ap, sym}
 use lib.Dec.{eqb}
 use Rattle.ring.specs.Ring.{counted}
 use Rattle.ring.specs.declared.Ring.{Ring}
-use Rattle.gateway.proofs.Controllers.{idle-high, idle-alone, idle-serves}
+use Rattle.controllerround.proofs.Laws.{idle-high, idle-alone, idle-serves}
 use borrow.Author.Needs.{needs}
-use Rattle.gateway.proofs.controller_calls.idle.Statement.{statement}
-use Rattle.gateway.proofs.controller_calls.idle.Tie as tie
+use Rattle.controllerround.proofs.idle.Statement.{statement}
+use Rattle.controllerround.proofs.idle.Tie as tie
 
 load-ring-requires : tie.Need-load-ring-requires
 load-ring-requires c κs = search needs

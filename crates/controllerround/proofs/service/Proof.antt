@@ -1,11 +1,11 @@
--- `service` meets its contract: the front entry's frame begins, and the ring turns.
+-- `controllerround::service` meets its contract: the front entry's frame begins, and the ring turns.
 use mathlib.Core.Path.{_∙_, ap}
 use Rattle.frame.specs.Frame.{begun}
 use Rattle.turn.specs.Turn.{turnOf}
-use Rattle.gateway.proofs.Controllers.{written-both}
+use Rattle.controllerround.proofs.Laws.{written-both}
 use borrow.Author.Needs.{needs}
-use Rattle.gateway.proofs.controller_calls.service.Statement.{statement}
-use Rattle.gateway.proofs.controller_calls.service.Tie as tie
+use Rattle.controllerround.proofs.service.Statement.{statement}
+use Rattle.controllerround.proofs.service.Tie as tie
 
 entry-requires : tie.Need-entry-requires
 entry-requires c κs = search needs

@@ -1,8 +1,8 @@
--- `going` meets its contract: the ring is written only where the frame is over.
-use Rattle.gateway.proofs.Controllers.{goes-on, is-over}
+-- `controllerround::going` meets its contract: the ring is written only where the frame is over.
+use Rattle.controllerround.proofs.Laws.{goes-on, is-over}
 use borrow.Author.Needs.{needs}
-use Rattle.gateway.proofs.controller_calls.going.Statement.{statement}
-use Rattle.gateway.proofs.controller_calls.going.Tie as tie
+use Rattle.controllerround.proofs.going.Statement.{statement}
+use Rattle.controllerround.proofs.going.Tie as tie
 
 enum-told : tie.Need-enum-told
 enum-told c = search needs

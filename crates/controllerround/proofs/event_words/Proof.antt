@@ -1,8 +1,8 @@
--- `event_words` meets its contract: each event is a case of `eventWords`.
+-- `controllerround::event_words` meets its contract: each event is a case of `eventWords`.
 
 use borrow.Author.Needs.{needs}
-use Rattle.gateway.proofs.controller_calls.event_words.Statement.{statement}
-use Rattle.gateway.proofs.controller_calls.event_words.Tie as tie
+use Rattle.controllerround.proofs.event_words.Statement.{statement}
+use Rattle.controllerround.proofs.event_words.Tie as tie
 
 enum-told : tie.Need-enum-told
 enum-told c = search needs
