@@ -101,7 +101,7 @@ fn selecting(own: u8, ear: Listener, half: bool, low: u8, seen: Lines, busy: boo
     Phase::Selecting(ear.step(seen.hsk, busy), half, low)
 }
 
-fn select(own: u8, code: u8) -> Phase
+pub fn select(own: u8, code: u8) -> Phase
     ensures { λ r. ⌜ r ≡ selected own code ⌝ }
 {
     let is_own = code == own;
@@ -123,7 +123,7 @@ fn addressed(code: u8) -> Phase
 }
 
 // A command whose next byte is not begun.
-fn whole_bytes(header: Header, place: u32) -> Partial
+pub fn whole_bytes(header: Header, place: u32) -> Partial
     ensures { λ r. ⌜ r ≡ partial header place ⌝ }
 {
     Partial {
@@ -201,7 +201,7 @@ fn take_byte(s: Serial, p: Partial, b: u8, buffer: &mut [u8], output: &mut [u8; 
 }
 
 // Stores a data byte at its place of the lent buffer.
-fn put(n: u16, place: u32, b: u8, buffer: &mut [u8])
+pub fn put(n: u16, place: u32, b: u8, buffer: &mut [u8])
     ensures { λ _. ⌜ now (buffer .exit) ≡ bufferWith n place b (now (buffer .entry)) ⌝ }
 {
     if 9 <= place {
@@ -216,14 +216,14 @@ fn put(n: u16, place: u32, b: u8, buffer: &mut [u8])
     }
 }
 
-fn wide(n: u32) -> usize
+pub fn wide(n: u32) -> usize
     ensures { λ r. ⌜ r ≡ n ⌝ }
 {
     n as usize
 }
 
 // The command is whole.
-fn answer(s: Serial, header: Header, buffer: &[u8], output: &mut [u8; 256]) -> Moved
+pub fn answer(s: Serial, header: Header, buffer: &[u8], output: &mut [u8; 256]) -> Moved
     ensures { λ r. ⌜ (r ≡ answered s header (now (buffer .entry))) × (now (output .exit) ≡ stored s header (now (buffer .entry)) (now (output .entry))) ⌝ }
 {
     let c = header.command;
@@ -251,7 +251,7 @@ fn data_in(n: usize, buffer: &[u8]) -> &[u8]
     &buffer[0..]
 }
 
-fn answered(ear: Listener, reply: Reply, hsk: bool, busy: bool) -> Phase
+pub fn answered(ear: Listener, reply: Reply, hsk: bool, busy: bool) -> Phase
     ensures { λ r. ⌜ r ≡ answeredStep ear reply hsk busy ⌝ }
 {
     let next = ear.step(hsk, busy);

@@ -99,7 +99,7 @@ fn lowered(u: Unit, hsk: bool, m: Moved) -> Unit
 }
 
 // A request's pull is released at the first HSK low that is seen.
-fn still_asks(asking: bool, hsk: bool) -> bool
+pub fn still_asks(asking: bool, hsk: bool) -> bool
     ensures { λ r. ⌜ r ≡ asking && not hsk ⌝ }
 {
     if asking {
@@ -128,14 +128,14 @@ fn dropped(u: Unit, hsk: bool) -> Unit
     }
 }
 
-fn quiet_after(quiet: u16, retry: u16) -> u16
+pub fn quiet_after(quiet: u16, retry: u16) -> u16
     ensures { λ r. ⌜ r ≡ min (quiet + 1) retry ⌝ }
 {
     if quiet < retry { quiet + 1 } else { retry }
 }
 
 // Whether it pulls BAV for its request, after a round with BAV seen high.
-fn asks(asking: bool, s: Serial, retry: u16, quiet: u16, hsk: bool) -> bool
+pub fn asks(asking: bool, s: Serial, retry: u16, quiet: u16, hsk: bool) -> bool
     ensures { λ r. ⌜ r ≡ asks asking s retry quiet hsk ⌝ }
 {
     if asking {

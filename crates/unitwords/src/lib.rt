@@ -202,7 +202,7 @@ fn with_accepted(word: u32, o: Opening) -> u32
     }
 }
 
-fn queue(head: u32, count: u32) -> Queue
+pub fn queue(head: u32, count: u32) -> Queue
     ensures { λ r. ⌜ r ≡ queueOf head count ⌝ }
 {
     Queue {
@@ -211,7 +211,7 @@ fn queue(head: u32, count: u32) -> Queue
     }
 }
 
-fn reply(tag: u32, word: u32) -> Reply
+pub fn reply(tag: u32, word: u32) -> Reply
     ensures { λ r. ⌜ r ≡ replyOf tag word ⌝ }
 {
     let is_status = tag == 1;
@@ -269,7 +269,7 @@ fn load_partial(words: &[u32; 23]) -> Partial
     }
 }
 
-fn load_header(words: &[u32; 23]) -> Header
+pub fn load_header(words: &[u32; 23]) -> Header
     ensures { λ r. ⌜ r ≡ loadedHeader (now (words .entry)) ⌝ }
 {
     let command = words::command(words[17], words[18], words[19], words[20], words[21]);
@@ -290,7 +290,7 @@ fn load_responding(words: &[u32; 23]) -> Phase
     )
 }
 
-fn save_selecting(words: &mut [u32; 23], tag: u32, ear: u32, half: bool, low: u8)
+pub fn save_selecting(words: &mut [u32; 23], tag: u32, ear: u32, half: bool, low: u8)
     ensures { λ _. ⌜ now (words .exit) ≡ selectingIn (now (words .entry)) tag ear half low ⌝ }
 {
     let half_word = words::with_flag(words[14], half);
@@ -310,7 +310,7 @@ fn save_progress(words: &mut [u32; 23], ear: u32, progress: Progress)
     }
 }
 
-fn save_partial(words: &mut [u32; 23], ear: u32, p: Partial)
+pub fn save_partial(words: &mut [u32; 23], ear: u32, p: Partial)
     ensures { λ _. ⌜ now (words .exit) ≡ progressIn (now (words .entry)) ear (Progress.Taking p) ⌝ }
 {
     let header = p.header;
@@ -347,7 +347,7 @@ fn save_answered(words: &mut [u32; 23], ear: u32, r: Reply)
     words[18] = value;
 }
 
-fn save_responding(words: &mut [u32; 23], r: Reply, i: u32, s: Sender, wait: bool)
+pub fn save_responding(words: &mut [u32; 23], r: Reply, i: u32, s: Sender, wait: bool)
     ensures { λ _. ⌜ now (words .exit) ≡ phaseIn (now (words .entry)) (Phase.Responding r i s wait) ⌝ }
 {
     let wait_word = words::with_flag(words[14], wait);
@@ -362,7 +362,7 @@ fn save_responding(words: &mut [u32; 23], r: Reply, i: u32, s: Sender, wait: boo
     words[18] = value;
 }
 
-fn save_sitting_out(words: &mut [u32; 23], last: bool)
+pub fn save_sitting_out(words: &mut [u32; 23], last: bool)
     ensures { λ _. ⌜ now (words .exit) ≡ phaseIn (now (words .entry)) (Phase.SittingOut last) ⌝ }
 {
     let last_word = words::with_flag(words[14], last);

@@ -1,0 +1,36 @@
+use mathlib.Core.Path.{_∙_, ap}
+use Rattle.phase.specs.Phase.{answered, stored}
+use Rattle.phase.specs.declared.Moved.{Moved}
+use Rattle.serial.specs.declared.Serial.{Serial}
+use Rattle.unitround.specs.Round.{movedIn}
+use borrow.Author.Needs.{needs}
+use Rattle.unitround.proofs.answer.Statement.{statement}
+use Rattle.unitround.proofs.answer.Tie as tie
+use Rattle.unitround.proofs.answer.Reads as reads
+use Rattle.unitround.proofs.answer.Lts as lts
+use Rattle.phase.proofs.answer.Reads as answer-reads
+use Rattle.unitround.proofs.save_moved.Reads as save-moved-reads
+use Rattle.unitwords.proofs.load_serial.Reads as load-serial-reads
+
+-- src/lib.rt:260:9
+load-serial-requires : tie.Need-load-serial-requires
+load-serial-requires c κs = search needs
+
+-- src/lib.rt:261:9
+answer-requires : tie.Need-answer-requires
+answer-requires c κs = search needs
+
+-- src/lib.rt:262:5
+save-moved-requires : tie.Need-save-moved-requires
+save-moved-requires c κs = search needs
+
+-- src/lib.rt:257:1
+returns : tie.Need-returns
+returns c = let a = c .before .before .before .before .before .before .before .args in
+    let from = c .before .before .before .before .load-serial .ensures in (
+      c .save-moved .ensures ∙ ap (movedIn (a .words .now)) (c .before .before .answer .ensures .0 ∙ ap (λ (s : Serial). answered s (a .header) (a .buffer .now)) from),
+      c .before .before .answer .ensures .1 ∙ ap (λ (s : Serial). stored s (a .header) (a .buffer .now) (a .output .now)) from,
+    )
+
+pub answer-spec : {M : Type 1} → statement M
+answer-spec = tie.close (tie.spec load-serial-requires answer-requires save-moved-requires returns)

@@ -1,0 +1,49 @@
+use mathlib.Core.Path.{_≡_, _∙_}
+use Rattle.unitround.proofs.Laws.{low-round, low-buffer, low-output, high-done}
+use borrow.Author.Needs.{needs}
+use Rattle.unitround.proofs.round.Statement.{statement}
+use Rattle.unitround.proofs.round.Tie as tie
+use Rattle.unitround.proofs.round.Reads as reads
+use Rattle.unitround.proofs.round.Lts as lts
+use Rattle.unitround.proofs.dropped.Reads as dropped-reads
+use Rattle.unitround.proofs.lowered.Reads as lowered-reads
+use Rattle.unitround.proofs.phase.Reads as phase-reads
+
+-- src/lib.rt:32:9
+lowered-requires : tie.Need-lowered-requires
+lowered-requires c κs = search needs
+
+-- src/lib.rt:33:9
+phase-requires : tie.Need-phase-requires
+phase-requires c κs = search needs
+
+-- src/lib.rt:34:9
+same-length : tie.Need-same-length
+same-length c = search needs
+
+-- src/lib.rt:34:9
+returns : tie.Need-returns
+returns c = let a = c .before .before .before .before .before .before .before .before .before .before .args in
+    let e = c .before .before .before .before .before .before .lowered .ensures in
+    let low = c .before .before .before .before .before .before .before .before .if1 .taken in
+    let x = c .before .before .phase .ensures in (
+      x .0 ∙ low-round (a .words .now) (a .seen) (a .busy) (a .buffer .now) (a .input .now) e low,
+      (
+        x .1 .0 ∙ low-buffer (a .words .now) (a .seen) (a .busy) (a .buffer .now) (a .input .now) e low,
+        x .1 .1 ∙ low-output (a .words .now) (a .seen) (a .busy) (a .buffer .now) (a .input .now) e low (a .output .now),
+      ),
+    )
+
+-- src/lib.rt:36:5
+dropped-requires : tie.Need-dropped-requires
+dropped-requires c κs = search needs
+
+-- src/lib.rt:21:1
+returns-2 : tie.Need-returns-2
+returns-2 c = let a = c .before .before .before .before .args in
+    high-done (a .words .now) (a .seen) (a .busy) (a .buffer .now) (a .input .now) (a .output .now) (c .before .before .if1 .left) (c .dropped .ensures)
+
+pub round-spec : {M : Type 1} → statement M
+round-spec =
+    tie.close
+    (tie.spec lowered-requires phase-requires same-length returns dropped-requires returns-2)

@@ -1,0 +1,47 @@
+use borrow.Author.Needs.{needs}
+use Rattle.unitround.proofs.save_row.Statement.{statement}
+use Rattle.unitround.proofs.save_row.Tie as tie
+use Rattle.unitround.proofs.save_row.Reads as reads
+use Rattle.unitround.proofs.save_row.Lts as lts
+use Rattle.words.proofs.with16.Reads as with16-reads
+use Rattle.words.proofs.with_flag.Reads as with-flag-reads
+
+-- src/lib.rt:111:36
+element-copy-out-with16 : tie.Need-element-copy-out-with16
+element-copy-out-with16 c = search needs
+
+-- src/lib.rt:111:9
+with16-requires : tie.Need-with16-requires
+with16-requires c κs = search needs
+
+-- src/lib.rt:112:40
+element-copy-out-with-flag : tie.Need-element-copy-out-with-flag
+element-copy-out-with-flag c = search needs
+
+-- src/lib.rt:112:9
+with-flag-requires : tie.Need-with-flag-requires
+with-flag-requires c κs = search needs
+
+-- src/lib.rt:113:5
+element-write-words : tie.Need-element-write-words
+element-write-words c = search needs
+
+-- src/lib.rt:114:5
+element-write-words-2 : tie.Need-element-write-words-2
+element-write-words-2 c = search needs
+
+-- src/lib.rt:108:1
+returns : tie.Need-returns
+returns c = simp (← (c .before .before .with16 .ensures)) (simp (c .with-flag .ensures))
+
+pub save-row-spec : {M : Type 1} → statement M
+save-row-spec =
+    tie.close
+    (tie.spec
+    element-copy-out-with16
+    with16-requires
+    element-copy-out-with-flag
+    with-flag-requires
+    element-write-words
+    element-write-words-2
+    returns)

@@ -1,0 +1,328 @@
+// A round of a unit in the words that a caller lends. Each phase reads the words that it needs, and writes those that can change.
+ghost use mathlib.Core.Path.{_≡_};
+ghost use mathlib.Core.Bool.{_&&_, not};
+ghost use Prim.Native.Nat.{_%_, _≤_};
+ghost use Rattle.line.specs.Line.{sendOf};
+ghost use Rattle.message.specs.Nibbles.{nibbleIn};
+ghost use Rattle.phase.specs.Phase.{selectingStep, answered, stored, byteStep, byteBuffer, byteOutput, takingStep, takingBuffer, takingOutput, answeredStep, respondingStep, phaseStep, phaseBuffer, phaseOutput, idleStep};
+ghost use Rattle.queue.specs.Queue.{contents};
+ghost use Rattle.reply.specs.Reply.{responseBytes};
+ghost use Rattle.unit.specs.Unit.{highStep, unitStep, unitBuffer, unitOutput, pullsOf, pullsHsk, pullsNibble};
+ghost use Rattle.unitwords.specs.Unit.{queueOf, loadedSerial, replyOf, loadedPartial, loadedPhase, phaseIn, loaded, savedIn};
+ghost use Rattle.words.specs.Words.{at, flagOf, listenerOf, senderOf};
+ghost use Rattle.unitround.specs.Round.{rowIn, movedIn, sentStep};
+use header::Header;
+use line::Lines;
+use line::Sender;
+use phase::Moved;
+use serial::Reply;
+
+// A round: the levels that the unit sees, whether its host is busy, the lent command buffer, and the bytes of its two queues.
+pub fn round(
+    words: &mut [u32; 23],
+    seen: Lines,
+    busy: bool,
+    buffer: &mut [u8],
+    input: &[u8; 256],
+    output: &mut [u8; 256],
+)
+    ensures { λ _. ⌜ (now (words .exit) ≡ savedIn (now (words .entry)) (unitStep (loaded (now (words .entry))) seen busy (now (buffer .entry)) (now (input .entry)))) × ((now (buffer .exit) ≡ unitBuffer (loaded (now (words .entry))) seen (now (buffer .entry))) × (now (output .exit) ≡ unitOutput (loaded (now (words .entry))) seen (now (buffer .entry)) (now (output .entry)))) ⌝ }
+{
+    if seen.bav {
+        lowered(words, seen.hsk);
+        phase(words, seen, busy, buffer, input, output);
+        return;
+    }
+    dropped(words, seen.hsk);
+}
+
+// What it pulls after its last round.
+pub fn pulls(words: &[u32; 23]) -> Lines
+    ensures { λ r. ⌜ r ≡ pullsOf (loaded (now (words .entry))) ⌝ }
+{
+    Lines {
+        bav: words::flag(words[3]),
+        hsk: pulls_hsk(words),
+        nibble: pulls_nibble(words),
+    }
+}
+
+fn pulls_hsk(words: &[u32; 23]) -> bool
+    ensures { λ r. ⌜ r ≡ pullsHsk (loadedPhase (now (words .entry))) ⌝ }
+{
+    let tag = words[12];
+    let selects = tag == 1;
+    if selects {
+        return words::listener(words[13]).hsk();
+    }
+    let takes = tag == 2;
+    if takes {
+        return words::listener(words[13]).hsk();
+    }
+    let has_answered = tag == 3;
+    if has_answered {
+        return words::listener(words[13]).hsk();
+    }
+    let responds = tag == 4;
+    if responds {
+        return words::sender(words[13], words[15]).hsk();
+    }
+    let sits_out = tag == 5;
+    if sits_out {
+        return words::flag(words[14]);
+    }
+    false
+}
+
+fn pulls_nibble(words: &[u32; 23]) -> u8
+    ensures { λ r. ⌜ r ≡ pullsNibble (loadedPhase (now (words .entry))) ⌝ }
+{
+    let tag = words[12];
+    let responds = tag == 4;
+    if responds {
+        return words::sender(words[13], words[15]).nibble();
+    }
+    15
+}
+
+// BAV seen high: only the row, the pull of BAV and the phase change.
+fn dropped(words: &mut [u32; 23], hsk: bool)
+    ensures { λ _. ⌜ now (words .exit) ≡ savedIn (now (words .entry)) (highStep (loaded (now (words .entry))) hsk) ⌝ }
+{
+    let serial = unitwords::load_serial(words);
+    let retry = words::number16(words[1]);
+    let quiet = unit::quiet_after(words::number16(words[2]), retry);
+    let asking = unit::asks(words::flag(words[3]), serial, retry, quiet, hsk);
+    save_row(words, quiet, asking);
+    words[12] = 0;
+}
+
+// BAV seen low, before the round of the phase.
+fn lowered(words: &mut [u32; 23], hsk: bool)
+    ensures { λ _. ⌜ now (words .exit) ≡ rowIn (now (words .entry)) 0 (flagOf (at (now (words .entry)) 3) && not hsk) ⌝ }
+{
+    let asking = unit::still_asks(words::flag(words[3]), hsk);
+    save_row(words, 0, asking);
+}
+
+fn save_row(words: &mut [u32; 23], quiet: u16, asking: bool)
+    ensures { λ _. ⌜ now (words .exit) ≡ rowIn (now (words .entry)) quiet asking ⌝ }
+{
+    let quiet_word = words::with16(words[2], quiet);
+    let asking_word = words::with_flag(words[3], asking);
+    words[2] = quiet_word;
+    words[3] = asking_word;
+}
+
+// The round of the phase that stands in the words.
+fn phase(
+    words: &mut [u32; 23],
+    seen: Lines,
+    busy: bool,
+    buffer: &mut [u8],
+    input: &[u8; 256],
+    output: &mut [u8; 256],
+)
+    ensures { λ _. ⌜ (now (words .exit) ≡ movedIn (now (words .entry)) (phaseStep (loadedPhase (now (words .entry))) (at (now (words .entry)) 0 % 256) (loadedSerial (now (words .entry))) seen busy (now (buffer .entry)) (now (input .entry)))) × ((now (buffer .exit) ≡ phaseBuffer (loadedPhase (now (words .entry))) seen (now (buffer .entry))) × (now (output .exit) ≡ phaseOutput (loadedPhase (now (words .entry))) (loadedSerial (now (words .entry))) seen (now (buffer .entry)) (now (output .entry)))) ⌝ }
+{
+    let tag = words[12];
+    let selects = tag == 1;
+    if selects {
+        selecting(words, seen, busy);
+        return;
+    }
+    let takes = tag == 2;
+    if takes {
+        taking(words, seen, busy, buffer, output);
+        return;
+    }
+    let has_answered = tag == 3;
+    if has_answered {
+        answered(words, seen.hsk, busy);
+        return;
+    }
+    let responds = tag == 4;
+    if responds {
+        responding(words, seen.hsk, input);
+        return;
+    }
+    let sits_out = tag == 5;
+    if sits_out {
+        unitwords::save_sitting_out(words, false);
+        return;
+    }
+    idle(words, seen.hsk);
+}
+
+fn idle(words: &mut [u32; 23], hsk: bool)
+    ensures { λ _. ⌜ now (words .exit) ≡ phaseIn (now (words .entry)) (idleStep hsk) ⌝ }
+{
+    if hsk {
+        unitwords::save_sitting_out(words, false);
+        return;
+    }
+    unitwords::save_selecting(words, 1, 0, false, 0);
+}
+
+fn selecting(words: &mut [u32; 23], seen: Lines, busy: bool)
+    ensures { λ _. ⌜ now (words .exit) ≡ phaseIn (now (words .entry)) (selectingStep (at (now (words .entry)) 0 % 256) (listenerOf (at (now (words .entry)) 13)) (flagOf (at (now (words .entry)) 14)) (at (now (words .entry)) 15 % 256) seen busy) ⌝ }
+{
+    let ear = words::listener(words[13]);
+    let half = words::flag(words[14]);
+    let low = words::number8(words[15]);
+    if ear.taken(seen.hsk) {
+        if half {
+            let own = words::number8(words[0]);
+            let next = phase::select(own, field::byte_of(low, seen.nibble));
+            unitwords::save_phase(words, next);
+            return;
+        }
+        unitwords::save_selecting(words, 1, 1, true, seen.nibble);
+        return;
+    }
+    let tag = words::listener_tag(ear.step(seen.hsk, busy));
+    unitwords::save_selecting(words, 1, tag, half, low);
+}
+
+// Receiving, until the last nibble is taken.
+fn taking(words: &mut [u32; 23], seen: Lines, busy: bool, buffer: &mut [u8], output: &mut [u8; 256])
+    ensures { λ _. ⌜ (now (words .exit) ≡ movedIn (now (words .entry)) (takingStep (loadedSerial (now (words .entry))) (listenerOf (at (now (words .entry)) 13)) (loadedPartial (now (words .entry))) seen busy (now (buffer .entry)))) × ((now (buffer .exit) ≡ takingBuffer (listenerOf (at (now (words .entry)) 13)) (loadedPartial (now (words .entry))) seen (now (buffer .entry))) × (now (output .exit) ≡ takingOutput (loadedSerial (now (words .entry))) (listenerOf (at (now (words .entry)) 13)) (loadedPartial (now (words .entry))) seen (now (buffer .entry)) (now (output .entry)))) ⌝ }
+{
+    let ear = words::listener(words[13]);
+    if ear.taken(seen.hsk) {
+        if words::flag(words[14]) {
+            let b = field::byte_of(words::number8(words[15]), seen.nibble);
+            take_byte(words, b, buffer, output);
+            return;
+        }
+        unitwords::save_selecting(words, 2, 1, true, seen.nibble);
+        return;
+    }
+    let tag = words::listener_tag(ear.step(seen.hsk, busy));
+    words[12] = 2;
+    words[13] = tag;
+}
+
+// A byte of a command is there.
+fn take_byte(words: &mut [u32; 23], b: u8, buffer: &mut [u8], output: &mut [u8; 256])
+    ensures { λ _. ⌜ (now (words .exit) ≡ movedIn (now (words .entry)) (byteStep (loadedSerial (now (words .entry))) (loadedPartial (now (words .entry))) b (now (buffer .entry)))) × ((now (buffer .exit) ≡ byteBuffer (loadedPartial (now (words .entry))) b (now (buffer .entry))) × (now (output .exit) ≡ byteOutput (loadedSerial (now (words .entry))) (loadedPartial (now (words .entry))) b (now (buffer .entry)) (now (output .entry)))) ⌝ }
+{
+    if 9 <= words[16] {
+        take_data(words, b, buffer, output);
+        return;
+    }
+    take_header(words, b, buffer, output);
+}
+
+// A byte of its data: the header stays.
+fn take_data(words: &mut [u32; 23], b: u8, buffer: &mut [u8], output: &mut [u8; 256])
+    requires { ⌜ 9 ≤ at (now words) 16 ⌝ }
+    ensures { λ _. ⌜ (now (words .exit) ≡ movedIn (now (words .entry)) (byteStep (loadedSerial (now (words .entry))) (loadedPartial (now (words .entry))) b (now (buffer .entry)))) × ((now (buffer .exit) ≡ byteBuffer (loadedPartial (now (words .entry))) b (now (buffer .entry))) × (now (output .exit) ≡ byteOutput (loadedSerial (now (words .entry))) (loadedPartial (now (words .entry))) b (now (buffer .entry)) (now (output .entry)))) ⌝ }
+{
+    let place = words[16];
+    let n = words::number16(words[22]);
+    phase::put(n, place, b, buffer);
+    if 8 + n as u32 <= place {
+        let header = unitwords::load_header(words);
+        answer(words, header, buffer, output);
+        return;
+    }
+    unitwords::save_selecting(words, 2, 1, false, 0);
+    words[16] = place + 1;
+}
+
+// A byte of its header, or any.
+fn take_header(words: &mut [u32; 23], b: u8, buffer: &mut [u8], output: &mut [u8; 256])
+    ensures { λ _. ⌜ (now (words .exit) ≡ movedIn (now (words .entry)) (byteStep (loadedSerial (now (words .entry))) (loadedPartial (now (words .entry))) b (now (buffer .entry)))) × ((now (buffer .exit) ≡ byteBuffer (loadedPartial (now (words .entry))) b (now (buffer .entry))) × (now (output .exit) ≡ byteOutput (loadedSerial (now (words .entry))) (loadedPartial (now (words .entry))) b (now (buffer .entry)) (now (output .entry)))) ⌝ }
+{
+    let place = words[16];
+    let old = unitwords::load_header(words);
+    let header = old.with(phase::wide(place), b);
+    let n = header.data_length;
+    phase::put(n, place, b, buffer);
+    if 8 + n as u32 <= place {
+        answer(words, header, buffer, output);
+        return;
+    }
+    unitwords::save_partial(words, 1, phase::whole_bytes(header, place + 1));
+}
+
+// The command is whole.
+fn answer(words: &mut [u32; 23], header: Header, buffer: &[u8], output: &mut [u8; 256])
+    ensures { λ _. ⌜ (now (words .exit) ≡ movedIn (now (words .entry)) (answered (loadedSerial (now (words .entry))) header (now (buffer .entry)))) × (now (output .exit) ≡ stored (loadedSerial (now (words .entry))) header (now (buffer .entry)) (now (output .entry))) ⌝ }
+{
+    let serial = unitwords::load_serial(words);
+    let m = phase::answer(serial, header, buffer, output);
+    save_moved(words, m);
+}
+
+fn save_moved(words: &mut [u32; 23], m: Moved)
+    ensures { λ _. ⌜ now (words .exit) ≡ movedIn (now (words .entry)) m ⌝ }
+{
+    let serial = m.serial;
+    let phase = m.phase;
+    unitwords::save_serial(words, serial);
+    unitwords::save_phase(words, phase);
+}
+
+// Receiving, after the last nibble.
+fn answered(words: &mut [u32; 23], hsk: bool, busy: bool)
+    ensures { λ _. ⌜ now (words .exit) ≡ phaseIn (now (words .entry)) (answeredStep (listenerOf (at (now (words .entry)) 13)) (replyOf (at (now (words .entry)) 17) (at (now (words .entry)) 18)) hsk busy) ⌝ }
+{
+    let ear = words::listener(words[13]);
+    let reply = unitwords::reply(words[17], words[18]);
+    unitwords::save_phase(words, phase::answered(ear, reply, hsk, busy));
+}
+
+fn responding(words: &mut [u32; 23], hsk: bool, input: &[u8; 256])
+    ensures { λ _. ⌜ now (words .exit) ≡ movedIn (now (words .entry)) (respondingStep (loadedSerial (now (words .entry))) (replyOf (at (now (words .entry)) 17) (at (now (words .entry)) 18)) (at (now (words .entry)) 16) (senderOf (at (now (words .entry)) 13) (at (now (words .entry)) 15)) (flagOf (at (now (words .entry)) 14)) hsk (now (input .entry))) ⌝ }
+{
+    let reply = unitwords::reply(words[17], words[18]);
+    let i = words[16];
+    let sender = words::sender(words[13], words[15]);
+    if words::flag(words[14]) {
+        unitwords::save_responding(words, reply, i, sender, false);
+        return;
+    }
+    if sender.sent(hsk) {
+        sent(words, reply, i);
+        return;
+    }
+    let next = sends(words, reply, i, sender, hsk, input);
+    unitwords::save_responding(words, reply, i, next, false);
+}
+
+// Nibble i is sent: on to the next, or what waited for the last happens.
+fn sent(words: &mut [u32; 23], reply: Reply, i: u32)
+    ensures { λ _. ⌜ now (words .exit) ≡ movedIn (now (words .entry)) (sentStep (loadedSerial (now (words .entry))) reply i) ⌝ }
+{
+    let q = unitwords::queue(words[8], words[9]);
+    if (i as usize) < reply::last(reply, q) {
+        unitwords::save_responding(words, reply, i + 1, Sender::Next, false);
+        return;
+    }
+    let serial = unitwords::load_serial(words);
+    unitwords::save_serial(words, serial.finish(reply));
+    unitwords::save_sitting_out(words, false);
+}
+
+// The sender's round. The nibble is worked out only in the round in which it is placed.
+fn sends(
+    words: &[u32; 23],
+    reply: Reply,
+    i: u32,
+    sender: Sender,
+    hsk: bool,
+    input: &[u8; 256],
+) -> Sender
+    ensures { λ r. ⌜ r ≡ sendOf sender hsk (nibbleIn (responseBytes (contents (now (input .entry)) (queueOf (at (now (words .entry)) 8) (at (now (words .entry)) 9))) reply) i) ⌝ }
+{
+    match sender {
+        Sender::Next => {
+            let q = unitwords::queue(words[8], words[9]);
+            sender.step(hsk, reply::nibble(reply, q, input, i as usize))
+        }
+        Sender::Placed(_) => sender.step(hsk, 15),
+        Sender::Kept(_) => sender.step(hsk, 15),
+    }
+}
