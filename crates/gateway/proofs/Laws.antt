@@ -1,15 +1,17 @@
 -- What a call leaves, once its answer is known.
-use Prim.Native.Nat.{ℕ}
-use mathlib.Core.Path.{_≡_, _∙_, ap, sym}
+use Prim.Native.Nat.{ℕ, _<_, _≤_}
+use mathlib.Core.Path.{_≡_, refl, _∙_, ap}
 use mathlib.Core.Bool.{Bool}
 use mathlib.Core.List.{List, [], _∷_}
+use borrow.Author.Tests.{lt-ltb, le-ltb}
+use lib.ListN.{length}
 use Rattle.host.specs.declared.Looks.{Looks}
 use Rattle.host.specs.declared.Taken.{Taken}
 use Rattle.host.specs.declared.Taken.the-variants.{Byte, Nothing}
 use Rattle.line.specs.declared.Lines.{Lines}
 use Rattle.message.specs.Answer.{Answer, gives, refused}
-use Rattle.unit.specs.Calls.{stepping, stepped, bufferAfter, outputAfter}
-use Rattle.unit.specs.declared.Stepped.{Stepped}
+use Rattle.unit.specs.Calls.{stepping, bufferAfter, outputAfter}
+use Rattle.unit.specs.Unit.{unitStep, unitBuffer, unitOutput}
 use Rattle.unit.specs.declared.Unit.{Unit}
 use Rattle.unitwords.specs.Unit.{openingNumber, loaded, savedIn}
 use Rattle.words.specs.Words.{bit, number}
@@ -21,18 +23,24 @@ given ws p q = (ap number p, q ∙ ap (λ (a : Answer Unit). unitAfter a ws) p)
 pub kept-words : {a : Answer Unit} {k : ℕ} (ws : List ℕ) → refused k ≡ a → (k ≡ number a) × (ws ≡ unitAfter a ws)
 kept-words ws p = (ap number p, ap (λ (a : Answer Unit). unitAfter a ws) p)
 
--- A unit that was loaded is stepped.
-module _ (ws : List ℕ) (u : Unit) (seen : Lines) (busy : Bool) (buffer input : List ℕ) (from : u ≡ loaded ws) where
-  pub step-answer : (r x : Stepped) → stepped r ≡ stepping u seen busy buffer input → r ≡ x → stepped x ≡ stepping (loaded ws) seen busy buffer input
-  step-answer r x p q = sym (ap stepped q) ∙ p ∙ ap (λ (v : Unit). stepping v seen busy buffer input) from
+-- A step: refused with everything as it was, or the round in the words.
+module _ (ws : List ℕ) (seen : Lines) (busy : Bool) (buffer input output : List ℕ) where
+  abbrev Steps : ℕ → List ℕ → List ℕ → List ℕ → Type 0
+  Steps k after buffer′ output′ =
+      (k ≡ number (stepping (loaded ws) seen busy buffer input))
+      × ((after ≡ unitAfter (stepping (loaded ws) seen busy buffer input) ws)
+      × ((buffer′ ≡ bufferAfter (loaded ws) seen busy buffer input) × (output′ ≡ outputAfter (loaded ws) seen busy buffer input output)))
 
-  pub step-lent : (output buffer′ output′ : List ℕ)
-      → (buffer′ ≡ bufferAfter u seen busy buffer input) × (output′ ≡ outputAfter u seen busy buffer input output)
-      → (buffer′ ≡ bufferAfter (loaded ws) seen busy buffer input) × (output′ ≡ outputAfter (loaded ws) seen busy buffer input output)
-  step-lent output buffer′ output′ e = (
-    e .0 ∙ ap (λ (v : Unit). bufferAfter v seen busy buffer input) from,
-    e .1 ∙ ap (λ (v : Unit). outputAfter v seen busy buffer input output) from,
-  )
+  pub level-refused : 15 < seen .nibble → Steps 5 ws buffer output
+  level-refused t = rw (lt-ltb 15 (seen .nibble) t) (refl, (refl, (refl, refl)))
+
+  pub buffer-refused : seen .nibble ≤ 15 → length buffer < 256 → Steps 11 ws buffer output
+  buffer-refused f t = rw (le-ltb 15 (seen .nibble) f, lt-ltb (length buffer) 256 t) (refl, (refl, (refl, refl)))
+
+  pub steps : {after buffer′ output′ : List ℕ} → seen .nibble ≤ 15 → 256 ≤ length buffer
+      → (after ≡ savedIn ws (unitStep (loaded ws) seen busy buffer input)) × ((buffer′ ≡ unitBuffer (loaded ws) seen buffer) × (output′ ≡ unitOutput (loaded ws) seen buffer output))
+      → Steps 0 after buffer′ output′
+  steps f g q = rw (le-ltb 15 (seen .nibble) f, le-ltb (length buffer) 256 g) (refl, q)
 
 -- A byte that is taken, or nothing.
 pub taken-byte : {t : Taken} (b : ℕ) {v : Unit} (ws : List ℕ) {after : List ℕ} → Byte b v ≡ t → after ≡ savedIn ws v → (b ≡ takenNumber t) × (after ≡ takenWords t ws)

@@ -12,7 +12,6 @@ use host::Raised;
 use host::Taken;
 use line::Lines;
 use serial::Opening;
-use unit::Stepped;
 
 // Makes a new unit with its own code and retry count.
 #[no_mangle]
@@ -42,16 +41,15 @@ pub extern "C" fn hexbus_unit_step(
 ) -> u32
     ensures { λ r. ⌜ (r ≡ number (stepping (loaded (now (unit .entry))) (linesOf bav hsk nibble) busy (now (command .entry)) (now (input .entry)))) × ((now (unit .exit) ≡ unitAfter (stepping (loaded (now (unit .entry))) (linesOf bav hsk nibble) busy (now (command .entry)) (now (input .entry))) (now (unit .entry))) × ((now (command .exit) ≡ bufferAfter (loaded (now (unit .entry))) (linesOf bav hsk nibble) busy (now (command .entry)) (now (input .entry))) × (now (output .exit) ≡ outputAfter (loaded (now (unit .entry))) (linesOf bav hsk nibble) busy (now (command .entry)) (now (input .entry)) (now (output .entry))))) ⌝ }
 {
-    let u = unitwords::load(unit);
-    let seen = Lines { bav, hsk, nibble };
-    match unit::step(u, seen, busy, command, input, output) {
-        Stepped::On(v) => {
-            unitwords::save(unit, v);
-            0
-        }
-        Stepped::Level => 5,
-        Stepped::Buffer => 11,
+    if 15 < nibble {
+        return 5;
     }
+    if command.len() < 256 {
+        return 11;
+    }
+    let seen = Lines { bav, hsk, nibble };
+    unitround::round(unit, seen, busy, command, input, output);
+    0
 }
 
 // What a unit pulls after its last step.
@@ -59,7 +57,7 @@ pub extern "C" fn hexbus_unit_step(
 pub extern "C" fn hexbus_unit_pulls(unit: &[u32; 23]) -> u32
     ensures { λ r. ⌜ r ≡ linesNumber (pullsOf (loaded (now (unit .entry)))) ⌝ }
 {
-    words::lines(unit::pulls(unitwords::load(unit)))
+    words::lines(unitround::pulls(unit))
 }
 
 // Feeds a byte to a unit's input queue.
