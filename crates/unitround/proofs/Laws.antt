@@ -13,12 +13,12 @@ use Rattle.field.specs.Field.{byteFrom}
 use Rattle.header.specs.Header.{InRange}
 use Rattle.header.specs.declared.Header.{Header}
 use Rattle.header.proofs.Laws.{with-none}
-use Rattle.line.specs.Line.{sendOf, sentOf, senderNibble, hearOf, takenOf}
+use Rattle.line.specs.Line.{senderNibble, hearOf, takenOf}
 use Rattle.line.specs.declared.Lines.{Lines}
 use Rattle.line.specs.declared.Listener.{Listener}
 use Rattle.line.specs.declared.Listener.the-variants.{Holding}
 use Rattle.line.specs.declared.Sender.{Sender}
-use Rattle.line.specs.declared.Sender.the-variants.{Next}
+use Rattle.line.specs.declared.Sender.the-variants.{Next, Placed, Kept}
 use Rattle.message.specs.Nibbles.{nibbleIn}
 use Rattle.phase.specs.Phase.{moves, partial, withByte, idleStep, selectingStep, bufferWith, answered, stored, byteStep, byteBuffer, byteOutput, takingStep, takingBuffer, takingOutput, answeredStep, respondingStep, phaseStep, phaseBuffer, phaseOutput}
 use Rattle.phase.specs.declared.Moved.{Moved}
@@ -32,10 +32,11 @@ use Rattle.queue.specs.declared.Queue.{Queue}
 use Rattle.reply.specs.Reply.{responseBytes, lastNibble}
 use Rattle.serial.specs.Serial.{finished}
 use Rattle.serial.specs.declared.Reply.{Reply}
+use Rattle.serial.specs.declared.Reply.the-variants.{Silent, Status, Opened, Bytes, Polled}
 use Rattle.serial.specs.declared.Serial.{Serial}
 use Rattle.unit.specs.Unit.{asks, highStep, lowStep, unitStep, unitBuffer, unitOutput, pullsNibble}
-use Rattle.unitwords.specs.Unit.{openingOf, openingNumber, acceptedIn, queueOf, loadedSerial, serialIn, replyOf, loadedHeader, headerIn, loadedPartial, loadedPhase, selectingIn, progressIn, phaseIn, loaded, settingsIn, savedIn}
-use Rattle.words.specs.Words.{at, numberIn, flagOf, bit, flagIn, listenerOf, listenerTag, senderOf}
+use Rattle.unitwords.specs.Unit.{openingOf, openingNumber, acceptedIn, queueOf, loadedSerial, serialIn, replyOf, replyTag, replyIn, loadedHeader, headerIn, loadedPartial, loadedPhase, selectingIn, progressIn, phaseIn, loaded, settingsIn, savedIn}
+use Rattle.words.specs.Words.{at, numberIn, flagOf, bit, flagIn, listenerOf, listenerTag, senderOf, senderTag, senderIn}
 use Rattle.words.proofs.Laws.{again8, again16}
 use Rattle.unitround.specs.Round.{rowIn, movedIn, sentStep}
 
@@ -241,15 +242,15 @@ module _ (ws : List ℕ) where
 
   -- A byte that is there.
   module _ (buffer output : List ℕ) where
-    abbrev Bytes : ℕ → List ℕ → List ℕ → List ℕ → Type 0
-    Bytes b after buffer′ output′ =
+    abbrev Bytewise : ℕ → List ℕ → List ℕ → List ℕ → Type 0
+    Bytewise b after buffer′ output′ =
         (after ≡ movedIn ws (byteStep (loadedSerial ws) (loadedPartial ws) b buffer))
         × ((buffer′ ≡ byteBuffer (loadedPartial ws) b buffer) × (output′ ≡ byteOutput (loadedSerial ws) (loadedPartial ws) b buffer output))
 
     module _ (b : ℕ) {h : Header} (e : h ≡ withByte (loadedHeader ws) (at ws 16) b) where
       pub last-of-all : {k : ℕ} {after buffer′ output′ : List ℕ} → k ≡ h .«data_length» → buffer′ ≡ bufferWith k (at ws 16) b buffer → 8 + k ≤ at ws 16
           → (after ≡ movedIn ws (answered (loadedSerial ws) h buffer′)) × (output′ ≡ stored (loadedSerial ws) h buffer′ output)
-          → Bytes b after buffer′ output′
+          → Bytewise b after buffer′ output′
       last-of-all {k} {after} {buffer′} f g t x =
           let same : k ≡ withByte (loadedHeader ws) (at ws 16) b .«data_length» = f ∙ ap (λ (y : Header). y .«data_length») e in
           let put : buffer′ ≡ byteBuffer (loadedPartial ws) b buffer = g ∙ ap (λ (m : ℕ). bufferWith m (at ws 16) b buffer) same in
@@ -260,7 +261,7 @@ module _ (ws : List ℕ) where
 
       pub more-to-come : {k : ℕ} {after buffer′ : List ℕ} → k ≡ h .«data_length» → buffer′ ≡ bufferWith k (at ws 16) b buffer → at ws 16 < 8 + k
           → after ≡ movedIn ws (moves (Receiving Holding (Taking (partial h (at ws 16 + 1)))) (loadedSerial ws))
-          → Bytes b after buffer′ output
+          → Bytewise b after buffer′ output
       more-to-come {k} {after} {buffer′} f g t x =
           let same : k ≡ withByte (loadedHeader ws) (at ws 16) b .«data_length» = f ∙ ap (λ (y : Header). y .«data_length») e in
           let put : buffer′ ≡ byteBuffer (loadedPartial ws) b buffer = g ∙ ap (λ (m : ℕ). bufferWith m (at ws 16) b buffer) same in
@@ -312,31 +313,30 @@ module _ (ws : List ℕ) where
         (after ≡ movedIn ws (takingStep (loadedSerial ws) (listenerOf (at ws 13)) (loadedPartial ws) seen busy buffer))
         × ((buffer′ ≡ takingBuffer (listenerOf (at ws 13)) (loadedPartial ws) seen buffer) × (output′ ≡ takingOutput (loadedSerial ws) (listenerOf (at ws 13)) (loadedPartial ws) seen buffer output))
 
-    taken-is : {ear : Listener} {k v : Bool} → ear ≡ listenerOf (at ws 13) → k ≡ takenOf ear (seen .hsk) → k ≡ v → takenOf (listenerOf (at ws 13)) (seen .hsk) ≡ v
-    taken-is e q t = ap (λ (x : Listener). takenOf x (seen .hsk)) (sym e) ∙ sym q ∙ t
-
-    pub second-half : {ear : Listener} {k half : Bool} {low b : ℕ} {after buffer′ output′ : List ℕ} → ear ≡ listenerOf (at ws 13) → k ≡ takenOf ear (seen .hsk)
-        → k ≡ true → half ≡ flagOf (at ws 14) → half ≡ true → low ≡ at ws 15 % 256 → b ≡ byteFrom low (seen .nibble) → Bytes buffer output b after buffer′ output′
+    pub second-half : {k half : Bool} {low b : ℕ} {after buffer′ output′ : List ℕ} → k ≡ takenOf (listenerOf (at ws 13)) (seen .hsk)
+        → k ≡ true → half ≡ flagOf (at ws 14) → half ≡ true → low ≡ at ws 15 % 256 → b ≡ byteFrom low (seen .nibble) → Bytewise buffer output b after buffer′ output′
         → Takes after buffer′ output′
-    second-half {after} {buffer′} {output′} e q t h u g c x =
-        rw (taken-is e q t, sym h ∙ u)
-        (subst (λ (n : ℕ). Bytes buffer output n after buffer′ output′) (c ∙ ap (λ (n : ℕ). byteFrom n (seen .nibble)) g) x)
+    second-half {after} {buffer′} {output′} q t h u g c x =
+        rw (sym q ∙ t, sym h ∙ u)
+        (subst (λ (n : ℕ). Bytewise buffer output n after buffer′ output′) (c ∙ ap (λ (n : ℕ). byteFrom n (seen .nibble)) g) x)
 
-    pub first-half : {ear : Listener} {k half : Bool} {after : List ℕ} → ear ≡ listenerOf (at ws 13) → k ≡ takenOf ear (seen .hsk)
+    pub first-half : {k half : Bool} {after : List ℕ} → k ≡ takenOf (listenerOf (at ws 13)) (seen .hsk)
         → k ≡ true → half ≡ flagOf (at ws 14) → half ≡ false → after ≡ selectingIn ws 2 1 true (seen .nibble) → Takes after buffer output
-    first-half e q t h u x =
-        rw (taken-is e q t, sym h ∙ u) (
+    first-half q t h u x =
+        rw (sym q ∙ t, sym h ∙ u) (
           x ∙ sym (place-again 1 (seen .nibble) true) ∙ sym (header-again 1 (seen .nibble) true (at ws 16))
               ∙ ap (λ (l : List ℕ). phaseIn l (Receiving Holding (Taking (record { header = loadedHeader ws; place = at ws 16; half = true; low = seen .nibble })))) (sym serial-again),
           (refl, refl),
         )
 
-    pub no-nibble : {ear next : Listener} {k : Bool} {tag : ℕ} → ear ≡ listenerOf (at ws 13) → k ≡ takenOf ear (seen .hsk) → k ≡ false
-        → next ≡ hearOf ear (seen .hsk) busy → tag ≡ listenerTag next → Takes (sets ws 12 (2 ∷ tag ∷ [])) buffer output
-    no-nibble {ear} {next} e q t s g =
-        rw (taken-is e q t) (
-          ap (λ (n : ℕ). sets ws 12 (2 ∷ n ∷ [])) (g ∙ ap listenerTag (s ∙ ap (λ (x : Listener). hearOf x (seen .hsk) busy) e))
-              ∙ sym (half-again (listenerTag (hearOf (listenerOf (at ws 13)) (seen .hsk) busy))) ∙ sym (place-again (listenerTag (hearOf (listenerOf (at ws 13)) (seen .hsk) busy)) (at ws 15 % 256) (flagOf (at ws 14))) ∙ sym (header-again (listenerTag (hearOf (listenerOf (at ws 13)) (seen .hsk) busy)) (at ws 15 % 256) (flagOf (at ws 14)) (at ws 16))
+    pub no-nibble : {k : Bool} {tag : ℕ} → k ≡ takenOf (listenerOf (at ws 13)) (seen .hsk) → k ≡ false
+        → tag ≡ listenerTag (hearOf (listenerOf (at ws 13)) (seen .hsk) busy) → Takes (sets ws 12 (2 ∷ tag ∷ [])) buffer output
+    no-nibble q t g =
+        rw (sym q ∙ t) (
+          ap (λ (n : ℕ). sets ws 12 (2 ∷ n ∷ [])) g
+              ∙ sym (half-again (listenerTag (hearOf (listenerOf (at ws 13)) (seen .hsk) busy)))
+              ∙ sym (place-again (listenerTag (hearOf (listenerOf (at ws 13)) (seen .hsk) busy)) (at ws 15 % 256) (flagOf (at ws 14)))
+              ∙ sym (header-again (listenerTag (hearOf (listenerOf (at ws 13)) (seen .hsk) busy)) (at ws 15 % 256) (flagOf (at ws 14)) (at ws 16))
               ∙ ap (λ (l : List ℕ). phaseIn l (Receiving (hearOf (listenerOf (at ws 13)) (seen .hsk) busy) (Taking (loadedPartial ws)))) (sym serial-again),
           (refl, refl),
         )
@@ -361,43 +361,131 @@ module _ (ws : List ℕ) where
       q ∙ ap (λ (p : Partial). progressIn ws 1 (Taking p)) e
       ∙ ap (λ (l : List ℕ). phaseIn l (Receiving Holding (Taking (partial h (at ws 16 + 1))))) (sym serial-again)
 
-  -- Responding: before the first nibble, and while one is placed or kept.
-  module _ (hsk : Bool) (input : List ℕ) {reply : Reply} {sender : Sender} {wait : Bool} (er : reply ≡ replyOf (at ws 17) (at ws 18)) (es : sender ≡ senderOf (at ws 13) (at ws 15)) (ew : wait ≡ flagOf (at ws 14)) where
+  -- Responding: what is written, in the words' order.
+  reply-again : replyIn (at ws 18) (replyOf (at ws 17) (at ws 18)) ≡ at ws 18
+  reply-again = by-tag (eqb (at ws 17) 1) (eqb (at ws 17) 2) (eqb (at ws 17) 3) (eqb (at ws 17) 4)
+    where
+      by-tag : (a b c d : Bool)
+          → replyIn (at ws 18) (cond a (Status (at ws 18 % 256)) (cond b (Opened (at ws 18 % 256)) (cond c (Bytes (at ws 18 % 65536)) (cond d Polled Silent)))) ≡ at ws 18
+      by-tag true b c d = again8 (at ws 18)
+      by-tag false true c d = again8 (at ws 18)
+      by-tag false false true d = again16 (at ws 18)
+      by-tag false false false true = refl
+      by-tag false false false false = refl
+
+  tag-again : replyTag (replyOf (at ws 17) (at ws 18)) ≡ replyTag (replyOf (at ws 17) 0)
+  tag-again = by-tag (eqb (at ws 17) 1) (eqb (at ws 17) 2) (eqb (at ws 17) 3) (eqb (at ws 17) 4)
+    where
+      by-tag : (a b c d : Bool)
+          → replyTag (cond a (Status (at ws 18 % 256)) (cond b (Opened (at ws 18 % 256)) (cond c (Bytes (at ws 18 % 65536)) (cond d Polled Silent))))
+          ≡ replyTag (cond a (Status 0) (cond b (Opened 0) (cond c (Bytes 0) (cond d Polled Silent))))
+      by-tag true b c d = refl
+      by-tag false true c d = refl
+      by-tag false false true d = refl
+      by-tag false false false true = refl
+      by-tag false false false false = refl
+
+  -- The tags of the phase and of the sender.
+  abbrev tagged : ℕ → List ℕ
+  tagged t = set (set ws 12 4) 13 t
+
+  tagged-at : (t j : ℕ) → 13 < j → at (tagged t) j ≡ at ws j
+  tagged-at t j h = behind (set ws 12 4) 13 j t h ∙ behind ws 12 j 4 (omega arith)
+
+  module _ (f : flagOf (at ws 14) ≡ false) where
+    written : (s : Sender) (i : ℕ)
+        → phaseIn ws (Responding (replyOf (at ws 17) (at ws 18)) i s false)
+        ≡ set (set (set (tagged (senderTag s)) 15 (senderIn (at ws 15) s)) 16 i) 17 (replyTag (replyOf (at ws 17) 0))
+    written s i =
+        let no-wait : flagIn (at ws 14) false ≡ at (tagged (senderTag s)) 14 =
+        ap (flagIn (at ws 14)) (sym f) ∙ flag-again (at ws 14) ∙ sym (tagged-at (senderTag s) 14 (omega arith)) in
+        let value : at ws 18 ≡ at (set (set (set (tagged (senderTag s)) 15 (senderIn (at ws 15) s)) 16 i) 17 (replyTag (replyOf (at ws 17) 0))) 18 =
+        sym
+        (behind (set (set (tagged (senderTag s)) 15 (senderIn (at ws 15) s)) 16 i) 17 18 (replyTag (replyOf (at ws 17) 0)) (omega arith)
+        ∙ behind (set (tagged (senderTag s)) 15 (senderIn (at ws 15) s)) 16 18 i (omega arith)
+        ∙ behind (tagged (senderTag s)) 15 18 (senderIn (at ws 15) s) (omega arith)
+        ∙ tagged-at (senderTag s) 18 (omega arith)) in
+        (λ k. set (set (set (set (set (tagged (senderTag s)) 14 (no-wait k)) 15 (senderIn (at ws 15) s)) 16 i) 17 (tag-again k)) 18 (reply-again k))
+        ∙ ap (λ (l : List ℕ). set (set (set (set l 15 (senderIn (at ws 15) s)) 16 i) 17 (replyTag (replyOf (at ws 17) 0))) 18 (at ws 18)) (set-getD (tagged (senderTag s)) 14 0)
+        ∙ ap (set (set (set (set (tagged (senderTag s)) 15 (senderIn (at ws 15) s)) 16 i) 17 (replyTag (replyOf (at ws 17) 0))) 18) value
+        ∙ set-getD (set (set (set (tagged (senderTag s)) 15 (senderIn (at ws 15) s)) 16 i) 17 (replyTag (replyOf (at ws 17) 0))) 18 0
+
+    same-nibble : (t : ℕ) → set (tagged t) 15 (at ws 15) ≡ tagged t
+    same-nibble t = ap (set (tagged t) 15) (sym (tagged-at t 15 (omega arith))) ∙ set-getD (tagged t) 15 0
+
+    -- A nibble that is kept, one that is placed, and the next.
+    written-kept : phaseIn ws (Responding (replyOf (at ws 17) (at ws 18)) (at ws 16) (Kept (at ws 15 % 256)) false) ≡ set (tagged 2) 17 (replyTag (replyOf (at ws 17) 0))
+    written-kept =
+        written (Kept (at ws 15 % 256)) (at ws 16)
+        ∙ ap (λ (n : ℕ). set (set (set (tagged 2) 15 n) 16 (at ws 16)) 17 (replyTag (replyOf (at ws 17) 0))) (again8 (at ws 15))
+        ∙ ap (λ (l : List ℕ). set (set l 16 (at ws 16)) 17 (replyTag (replyOf (at ws 17) 0))) (same-nibble 2)
+        ∙ ap (λ (l : List ℕ). set l 17 (replyTag (replyOf (at ws 17) 0))) (ap (set (tagged 2) 16) (sym (tagged-at 2 16 (omega arith))) ∙ set-getD (tagged 2) 16 0)
+
+    written-placed : (n : ℕ)
+        → phaseIn ws (Responding (replyOf (at ws 17) (at ws 18)) (at ws 16) (Placed n) false)
+        ≡ set (set (tagged 1) 15 (numberIn 256 (at ws 15) n)) 17 (replyTag (replyOf (at ws 17) 0))
+    written-placed n =
+        let there : at ws 16 ≡ at (set (tagged 1) 15 (numberIn 256 (at ws 15) n)) 16 =
+        sym (behind (tagged 1) 15 16 (numberIn 256 (at ws 15) n) (omega arith) ∙ tagged-at 1 16 (omega arith)) in
+        written (Placed n) (at ws 16)
+        ∙ ap (λ (l : List ℕ). set l 17 (replyTag (replyOf (at ws 17) 0)))
+        (ap (set (set (tagged 1) 15 (numberIn 256 (at ws 15) n)) 16) there ∙ set-getD (set (tagged 1) 15 (numberIn 256 (at ws 15) n)) 16 0)
+
+    written-next : (i : ℕ) → phaseIn ws (Responding (replyOf (at ws 17) (at ws 18)) i Next false) ≡ set (set (tagged 0) 16 i) 17 (replyTag (replyOf (at ws 17) 0))
+    written-next i = written Next i ∙ ap (λ (l : List ℕ). set (set l 16 i) 17 (replyTag (replyOf (at ws 17) 0))) (same-nibble 0)
+
+  -- Responding, by the sender's tag.
+  module _ (hsk : Bool) (input : List ℕ) where
     abbrev Responds : List ℕ → Type 0
     Responds after = after ≡ movedIn ws (respondingStep (loadedSerial ws) (replyOf (at ws 17) (at ws 18)) (at ws 16) (senderOf (at ws 13) (at ws 15)) (flagOf (at ws 14)) hsk input)
 
-    said : (next : Sender) {after : List ℕ} → after ≡ phaseIn ws (Responding reply (at ws 16) next false)
-        → after ≡ movedIn ws (moves (Responding (replyOf (at ws 17) (at ws 18)) (at ws 16) next false) (loadedSerial ws))
-    said next q = q ∙ (λ i. phaseIn (sym serial-again i) (Responding (er i) (at ws 16) next false))
+    said : (s : Sender) {after : List ℕ} → after ≡ phaseIn ws (Responding (replyOf (at ws 17) (at ws 18)) (at ws 16) s false)
+        → after ≡ movedIn ws (moves (Responding (replyOf (at ws 17) (at ws 18)) (at ws 16) s false) (loadedSerial ws))
+    said s q = q ∙ ap (λ (l : List ℕ). phaseIn l (Responding (replyOf (at ws 17) (at ws 18)) (at ws 16) s false)) (sym serial-again)
 
-    pub begins : {after : List ℕ} → wait ≡ true → after ≡ phaseIn ws (Responding reply (at ws 16) sender false) → Responds after
-    begins t q = rw (sym ew ∙ t) (said (senderOf (at ws 13) (at ws 15)) (q ∙ ap (λ (s : Sender). phaseIn ws (Responding reply (at ws 16) s false)) es))
+    pub begins : {wait : Bool} {after : List ℕ} → wait ≡ flagOf (at ws 14) → wait ≡ true
+        → after ≡ phaseIn ws (Responding (replyOf (at ws 17) (at ws 18)) (at ws 16) (senderOf (at ws 13) (at ws 15)) false) → Responds after
+    begins e t q = rw (sym e ∙ t) (said (senderOf (at ws 13) (at ws 15)) q)
 
-    module _ (f : wait ≡ false) {done : Bool} (ed : done ≡ sentOf sender hsk) where
-      pub is-sent : {after : List ℕ} → done ≡ true → after ≡ movedIn ws (sentStep (loadedSerial ws) reply (at ws 16)) → Responds after
-      is-sent t q =
-          rw (sym ew ∙ f, ap (λ (s : Sender). sentOf s hsk) (sym es) ∙ sym ed ∙ t)
-          (q ∙ ap (λ (r : Reply). movedIn ws (sentStep (loadedSerial ws) r (at ws 16))) er)
+    module _ (f : flagOf (at ws 14) ≡ false) where
+      pub was-placed : {after : List ℕ} → eqb (at ws 13) 1 ≡ true → after ≡ set (tagged 2) 17 (replyTag (replyOf (at ws 17) 0)) → Responds after
+      was-placed t q = rw (f, t) (said (Kept (at ws 15 % 256)) (q ∙ sym (written-kept f)))
 
-      pub goes-on : {next : Sender} {after : List ℕ} → done ≡ false
-          → next ≡ sendOf sender hsk (nibbleIn (responseBytes (contents input (queueOf (at ws 8) (at ws 9))) reply) (at ws 16))
-          → after ≡ phaseIn ws (Responding reply (at ws 16) next false) → Responds after
-      goes-on t n q =
-          rw (sym ew ∙ f, ap (λ (s : Sender). sentOf s hsk) (sym es) ∙ sym ed ∙ t)
-          (said (sendOf (senderOf (at ws 13) (at ws 15)) hsk (nibbleIn (responseBytes (contents input (queueOf (at ws 8) (at ws 9))) (replyOf (at ws 17) (at ws 18))) (at ws 16))) (q ∙ ap (λ (s : Sender). phaseIn ws (Responding reply (at ws 16) s false)) (n ∙ (λ i. sendOf (es i) hsk (nibbleIn (responseBytes (contents input (queueOf (at ws 8) (at ws 9))) (er i)) (at ws 16))))))
+      pub still-kept : {after : List ℕ} → eqb (at ws 13) 1 ≡ false → eqb (at ws 13) 2 ≡ true → hsk ≡ true
+          → after ≡ set (tagged 2) 17 (replyTag (replyOf (at ws 17) 0)) → Responds after
+      still-kept g t h q = rw (f, g, t, h) (said (Kept (at ws 15 % 256)) (q ∙ sym (written-kept f)))
 
-  module _ (reply : Reply) (i : ℕ) {q : Queue} {last : ℕ} (eq : q ≡ queueOf (at ws 8) (at ws 9)) (el : last ≡ lastNibble q reply) where
-    pub next-nibble : {after : List ℕ} → i < last → after ≡ phaseIn ws (Responding reply (i + 1) Next false) → after ≡ movedIn ws (sentStep (loadedSerial ws) reply i)
-    next-nibble t x =
-        let below : i < lastNibble (queueOf (at ws 8) (at ws 9)) reply = subst (λ (m : ℕ). i < m) (el ∙ ap (λ (p : Queue). lastNibble p reply) eq) t in
-        rw (lt-ltb _ _ below) (x ∙ ap (λ (l : List ℕ). phaseIn l (Responding reply (i + 1) Next false)) (sym serial-again))
+      pub is-sent : {after : List ℕ} → eqb (at ws 13) 1 ≡ false → eqb (at ws 13) 2 ≡ true → hsk ≡ false
+          → after ≡ movedIn ws (sentStep (loadedSerial ws) (replyOf (at ws 17) (at ws 18)) (at ws 16)) → Responds after
+      is-sent g t h q = rw (f, g, t, h) q
+
+      pub is-placed : {after : List ℕ} → eqb (at ws 13) 1 ≡ false → eqb (at ws 13) 2 ≡ false
+          → after ≡ set (set (tagged 1) 15 (numberIn 256 (at ws 15) (nibbleIn (responseBytes (contents input (queueOf (at ws 8) (at ws 9))) (replyOf (at ws 17) (at ws 18))) (at ws 16)))) 17 (replyTag (replyOf (at ws 17) 0))
+          → Responds after
+      is-placed g h q =
+          rw (f, g, h)
+          (said (Placed (nibbleIn (responseBytes (contents input (queueOf (at ws 8) (at ws 9))) (replyOf (at ws 17) (at ws 18))) (at ws 16)))
+          (q ∙ sym (written-placed f (nibbleIn (responseBytes (contents input (queueOf (at ws 8) (at ws 9))) (replyOf (at ws 17) (at ws 18))) (at ws 16)))))
+
+  -- A nibble that is sent: which one is the last, in the code's numbers.
+  module _ {reply : Reply} {q : Queue} {last i : ℕ} (er : reply ≡ replyOf (at ws 17) (at ws 18)) (eq : q ≡ queueOf (at ws 8) (at ws 9)) (el : last ≡ lastNibble q reply) (ei : i ≡ at ws 16) where
+    last-is : last ≡ lastNibble (queueOf (at ws 8) (at ws 9)) (replyOf (at ws 17) (at ws 18))
+    last-is = el ∙ (λ k. lastNibble (eq k) (er k))
+
+    pub next-nibble : {after : List ℕ} → flagOf (at ws 14) ≡ false → i < last → after ≡ set (set (tagged 0) 16 (at ws 16 + 1)) 17 (replyTag (replyOf (at ws 17) 0))
+        → after ≡ movedIn ws (sentStep (loadedSerial ws) (replyOf (at ws 17) (at ws 18)) (at ws 16))
+    next-nibble f t x =
+        let below : at ws 16 < lastNibble (queueOf (at ws 8) (at ws 9)) (replyOf (at ws 17) (at ws 18)) = omega (arith, t, ei, last-is) in
+        rw (lt-ltb (at ws 16) (lastNibble (queueOf (at ws 8) (at ws 9)) (replyOf (at ws 17) (at ws 18))) below)
+        (x ∙ sym (written-next f (at ws 16 + 1)) ∙ ap (λ (l : List ℕ). phaseIn l (Responding (replyOf (at ws 17) (at ws 18)) (at ws 16 + 1) Next false)) (sym serial-again))
 
     pub last-nibble : {s t : Serial} {between after : List ℕ} → last ≤ i → s ≡ loadedSerial ws → t ≡ finished s reply → between ≡ serialIn ws t
-        → after ≡ phaseIn between (SittingOut false) → after ≡ movedIn ws (sentStep (loadedSerial ws) reply i)
+        → after ≡ phaseIn between (SittingOut false)
+        → after ≡ movedIn ws (sentStep (loadedSerial ws) (replyOf (at ws 17) (at ws 18)) (at ws 16))
     last-nibble h es et eb x =
-        let past : lastNibble (queueOf (at ws 8) (at ws 9)) reply ≤ i = subst (λ (m : ℕ). m ≤ i) (el ∙ ap (λ (p : Queue). lastNibble p reply) eq) h in
-        rw (le-ltb _ _ past)
-        (x ∙ ap (λ (l : List ℕ). phaseIn l (SittingOut false)) (eb ∙ ap (serialIn ws) (et ∙ ap (λ (s : Serial). finished s reply) es)))
+        let past : lastNibble (queueOf (at ws 8) (at ws 9)) (replyOf (at ws 17) (at ws 18)) ≤ at ws 16 = omega (arith, h, ei, last-is) in
+        rw (le-ltb (at ws 16) (lastNibble (queueOf (at ws 8) (at ws 9)) (replyOf (at ws 17) (at ws 18))) past)
+        (x ∙ ap (λ (l : List ℕ). phaseIn l (SittingOut false)) (eb ∙ ap (serialIn ws) (et ∙ (λ k. finished (es k) (er k)))))
 
 -- What a unit that is not responding leaves on the data lines.
 pub no-nibble-pulled : (ws : List ℕ) → eqb (at ws 12) 4 ≡ false → pullsNibble (loadedPhase ws) ≡ 15

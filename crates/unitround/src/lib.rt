@@ -1,21 +1,21 @@
 // A round of a unit in the words that a caller lends. Each phase reads the words that it needs, and writes those that can change.
 ghost use mathlib.Core.Path.{_≡_};
-ghost use mathlib.Core.Bool.{_&&_, not};
+ghost use mathlib.Core.Bool.{false, _&&_, not};
+ghost use mathlib.Core.List.{[], _∷_};
 ghost use Prim.Native.Nat.{_%_, _≤_};
-ghost use Rattle.line.specs.Line.{sendOf};
+ghost use lib.Seq.{sets};
 ghost use Rattle.message.specs.Nibbles.{nibbleIn};
 ghost use Rattle.phase.specs.Phase.{selectingStep, answered, stored, byteStep, byteBuffer, byteOutput, takingStep, takingBuffer, takingOutput, answeredStep, respondingStep, phaseStep, phaseBuffer, phaseOutput, idleStep};
+ghost use Rattle.phase.specs.declared.Phase.the-variants.{Responding};
 ghost use Rattle.queue.specs.Queue.{contents};
 ghost use Rattle.reply.specs.Reply.{responseBytes};
 ghost use Rattle.unit.specs.Unit.{highStep, unitStep, unitBuffer, unitOutput, pullsOf, pullsHsk, pullsNibble};
-ghost use Rattle.unitwords.specs.Unit.{queueOf, loadedSerial, replyOf, loadedPartial, loadedPhase, phaseIn, loaded, savedIn};
-ghost use Rattle.words.specs.Words.{at, flagOf, listenerOf, senderOf};
+ghost use Rattle.unitwords.specs.Unit.{queueOf, loadedSerial, replyOf, replyTag, loadedPartial, loadedPhase, phaseIn, loaded, savedIn};
+ghost use Rattle.words.specs.Words.{at, numberIn, flagOf, listenerOf, senderOf};
 ghost use Rattle.unitround.specs.Round.{rowIn, movedIn, sentStep};
 use header::Header;
 use line::Lines;
-use line::Sender;
 use phase::Moved;
-use serial::Reply;
 
 // A round: the levels that the unit sees, whether its host is busy, the lent command buffer, and the bytes of its two queues.
 pub fn round(
@@ -167,10 +167,10 @@ fn idle(words: &mut [u32; 23], hsk: bool)
 fn selecting(words: &mut [u32; 23], seen: Lines, busy: bool)
     ensures { λ _. ⌜ now (words .exit) ≡ phaseIn (now (words .entry)) (selectingStep (at (now (words .entry)) 0 % 256) (listenerOf (at (now (words .entry)) 13)) (flagOf (at (now (words .entry)) 14)) (at (now (words .entry)) 15 % 256) seen busy) ⌝ }
 {
-    let ear = words::listener(words[13]);
+    let ear = words[13];
     let half = words::flag(words[14]);
     let low = words::number8(words[15]);
-    if ear.taken(seen.hsk) {
+    if words::takes(ear, seen.hsk) {
         if half {
             let own = words::number8(words[0]);
             let next = phase::select(own, field::byte_of(low, seen.nibble));
@@ -180,16 +180,15 @@ fn selecting(words: &mut [u32; 23], seen: Lines, busy: bool)
         unitwords::save_selecting(words, 1, 1, true, seen.nibble);
         return;
     }
-    let tag = words::listener_tag(ear.step(seen.hsk, busy));
-    unitwords::save_selecting(words, 1, tag, half, low);
+    unitwords::save_selecting(words, 1, words::heard(ear, seen.hsk, busy), half, low);
 }
 
 // Receiving, until the last nibble is taken.
 fn taking(words: &mut [u32; 23], seen: Lines, busy: bool, buffer: &mut [u8], output: &mut [u8; 256])
     ensures { λ _. ⌜ (now (words .exit) ≡ movedIn (now (words .entry)) (takingStep (loadedSerial (now (words .entry))) (listenerOf (at (now (words .entry)) 13)) (loadedPartial (now (words .entry))) seen busy (now (buffer .entry)))) × ((now (buffer .exit) ≡ takingBuffer (listenerOf (at (now (words .entry)) 13)) (loadedPartial (now (words .entry))) seen (now (buffer .entry))) × (now (output .exit) ≡ takingOutput (loadedSerial (now (words .entry))) (listenerOf (at (now (words .entry)) 13)) (loadedPartial (now (words .entry))) seen (now (buffer .entry)) (now (output .entry)))) ⌝ }
 {
-    let ear = words::listener(words[13]);
-    if ear.taken(seen.hsk) {
+    let ear = words[13];
+    if words::takes(ear, seen.hsk) {
         if words::flag(words[14]) {
             let b = field::byte_of(words::number8(words[15]), seen.nibble);
             take_byte(words, b, buffer, output);
@@ -198,9 +197,8 @@ fn taking(words: &mut [u32; 23], seen: Lines, busy: bool, buffer: &mut [u8], out
         unitwords::save_selecting(words, 2, 1, true, seen.nibble);
         return;
     }
-    let tag = words::listener_tag(ear.step(seen.hsk, busy));
     words[12] = 2;
-    words[13] = tag;
+    words[13] = words::heard(ear, seen.hsk, busy);
 }
 
 // A byte of a command is there.
@@ -277,28 +275,62 @@ fn answered(words: &mut [u32; 23], hsk: bool, busy: bool)
 fn responding(words: &mut [u32; 23], hsk: bool, input: &[u8; 256])
     ensures { λ _. ⌜ now (words .exit) ≡ movedIn (now (words .entry)) (respondingStep (loadedSerial (now (words .entry))) (replyOf (at (now (words .entry)) 17) (at (now (words .entry)) 18)) (at (now (words .entry)) 16) (senderOf (at (now (words .entry)) 13) (at (now (words .entry)) 15)) (flagOf (at (now (words .entry)) 14)) hsk (now (input .entry))) ⌝ }
 {
-    let reply = unitwords::reply(words[17], words[18]);
-    let i = words[16];
-    let sender = words::sender(words[13], words[15]);
     if words::flag(words[14]) {
-        unitwords::save_responding(words, reply, i, sender, false);
+        begin(words);
         return;
     }
-    if sender.sent(hsk) {
-        sent(words, reply, i);
+    let tag = words[13];
+    let placed = tag == 1;
+    if placed {
+        keep(words);
         return;
     }
-    let next = sends(words, reply, i, sender, hsk, input);
-    unitwords::save_responding(words, reply, i, next, false);
+    let kept = tag == 2;
+    if kept {
+        if hsk {
+            keep(words);
+            return;
+        }
+        sent(words);
+        return;
+    }
+    place(words, input);
 }
 
-// Nibble i is sent: on to the next, or what waited for the last happens.
-fn sent(words: &mut [u32; 23], reply: Reply, i: u32)
-    ensures { λ _. ⌜ now (words .exit) ≡ movedIn (now (words .entry)) (sentStep (loadedSerial (now (words .entry))) reply i) ⌝ }
+// The round before the first nibble.
+fn begin(words: &mut [u32; 23])
+    ensures { λ _. ⌜ now (words .exit) ≡ phaseIn (now (words .entry)) (Responding (replyOf (at (now (words .entry)) 17) (at (now (words .entry)) 18)) (at (now (words .entry)) 16) (senderOf (at (now (words .entry)) 13) (at (now (words .entry)) 15)) false) ⌝ }
 {
-    let q = unitwords::queue(words[8], words[9]);
-    if (i as usize) < reply::last(reply, q) {
-        unitwords::save_responding(words, reply, i + 1, Sender::Next, false);
+    let reply = unitwords::reply(words[17], words[18]);
+    let sender = words::sender(words[13], words[15]);
+    let i = words[16];
+    unitwords::save_responding(words, reply, i, sender, false);
+}
+
+// The nibble is kept.
+fn keep(words: &mut [u32; 23])
+    ensures { λ _. ⌜ now (words .exit) ≡ sets (sets (now (words .entry)) 12 (4 ∷ 2 ∷ [])) 17 (replyTag (replyOf (at (now (words .entry)) 17) 0) ∷ []) ⌝ }
+{
+    let tag = unitwords::reply_tag_again(words[17]);
+    words[12] = 4;
+    words[13] = 2;
+    words[17] = tag;
+}
+
+// The nibble is sent: on to the next, or what waited for the last happens.
+fn sent(words: &mut [u32; 23])
+    requires { ⌜ flagOf (at (now words) 14) ≡ false ⌝ }
+    ensures { λ _. ⌜ now (words .exit) ≡ movedIn (now (words .entry)) (sentStep (loadedSerial (now (words .entry))) (replyOf (at (now (words .entry)) 17) (at (now (words .entry)) 18)) (at (now (words .entry)) 16)) ⌝ }
+{
+    let reply = unitwords::reply(words[17], words[18]);
+    let i = words[16];
+    let last = reply::last(reply, unitwords::queue(words[8], words[9]));
+    if phase::wide(i) < last {
+        let tag = unitwords::reply_tag_again(words[17]);
+        words[12] = 4;
+        words[13] = 0;
+        words[16] = i + 1;
+        words[17] = tag;
         return;
     }
     let serial = unitwords::load_serial(words);
@@ -306,23 +338,17 @@ fn sent(words: &mut [u32; 23], reply: Reply, i: u32)
     unitwords::save_sitting_out(words, false);
 }
 
-// The sender's round. The nibble is worked out only in the round in which it is placed.
-fn sends(
-    words: &[u32; 23],
-    reply: Reply,
-    i: u32,
-    sender: Sender,
-    hsk: bool,
-    input: &[u8; 256],
-) -> Sender
-    ensures { λ r. ⌜ r ≡ sendOf sender hsk (nibbleIn (responseBytes (contents (now (input .entry)) (queueOf (at (now (words .entry)) 8) (at (now (words .entry)) 9))) reply) i) ⌝ }
+// The nibble is placed: only in this round it is worked out.
+fn place(words: &mut [u32; 23], input: &[u8; 256])
+    ensures { λ _. ⌜ now (words .exit) ≡ sets (sets (sets (now (words .entry)) 12 (4 ∷ 1 ∷ [])) 15 (numberIn 256 (at (now (words .entry)) 15) (nibbleIn (responseBytes (contents (now (input .entry)) (queueOf (at (now (words .entry)) 8) (at (now (words .entry)) 9))) (replyOf (at (now (words .entry)) 17) (at (now (words .entry)) 18))) (at (now (words .entry)) 16)) ∷ [])) 17 (replyTag (replyOf (at (now (words .entry)) 17) 0) ∷ []) ⌝ }
 {
-    match sender {
-        Sender::Next => {
-            let q = unitwords::queue(words[8], words[9]);
-            sender.step(hsk, reply::nibble(reply, q, input, i as usize))
-        }
-        Sender::Placed(_) => sender.step(hsk, 15),
-        Sender::Kept(_) => sender.step(hsk, 15),
-    }
+    let reply = unitwords::reply(words[17], words[18]);
+    let q = unitwords::queue(words[8], words[9]);
+    let n = reply::nibble(reply, q, input, phase::wide(words[16]));
+    let nibble = words::with8(words[15], n);
+    let tag = unitwords::reply_tag_again(words[17]);
+    words[12] = 4;
+    words[13] = 1;
+    words[15] = nibble;
+    words[17] = tag;
 }

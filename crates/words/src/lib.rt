@@ -1,6 +1,7 @@
 // Numbers, flags and the line machines in the words that a caller lends.
 ghost use mathlib.Core.Path.{_≡_};
 ghost use Prim.Native.Nat.{_%_, _≤_};
+ghost use Rattle.line.specs.Line.{hearOf, takenOf};
 ghost use Rattle.words.specs.Words.{numberIn, flagOf, bit, flagIn, listenerOf, listenerTag, senderOf, senderTag, senderIn, commandOf, linesNumber};
 use header::Command;
 use line::Lines;
@@ -75,6 +76,35 @@ pub fn listener_tag(ear: Listener) -> u32
         Listener::Holding => 1,
         Listener::Waiting => 2,
     }
+}
+
+// A listener's round, on its tag: whether it takes the nibble that it sees, and its tag afterwards.
+pub fn takes(tag: u32, low: bool) -> bool
+    ensures { λ r. ⌜ r ≡ takenOf (listenerOf tag) low ⌝ }
+{
+    let holds = tag == 1;
+    if holds {
+        return false;
+    }
+    let waits = tag == 2;
+    if waits {
+        return false;
+    }
+    low
+}
+
+pub fn heard(tag: u32, low: bool, busy: bool) -> u32
+    ensures { λ r. ⌜ r ≡ listenerTag (hearOf (listenerOf tag) low busy) ⌝ }
+{
+    let holds = tag == 1;
+    if holds {
+        return if busy { 1 } else { 2 };
+    }
+    let waits = tag == 2;
+    if waits {
+        return if low { 2 } else { 0 };
+    }
+    if low { 1 } else { 0 }
 }
 
 // A sender, its tag, and the word of its nibble.

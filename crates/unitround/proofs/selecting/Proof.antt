@@ -4,103 +4,92 @@ use Rattle.unitround.proofs.selecting.Tie as tie
 use Rattle.unitround.proofs.selecting.Reads as reads
 use Rattle.unitround.proofs.selecting.Lts as lts
 use Rattle.field.proofs.byte_of.Reads as byte-of-reads
-use Rattle.line.proofs.Listener.step.Reads as step-reads
-use Rattle.line.proofs.Listener.taken.Reads as taken-reads
 use Rattle.phase.proofs.select.Reads as select-reads
 use Rattle.unitwords.proofs.save_phase.Reads as save-phase-reads
 use Rattle.unitwords.proofs.save_selecting.Reads as save-selecting-reads
 use Rattle.words.proofs.flag.Reads as flag-reads
-use Rattle.words.proofs.listener.Reads as listener-reads
-use Rattle.words.proofs.listener_tag.Reads as listener-tag-reads
+use Rattle.words.proofs.heard.Reads as heard-reads
 use Rattle.words.proofs.number8.Reads as number8-reads
+use Rattle.words.proofs.takes.Reads as takes-reads
 
--- src/lib.rt:170:31
-element-copy-out-listener : tie.Need-element-copy-out-listener
-element-copy-out-listener c = search needs
+-- src/lib.rt:169:15
+element-copy-out-ear : tie.Need-element-copy-out-ear
+element-copy-out-ear c = search needs
 
--- src/lib.rt:170:9
-listener-requires : tie.Need-listener-requires
-listener-requires c κs = search needs
-
--- src/lib.rt:171:28
+-- src/lib.rt:170:28
 element-copy-out-flag : tie.Need-element-copy-out-flag
 element-copy-out-flag c = search needs
 
--- src/lib.rt:171:9
+-- src/lib.rt:170:9
 flag-requires : tie.Need-flag-requires
 flag-requires c κs = search needs
 
--- src/lib.rt:172:30
+-- src/lib.rt:171:30
 element-copy-out-number8 : tie.Need-element-copy-out-number8
 element-copy-out-number8 c = search needs
 
--- src/lib.rt:172:9
+-- src/lib.rt:171:9
 number8-requires : tie.Need-number8-requires
 number8-requires c κs = search needs
 
--- src/lib.rt:173:8
-taken-requires : tie.Need-taken-requires
-taken-requires c κs = search needs
+-- src/lib.rt:172:8
+takes-requires : tie.Need-takes-requires
+takes-requires c κs = search needs
 
--- src/lib.rt:175:38
+-- src/lib.rt:174:38
 element-copy-out-number8-2 : tie.Need-element-copy-out-number8-2
 element-copy-out-number8-2 c = search needs
 
--- src/lib.rt:175:17
+-- src/lib.rt:174:17
 number8-requires-2 : tie.Need-number8-requires-2
 number8-requires-2 c κs = search needs
 
--- src/lib.rt:176:43
+-- src/lib.rt:175:43
 byte-of-requires : tie.Need-byte-of-requires
 byte-of-requires c κs = search needs
 
--- src/lib.rt:176:17
+-- src/lib.rt:175:17
 select-requires : tie.Need-select-requires
 select-requires c κs = search needs
 
--- src/lib.rt:177:13
+-- src/lib.rt:176:13
 save-phase-requires : tie.Need-save-phase-requires
 save-phase-requires c κs = search needs
 
--- src/lib.rt:178:13
+-- src/lib.rt:177:13
 returns : tie.Need-returns
-returns c = simp (← (c .before .before .before .before .before .before .before .before .before .before .before .before .before .listener .ensures), ← (c .before .before .before .before .before .before .before .before .before .before .before .flag .ensures), ← (c .before .before .before .before .before .before .before .before .before .number8 .ensures), ← (c .before .before .before .before .before .before .before .before .taken .ensures)) (simp (c .before .before .before .before .before .before .before .if1 .taken, c .before .before .before .before .before .before .if2 .taken) (simp (← (c .before .before .before .before .number82 .ensures), ← (c .before .before .before .byte-of .ensures), ← (c .before .before .select .ensures)) (c .save-phase .ensures)))
+returns c = simp (← (c .before .before .before .before .before .before .before .before .before .before .before .flag .ensures), ← (c .before .before .before .before .before .before .before .before .before .number8 .ensures), ← (c .before .before .before .before .before .before .before .before .takes .ensures)) (simp (c .before .before .before .before .before .before .before .if1 .taken, c .before .before .before .before .before .before .if2 .taken) (simp (← (c .before .before .before .before .number82 .ensures), ← (c .before .before .before .byte-of .ensures), ← (c .before .before .select .ensures)) (c .save-phase .ensures)))
 
--- src/lib.rt:180:9
+-- src/lib.rt:179:9
 save-selecting-requires : tie.Need-save-selecting-requires
 save-selecting-requires c κs = search needs
 
--- src/lib.rt:181:9
+-- src/lib.rt:180:9
 returns-2 : tie.Need-returns-2
-returns-2 c = simp (← (c .before .before .before .before .before .before .before .before .before .listener .ensures), ← (c .before .before .before .before .before .before .before .flag .ensures), ← (c .before .before .before .before .before .number8 .ensures), ← (c .before .before .before .before .taken .ensures)) (simp (c .before .before .before .if1 .taken, c .before .before .if2 .left) (c .save-selecting .ensures))
+returns-2 c = simp (← (c .before .before .before .before .before .before .before .flag .ensures), ← (c .before .before .before .before .before .number8 .ensures), ← (c .before .before .before .before .takes .ensures)) (simp (c .before .before .before .if1 .taken, c .before .before .if2 .left) (c .save-selecting .ensures))
 
--- src/lib.rt:183:35
-step-requires : tie.Need-step-requires
-step-requires c κs = search needs
+-- src/lib.rt:182:41
+heard-requires : tie.Need-heard-requires
+heard-requires c κs = search needs
 
--- src/lib.rt:183:9
-listener-tag-requires : tie.Need-listener-tag-requires
-listener-tag-requires c κs = search needs
-
--- src/lib.rt:184:5
+-- src/lib.rt:182:5
 save-selecting-requires-2 : tie.Need-save-selecting-requires-2
 save-selecting-requires-2 c κs = search needs
 
--- src/lib.rt:167:1
+-- src/lib.rt:166:1
 returns-3 : tie.Need-returns-3
-returns-3 c = simp (← (c .before .before .before .before .before .before .before .before .before .before .listener .ensures), ← (c .before .before .before .before .before .before .before .before .flag .ensures), ← (c .before .before .before .before .before .before .number8 .ensures), ← (c .before .before .before .before .before .taken .ensures)) (simp (c .before .before .before .before .if1 .left) (simp (← (c .before .before .before .step .ensures), ← (c .before .before .listener-tag .ensures)) (c .save-selecting2 .ensures)))
+returns-3 c = simp (← (c .before .before .before .before .before .before .before .flag .ensures), ← (c .before .before .before .before .before .number8 .ensures), ← (c .before .before .before .before .takes .ensures)) (simp (c .before .before .before .if1 .left) (simp (← (c .before .heard .ensures)) (c .save-selecting2 .ensures)))
 
 pub selecting-spec : {M : Type 1} → statement M
 selecting-spec =
     tie.close
     (tie.spec
-    element-copy-out-listener
-    listener-requires
+    element-copy-out-ear
     element-copy-out-flag
     flag-requires
     element-copy-out-number8
     number8-requires
-    taken-requires
+    takes-requires
     element-copy-out-number8-2
     number8-requires-2
     byte-of-requires
@@ -109,7 +98,6 @@ selecting-spec =
     returns
     save-selecting-requires
     returns-2
-    step-requires
-    listener-tag-requires
+    heard-requires
     save-selecting-requires-2
     returns-3)

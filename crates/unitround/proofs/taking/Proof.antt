@@ -1,4 +1,3 @@
-use mathlib.Core.Path.{_≡_}
 use mathlib.Core.List.{[]}
 use Rattle.unitround.proofs.Laws.{second-half, first-half, no-nibble}
 use borrow.Author.Needs.{needs}
@@ -7,97 +6,86 @@ use Rattle.unitround.proofs.taking.Tie as tie
 use Rattle.unitround.proofs.taking.Reads as reads
 use Rattle.unitround.proofs.taking.Lts as lts
 use Rattle.field.proofs.byte_of.Reads as byte-of-reads
-use Rattle.line.proofs.Listener.step.Reads as step-reads
-use Rattle.line.proofs.Listener.taken.Reads as taken-reads
 use Rattle.unitround.proofs.take_byte.Reads as take-byte-reads
 use Rattle.unitwords.proofs.save_selecting.Reads as save-selecting-reads
 use Rattle.words.proofs.flag.Reads as flag-reads
-use Rattle.words.proofs.listener.Reads as listener-reads
-use Rattle.words.proofs.listener_tag.Reads as listener-tag-reads
+use Rattle.words.proofs.heard.Reads as heard-reads
 use Rattle.words.proofs.number8.Reads as number8-reads
+use Rattle.words.proofs.takes.Reads as takes-reads
 
--- src/lib.rt:197:31
-element-copy-out-listener : tie.Need-element-copy-out-listener
-element-copy-out-listener c = search needs
+-- src/lib.rt:189:15
+element-copy-out-ear : tie.Need-element-copy-out-ear
+element-copy-out-ear c = search needs
 
--- src/lib.rt:197:9
-listener-requires : tie.Need-listener-requires
-listener-requires c κs = search needs
+-- src/lib.rt:190:8
+takes-requires : tie.Need-takes-requires
+takes-requires c κs = search needs
 
--- src/lib.rt:198:8
-taken-requires : tie.Need-taken-requires
-taken-requires c κs = search needs
-
--- src/lib.rt:199:24
+-- src/lib.rt:191:24
 element-copy-out-flag : tie.Need-element-copy-out-flag
 element-copy-out-flag c = search needs
 
--- src/lib.rt:199:12
+-- src/lib.rt:191:12
 flag-requires : tie.Need-flag-requires
 flag-requires c κs = search needs
 
--- src/lib.rt:200:51
+-- src/lib.rt:192:51
 element-copy-out-number8 : tie.Need-element-copy-out-number8
 element-copy-out-number8 c = search needs
 
--- src/lib.rt:200:36
+-- src/lib.rt:192:36
 number8-requires : tie.Need-number8-requires
 number8-requires c κs = search needs
 
--- src/lib.rt:200:17
+-- src/lib.rt:192:17
 byte-of-requires : tie.Need-byte-of-requires
 byte-of-requires c κs = search needs
 
--- src/lib.rt:201:13
+-- src/lib.rt:193:13
 take-byte-requires : tie.Need-take-byte-requires
 take-byte-requires c κs = search needs
 
--- src/lib.rt:202:13
+-- src/lib.rt:194:13
 same-length : tie.Need-same-length
 same-length c = search needs
 
--- src/lib.rt:202:13
+-- src/lib.rt:194:13
 returns : tie.Need-returns
-returns c = let a = c .before .before .before .before .before .before .before .before .before .before .before .before .before .before .before .before .before .args in
-    second-half (a .words .now) (a .seen) (a .busy) (a .buffer .now) [] (a .output .now) (c .before .before .before .before .before .before .before .before .before .before .before .before .before .before .listener .ensures) (c .before .before .before .before .before .before .before .before .before .before .before .before .before .taken .ensures) (c .before .before .before .before .before .before .before .before .before .before .before .before .if1 .taken) (c .before .before .before .before .before .before .before .before .before .before .flag .ensures) (c .before .before .before .before .before .before .before .before .before .if2 .taken) (c .before .before .before .before .before .before .before .number8 .ensures) (c .before .before .before .before .before .before .byte-of .ensures) (c .before .before .take-byte .ensures)
+returns c = let a = c .before .before .before .before .before .before .before .before .before .before .before .before .before .before .before .before .args in
+    second-half (a .words .now) (a .seen) (a .busy) (a .buffer .now) [] (a .output .now) (c .before .before .before .before .before .before .before .before .before .before .before .before .before .takes .ensures) (c .before .before .before .before .before .before .before .before .before .before .before .before .if1 .taken) (c .before .before .before .before .before .before .before .before .before .before .flag .ensures) (c .before .before .before .before .before .before .before .before .before .if2 .taken) (c .before .before .before .before .before .before .before .number8 .ensures) (c .before .before .before .before .before .before .byte-of .ensures) (c .before .before .take-byte .ensures)
 
--- src/lib.rt:204:9
+-- src/lib.rt:196:9
 save-selecting-requires : tie.Need-save-selecting-requires
 save-selecting-requires c κs = search needs
 
--- src/lib.rt:205:9
+-- src/lib.rt:197:9
 returns-2 : tie.Need-returns-2
-returns-2 c = let a = c .before .before .before .before .before .before .before .before .before .before .args in
-    first-half (a .words .now) (a .seen) (a .busy) (a .buffer .now) [] (a .output .now) (c .before .before .before .before .before .before .before .listener .ensures) (c .before .before .before .before .before .before .taken .ensures) (c .before .before .before .before .before .if1 .taken) (c .before .before .before .flag .ensures) (c .before .before .if2 .left) (c .save-selecting .ensures)
+returns-2 c = let a = c .before .before .before .before .before .before .before .before .before .args in
+    first-half (a .words .now) (a .seen) (a .busy) (a .buffer .now) [] (a .output .now) (c .before .before .before .before .before .before .takes .ensures) (c .before .before .before .before .before .if1 .taken) (c .before .before .before .flag .ensures) (c .before .before .if2 .left) (c .save-selecting .ensures)
 
--- src/lib.rt:207:35
-step-requires : tie.Need-step-requires
-step-requires c κs = search needs
-
--- src/lib.rt:207:9
-listener-tag-requires : tie.Need-listener-tag-requires
-listener-tag-requires c κs = search needs
-
--- src/lib.rt:208:5
+-- src/lib.rt:199:5
 element-write-words : tie.Need-element-write-words
 element-write-words c = search needs
 
--- src/lib.rt:209:5
+-- src/lib.rt:200:17
+heard-requires : tie.Need-heard-requires
+heard-requires c κs = search needs
+
+-- src/lib.rt:200:5
 element-write-words-2 : tie.Need-element-write-words-2
 element-write-words-2 c = search needs
 
--- src/lib.rt:188:1
+-- src/lib.rt:186:1
 returns-3 : tie.Need-returns-3
-returns-3 c = let a = c .before .before .before .before .before .before .before .args in
-    no-nibble (a .words .now) (a .seen) (a .busy) (a .buffer .now) [] (a .output .now) (c .before .before .before .before .listener .ensures) (c .before .before .before .taken .ensures) (c .before .before .if1 .left) (c .before .step .ensures) (c .listener-tag .ensures)
+returns-3 c = let a = c .before .before .before .before .before .args in
+    no-nibble (a .words .now) (a .seen) (a .busy) (a .buffer .now) [] (a .output .now) (c .before .before .takes .ensures) (c .before .if1 .left) (c .heard .ensures)
 
 pub taking-spec : {M : Type 1} → statement M
 taking-spec =
     tie.close
     (tie.spec
-    element-copy-out-listener
-    listener-requires
-    taken-requires
+    element-copy-out-ear
+    takes-requires
     element-copy-out-flag
     flag-requires
     element-copy-out-number8
@@ -108,8 +96,7 @@ taking-spec =
     returns
     save-selecting-requires
     returns-2
-    step-requires
-    listener-tag-requires
     element-write-words
+    heard-requires
     element-write-words-2
     returns-3)
