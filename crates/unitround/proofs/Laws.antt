@@ -1,5 +1,5 @@
 -- What need not be written, since it stands in the words already.
-use Prim.Native.Nat.{ℕ, zero, suc, _+_, _%_, _<_, _≤_, min}
+use Prim.Native.Nat.{ℕ, zero, suc, _+_, _-_, _/_, _%_, _<_, _≤_, min}
 use native.Mathlib.Omega.{arith}
 use mathlib.Core.Logic.{_≢_}
 use mathlib.Core.Path.{_≡_, refl, sym, _∙_, ap, subst}
@@ -7,9 +7,9 @@ use mathlib.Core.Bool.{Bool, true, false, cond, not, _&&_}
 use mathlib.Core.List.{List, [], _∷_}
 use borrow.Author.Tests.{lt-ltb, le-ltb, eqb-true}
 use lib.Dec.{eqb}
-use lib.ListN.{set}
+use lib.ListN.{length, set, take}
 use lib.Seq.{getD-set-other, set-getD, sets}
-use Rattle.field.specs.Field.{byteFrom}
+use Rattle.field.specs.Field.{byteFrom, nibbleOf}
 use Rattle.header.specs.Header.{InRange}
 use Rattle.header.specs.declared.Header.{Header}
 use Rattle.header.proofs.Laws.{with-none}
@@ -19,6 +19,7 @@ use Rattle.line.specs.declared.Listener.{Listener}
 use Rattle.line.specs.declared.Listener.the-variants.{Holding}
 use Rattle.line.specs.declared.Sender.{Sender}
 use Rattle.line.specs.declared.Sender.the-variants.{Next, Placed, Kept}
+use Rattle.message.specs.Format.{responseFormat, headOf, endOf}
 use Rattle.message.specs.Nibbles.{nibbleIn}
 use Rattle.phase.specs.Phase.{moves, partial, withByte, idleStep, selectingStep, bufferWith, answered, stored, byteStep, byteBuffer, byteOutput, takingStep, takingBuffer, takingOutput, answeredStep, respondingStep, phaseStep, phaseBuffer, phaseOutput}
 use Rattle.phase.specs.declared.Moved.{Moved}
@@ -27,9 +28,11 @@ use Rattle.phase.specs.declared.Phase.{Phase}
 use Rattle.phase.specs.declared.Phase.the-variants.{Idle, Selecting, Receiving, Responding, SittingOut}
 use Rattle.phase.specs.declared.Progress.the-variants.{Taking, Answered}
 use Rattle.phase.proofs.Laws.{last-byte, last-output, more-bytes, more-output}
-use Rattle.queue.specs.Queue.{contents}
+use Rattle.place.proofs.Places.{nibble-at-place}
+use Rattle.queue.specs.Queue.{held, contents, byteAt as queue·byteAt}
 use Rattle.queue.specs.declared.Queue.{Queue}
 use Rattle.reply.specs.Reply.{responseBytes, lastNibble}
+use Rattle.reply.proofs.Laws.{queued-at, length-data}
 use Rattle.serial.specs.Serial.{finished}
 use Rattle.serial.specs.declared.Reply.{Reply}
 use Rattle.serial.specs.declared.Reply.the-variants.{Silent, Status, Opened, Bytes, Polled}
@@ -159,6 +162,27 @@ module _ (ws : List ℕ) where
 
   row-serial-again : (q : ℕ) (a : Bool) → serialIn (rowIn ws q a) (loadedSerial ws) ≡ rowIn ws q a
   row-serial-again q a = ap (serialIn (rowIn ws q a)) (sym (row-serial q a)) ∙ serial-same (rowIn ws q a)
+
+  -- The row while BAV is seen low: the pull of BAV is written only where it ends.
+  module _ (hsk : Bool) {x : ℕ} (ex : x ≡ numberIn 65536 (at ws 2) 0) {f : Bool} (ef : f ≡ flagOf (at (set ws 2 x) 3)) where
+    flag-is : {v : Bool} → f ≡ v → flagOf (at ws 3) ≡ v
+    flag-is t = ap flagOf (sym (behind ws 2 3 x (omega arith))) ∙ sym ef ∙ t
+
+    pull-kept : {a : Bool} → flagOf (at ws 3) ≡ a → set ws 2 x ≡ rowIn ws 0 a
+    pull-kept {a} t =
+        sym (set-getD (set ws 2 x) 3 0)
+        ∙ ap (set (set ws 2 x) 3) (behind ws 2 3 x (omega arith) ∙ sym (flag-again (at ws 3)) ∙ ap (flagIn (at ws 3)) t)
+        ∙ ap (λ (y : ℕ). set (set ws 2 y) 3 (flagIn (at ws 3) a)) ex
+
+    pub pull-ends : {v : ℕ} → f ≡ true → hsk ≡ true → v ≡ flagIn (at (set ws 2 x) 3) false → set (set ws 2 x) 3 v ≡ rowIn ws 0 (flagOf (at ws 3) && not hsk)
+    pull-ends t h e =
+        rw (flag-is t, h) (λ k. set (set ws 2 (ex k)) 3 ((e ∙ ap (λ (w : ℕ). flagIn w false) (behind ws 2 3 x (omega arith))) k))
+
+    pub pull-stays : f ≡ true → hsk ≡ false → set ws 2 x ≡ rowIn ws 0 (flagOf (at ws 3) && not hsk)
+    pull-stays t h = rw (flag-is t, h) (pull-kept (flag-is t))
+
+    pub no-pull : f ≡ false → set ws 2 x ≡ rowIn ws 0 (flagOf (at ws 3) && not hsk)
+    no-pull t = rw (flag-is t) (pull-kept (flag-is t))
 
   -- A command that is being taken: its header and its place behind the words of its half byte.
   module _ (ear low : ℕ) (half : Bool) where
@@ -486,6 +510,26 @@ module _ (ws : List ℕ) where
         let past : lastNibble (queueOf (at ws 8) (at ws 9)) (replyOf (at ws 17) (at ws 18)) ≤ at ws 16 = omega (arith, h, ei, last-is) in
         rw (le-ltb (at ws 16) (lastNibble (queueOf (at ws 8) (at ws 9)) (replyOf (at ws 17) (at ws 18))) past)
         (x ∙ ap (λ (l : List ℕ). phaseIn l (SittingOut false)) (eb ∙ ap (serialIn ws) (et ∙ (λ k. finished (es k) (er k)))))
+
+-- A nibble of a read's data is of a byte of the queue.
+pub read-at : (bytes : List ℕ) (q : Queue) (n i : ℕ) → 4 ≤ i → i / 2 - 2 < n → i / 2 - 2 < held q
+    → nibbleOf (queue·byteAt bytes q (i / 2 - 2)) i ≡ nibbleIn (responseBytes (contents bytes q) (Bytes n)) i
+read-at bytes q n i h below within =
+    let size : length (take n (contents bytes q)) ≡ min n (held q) = length-data bytes q (Bytes n) in
+    let past : 2 ≤ i / 2 = omega arith in
+    let inside : i / 2 - 2 < length (take n (contents bytes q)) = omega arith in
+    sym
+    (nibble-at-place (headOf responseFormat [] (length (take n (contents bytes q)))) (take n (contents bytes q)) (endOf responseFormat (0x00 ∷ [])) i
+    ∙ ap (λ (b : ℕ). nibbleOf b i)
+    (rw (le-ltb (i / 2) 2 past, lt-ltb (i / 2 - 2) (length (take n (contents bytes q))) inside)
+    (sym (queued-at bytes q n (i / 2 - 2) (omega arith)))))
+
+pub is-read : (ws : List ℕ) → eqb (at ws 17) 3 ≡ true → replyOf (at ws 17) (at ws 18) ≡ Bytes (at ws 18 % 65536)
+is-read ws t =
+    let tag : at ws 17 ≡ 3 = eqb-true (at ws 17) 3 t in
+    let one : eqb (at ws 17) 1 ≡ false = ap (λ (k : ℕ). eqb k 1) tag in
+    let two : eqb (at ws 17) 2 ≡ false = ap (λ (k : ℕ). eqb k 2) tag in
+    rw (one, two, t)
 
 -- What a unit that is not responding leaves on the data lines.
 pub no-nibble-pulled : (ws : List ℕ) → eqb (at ws 12) 4 ≡ false → pullsNibble (loadedPhase ws) ≡ 15

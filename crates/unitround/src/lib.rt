@@ -16,6 +16,8 @@ ghost use Rattle.unitround.specs.Round.{rowIn, movedIn, sentStep};
 use header::Header;
 use line::Lines;
 use phase::Moved;
+use queue::Queue;
+use serial::Reply;
 
 // A round: the levels that the unit sees, whether its host is busy, the lent command buffer, and the bytes of its two queues.
 pub fn round(
@@ -101,8 +103,12 @@ fn dropped(words: &mut [u32; 23], hsk: bool)
 fn lowered(words: &mut [u32; 23], hsk: bool)
     ensures { λ _. ⌜ now (words .exit) ≡ rowIn (now (words .entry)) 0 (flagOf (at (now (words .entry)) 3) && not hsk) ⌝ }
 {
-    let asking = unit::still_asks(words::flag(words[3]), hsk);
-    save_row(words, 0, asking);
+    words[2] = words::with16(words[2], 0);
+    if words::flag(words[3]) {
+        if hsk {
+            words[3] = words::with_flag(words[3], false);
+        }
+    }
 }
 
 fn save_row(words: &mut [u32; 23], quiet: u16, asking: bool)
@@ -342,13 +348,40 @@ fn sent(words: &mut [u32; 23])
 fn place(words: &mut [u32; 23], input: &[u8; 256])
     ensures { λ _. ⌜ now (words .exit) ≡ sets (sets (sets (now (words .entry)) 12 (4 ∷ 1 ∷ [])) 15 (numberIn 256 (at (now (words .entry)) 15) (nibbleIn (responseBytes (contents (now (input .entry)) (queueOf (at (now (words .entry)) 8) (at (now (words .entry)) 9))) (replyOf (at (now (words .entry)) 17) (at (now (words .entry)) 18))) (at (now (words .entry)) 16)) ∷ [])) 17 (replyTag (replyOf (at (now (words .entry)) 17) 0) ∷ []) ⌝ }
 {
-    let reply = unitwords::reply(words[17], words[18]);
-    let q = unitwords::queue(words[8], words[9]);
-    let n = reply::nibble(reply, q, input, phase::wide(words[16]));
+    let n = nibble(words, input);
     let nibble = words::with8(words[15], n);
     let tag = unitwords::reply_tag_again(words[17]);
     words[12] = 4;
     words[13] = 1;
     words[15] = nibble;
     words[17] = tag;
+}
+
+// The nibble that is next.
+fn nibble(words: &[u32; 23], input: &[u8; 256]) -> u8
+    ensures { λ r. ⌜ r ≡ nibbleIn (responseBytes (contents (now (input .entry)) (queueOf (at (now (words .entry)) 8) (at (now (words .entry)) 9))) (replyOf (at (now (words .entry)) 17) (at (now (words .entry)) 18))) (at (now (words .entry)) 16) ⌝ }
+{
+    let q = unitwords::queue(words[8], words[9]);
+    let i = phase::wide(words[16]);
+    let tag = words[17];
+    let reads = tag == 3;
+    if reads {
+        return read_nibble(words::number16(words[18]), q, input, i);
+    }
+    reply::nibble(unitwords::reply(tag, words[18]), q, input, i)
+}
+
+// Nibble i of a read's response: of a byte of the queue, or beside them.
+fn read_nibble(n: u16, q: Queue, input: &[u8; 256], i: usize) -> u8
+    ensures { λ r. ⌜ r ≡ nibbleIn (responseBytes (contents (now (input .entry)) q) (Reply.Bytes n)) i ⌝ }
+{
+    if 4 <= i {
+        let j = i / 2 - 2;
+        if j < n as usize {
+            if j < q.len() {
+                return field::nibble(q.at(input, j), i);
+            }
+        }
+    }
+    reply::nibble(Reply::Bytes(n), q, input, i)
 }
