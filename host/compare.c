@@ -1,9 +1,16 @@
 /*
  * The library against the second implementation, on random input: single units and single controllers at free levels,
- * whole buses, messages and classes. After every call the answers, the pulls, every lent byte and what can be looked at
- * are compared. A difference is replayed with calls left out, as long as it stays, and what remains is printed.
+ * whole buses, messages and classes. After every call the answers, the pulls, every lent byte, some bytes around it and
+ * what can be looked at are compared. A difference is replayed with calls left out, as long as it stays, and what
+ * remains is printed.
+ *
+ * Before some calls the words of a state are garbled: the bits that are nobody's, and tags that no save makes in place
+ * of the first case's. The call must do the same, and leave what is nobody's as it is. Then words that are random
+ * altogether are stepped beside a copy in which what is nobody's differs.
  *
  *   compare [STEPS [SEED]]
+ *
+ * Compiled with -DBROKEN it takes a third number and does something wrong on purpose, which must be found (broken_by).
  */
 #include "../include/hexbus.h"
 #include "second/second.h"
@@ -43,9 +50,18 @@ static uint8_t random_byte(void)
     return (uint8_t)random_word();
 }
 
+/* What is done wrong on purpose. */
+enum broken_by { NOTHING, FORGETS_BUSY, LATE_TIME_OUT, FEEDS_OTHER_BYTE, CLEARS_NOBODYS_BITS, WRITES_PAST_A_BUFFER, LOOKS_AT_NOBODYS_BITS };
+
+#ifdef BROKEN
+static enum broken_by broken;
+#else
+static const enum broken_by broken = NOTHING;
+#endif
+
 /* ---- Calls of a trial -------------------------------------------------- */
 
-enum { MOST_UNITS = 16, MOST_CALLS = 6000, MOST_DATA = 320, ROOM = 320 };
+enum { MOST_UNITS = 16, MOST_CALLS = 6000, MOST_DATA = 320, ROOM = 320, AROUND = 16 };
 
 enum call_kind { STEP, FEED, TAKE, RAISE, SUBMIT, ACKNOWLEDGE };
 
@@ -58,6 +74,8 @@ struct call {
     uint32_t hosts;              /* a round's busy hosts, bit by bit */
     uint8_t byte;                /* fed, or the code acknowledged */
     bool wrong_data, short_room; /* a step that is lent something else */
+    bool exact_room;             /* a command buffer of just 256 bytes */
+    uint64_t garble;             /* the seed of what stands in bits that are nobody's; 0 where they stay */
     struct second_command command;
     uint32_t data_length, room;
 };
@@ -77,20 +95,47 @@ struct trial {
     struct call call[MOST_CALLS];
 };
 
+/* Lent memory, with bytes around it that nobody may write. */
+struct buffer {
+    uint8_t before[AROUND], bytes[ROOM], after[AROUND];
+};
+
+struct queue {
+    uint8_t before[AROUND], bytes[256], after[AROUND];
+};
+
+/* What a unit is lent beside its words. */
+struct memory {
+    struct buffer command;
+    struct queue input, output;
+};
+
+/* A state of the library's, and words around it. */
+struct unit_words {
+    uint32_t before[4];
+    hexbus_unit unit;
+    uint32_t after[4];
+};
+
+struct controller_words {
+    uint32_t before[4];
+    hexbus_controller controller;
+    uint32_t after[4];
+};
+
 /* Both sides of a trial. */
 struct station {
-    hexbus_unit lib;
+    struct unit_words lib;
     struct second_unit two;
-    uint8_t lib_command[ROOM], lib_input[256], lib_output[256];
-    uint8_t two_command[ROOM], two_input[256], two_output[256];
+    struct memory lib_lent, two_lent;
 };
 
 struct bench {
-    hexbus_controller lib;
+    struct controller_words lib;
     struct second_controller two;
-    uint8_t data[MOST_DATA];
+    struct buffer data, data_before;
     uint32_t data_length, room;  /* of the command that is submitted */
-    uint8_t lib_response[ROOM], two_response[ROOM];
+    struct buffer lib_response, two_response;
     struct station station[MOST_UNITS];
 };
 
@@ -105,8 +150,9 @@ static bool same(bool holds, const char *what)
     return holds;
 }
 
-static void fill(uint8_t *bytes, size_t n, uint64_t *seed)
+static void fill(void *memory, size_t n, uint64_t *seed)
 {
+    uint8_t *bytes = memory;
     uint64_t keep = random_state;
 
     random_state = *seed;
@@ -116,42 +162,234 @@ static void fill(uint8_t *bytes, size_t n, uint64_t *seed)
     random_state = keep;
 }
 
+/* ---- The words of a state ---------------------------------------------- */
+
+enum { FLAG = 1, BYTE = 0xFF, FIELD = 0xFFFF, ENTRY = 0x1FF };
+#define WHOLE UINT32_MAX
+
+enum unit_word { OPENING = 4, ACCEPTED = 5, PHASE = 12, UNIT_LINE = 13, UNIT_HALF = 14, UNIT_NIBBLE = 15, UNIT_PLACE = 16, REPLY = 17, REPLY_VALUE = 18 };
+enum unit_phase { SELECTING = 1, TAKING, ANSWERED, RESPONDING, SITTING_OUT };
+enum controller_word {
+    STAGE = 1, KIND = 2, CONTROLLER_HALF = 9, CONTROLLER_LINE = 10, CONTROLLER_NIBBLE = 11, CONTROLLER_PLACE = 12, RESPONSE = 13, LENGTH = 14,
+    QUIET = 15, ENTRIES = 16
+};
+enum controller_stage { RESTING = 1, WAITING, SENDING, LISTENING };
+
+/* A tag in a word, and the bits of the word that go with it. */
+static uint32_t of_sender(uint32_t tag)
+{
+    return tag == 1 || tag == 2 ? BYTE : 0;
+}
+
+static uint32_t of_reply(uint32_t tag)
+{
+    return tag == 1 || tag == 2 ? BYTE : tag == 3 ? FIELD : 0;
+}
+
+/* The bits of each word that a unit in these words stands in; the others are nobody's (crates/unitwords/specs/Unit.antt). */
+static void unit_bits(const uint32_t *w, uint32_t *bits)
+{
+    static const uint32_t always[HEXBUS_UNIT_WORDS] = { BYTE, FIELD, FIELD, FLAG, 3, 0, FLAG, FLAG, BYTE, FIELD, BYTE, FIELD, WHOLE };
+    static const uint32_t header[6] = { BYTE, BYTE, BYTE, FIELD, FIELD, FIELD };
+    uint32_t phase = w[PHASE];
+
+    memcpy(bits, always, sizeof always);
+    bits[ACCEPTED] = (w[OPENING] & 3u) != 0 ? BYTE : 0;
+    if (phase >= SELECTING && phase <= RESPONDING)
+        bits[UNIT_LINE] = WHOLE;
+    if (phase == SELECTING || phase == TAKING || phase == RESPONDING || phase == SITTING_OUT)
+        bits[UNIT_HALF] = FLAG;
+    if (phase == SELECTING || phase == TAKING)
+        bits[UNIT_NIBBLE] = BYTE;
+    if (phase == TAKING || phase == RESPONDING)
+        bits[UNIT_PLACE] = WHOLE;
+    if (phase == TAKING)
+        memcpy(bits + REPLY, header, sizeof header);
+    if (phase == RESPONDING)
+        bits[UNIT_NIBBLE] = of_sender(w[UNIT_LINE]);
+    if (phase == ANSWERED || phase == RESPONDING) {
+        bits[REPLY] = WHOLE;
+        bits[REPLY_VALUE] = of_reply(w[REPLY]);
+    }
+}
+
+/* The same of a controller (crates/controllerwords/specs/Controller.antt). */
+static void controller_bits(const uint32_t *w, uint32_t *bits)
+{
+    static const uint32_t frame[7] = { WHOLE, BYTE, BYTE, BYTE, FIELD, FIELD, FIELD };
+    uint32_t stage = w[STAGE];
+
+    memset(bits, 0, HEXBUS_CONTROLLER_WORDS * sizeof *bits);
+    bits[0] = FIELD;
+    bits[STAGE] = WHOLE;
+    bits[ENTRIES] = BYTE;
+    for (int i = 0; i < HEXBUS_RING_ENTRIES; i++)
+        bits[ENTRIES + 1 + i] = ENTRY;
+    if (stage >= WAITING && stage <= LISTENING)
+        memcpy(bits + KIND, frame, sizeof frame);
+    if (stage == RESTING || stage == SENDING)
+        bits[CONTROLLER_HALF] = FLAG;
+    if (stage == SENDING || stage == LISTENING)
+        bits[CONTROLLER_LINE] = WHOLE;
+    if (stage == SENDING) {
+        bits[CONTROLLER_NIBBLE] = of_sender(w[CONTROLLER_LINE]);
+        bits[CONTROLLER_PLACE] = WHOLE;
+    }
+    if (stage != LISTENING)
+        return;
+    bits[QUIET] = FIELD;
+    bits[RESPONSE] = WHOLE;
+    if (w[RESPONSE] == 2)
+        return;
+    bits[CONTROLLER_NIBBLE] = BYTE;
+    bits[LENGTH] = FIELD;
+    if (w[RESPONSE] != 1) {
+        bits[CONTROLLER_HALF] = FLAG;
+        bits[CONTROLLER_PLACE] = WHOLE;
+    }
+}
+
+/* Words with their kind, for what is the same for both. */
+struct words {
+    uint32_t *word;
+    size_t n;
+    void (*bits)(const uint32_t *, uint32_t *);
+};
+
+static struct words words_of(struct unit_words *u)
+{
+    return (struct words){ u->unit.word, HEXBUS_UNIT_WORDS, unit_bits };
+}
+
+static struct words controller_words_of(struct controller_words *c)
+{
+    return (struct words){ c->controller.word, HEXBUS_CONTROLLER_WORDS, controller_bits };
+}
+
+/* A tag of the first case becomes one that no save makes. */
+static void garble_tag(uint32_t *word, uint32_t last)
+{
+    if (*word == 0 && one_in(2))
+        *word = last + 1 + below(UINT32_MAX - last);
+}
+
+static void garble_tags(struct words w)
+{
+    if (w.n == HEXBUS_UNIT_WORDS) {
+        uint32_t phase = w.word[PHASE];
+
+        garble_tag(&w.word[PHASE], SITTING_OUT);
+        if (phase >= SELECTING && phase <= RESPONDING)
+            garble_tag(&w.word[UNIT_LINE], 2);
+        if (phase == ANSWERED || phase == RESPONDING)
+            garble_tag(&w.word[REPLY], 4);
+    } else {
+        uint32_t stage = w.word[STAGE];
+
+        garble_tag(&w.word[STAGE], LISTENING);
+        if (stage >= WAITING && stage <= LISTENING)
+            garble_tag(&w.word[KIND], 2);
+        if (stage == SENDING || stage == LISTENING)
+            garble_tag(&w.word[CONTROLLER_LINE], 2);
+        if (stage == LISTENING)
+            garble_tag(&w.word[RESPONSE], 2);
+    }
+}
+
+static void garble(struct words w, uint64_t seed)
+{
+    uint32_t bits[HEXBUS_CONTROLLER_WORDS];
+    uint64_t keep = random_state;
+
+    if (seed == 0)
+        return;
+    random_state = seed;
+    w.bits(w.word, bits);
+    for (size_t i = 0; i < w.n; i++)
+        if (bits[i] != WHOLE)
+            w.word[i] = (w.word[i] & bits[i]) | (random_word() & ~bits[i]);
+    garble_tags(w);
+    random_state = keep;
+}
+
+/* What a call may have done to words: nothing where it was refused, else nothing to bits that are nobody's now. */
+static bool kept(const uint32_t *before, struct words w, bool accepted)
+{
+    uint32_t bits[HEXBUS_CONTROLLER_WORDS];
+
+    if (!accepted)
+        return same(memcmp(before, w.word, w.n * sizeof *before) == 0, "a refused call changes words");
+    w.bits(w.word, bits);
+    for (size_t i = 0; i < w.n; i++)
+        if (!same(((before[i] ^ w.word[i]) & ~bits[i]) == 0, "bits that are nobody's"))
+            return false;
+    return true;
+}
+
+/* New words: whole, whatever stood there. */
+static bool clean(struct words w)
+{
+    uint32_t bits[HEXBUS_CONTROLLER_WORDS];
+
+    w.bits(w.word, bits);
+    for (size_t i = 0; i < w.n; i++)
+        if (!same((w.word[i] & ~bits[i]) == 0, "bits that are nobody's, of a new state"))
+            return false;
+    return true;
+}
+
+static bool kept_around(const uint32_t *before, const uint32_t *after)
+{
+    static const uint32_t none[4];
+
+    return same(memcmp(before, none, sizeof none) == 0 && memcmp(after, none, sizeof none) == 0, "words around a state");
+}
+
 /* Whether every party could be made; one that was refused takes no calls. */
 static bool all_made;
+
+static bool made_in(struct words w, const uint32_t *before, uint32_t refusal, int other, const char *what)
+{
+    all_made = all_made && refusal == 0;
+    return same(refusal == (uint32_t)other, what)
+        && (refusal == 0 ? clean(w) : same(memcmp(before, w.word, w.n * sizeof *before) == 0, "a refused making changes words"));
+}
 
 static bool prepare(const struct trial *t, struct bench *b)
 {
     uint64_t seed = t->memory;
     bool ok = true;
-    uint32_t refusal;
+    uint32_t before[HEXBUS_CONTROLLER_WORDS];
 
     all_made = true;
     memset(b, 0, sizeof *b);
-    fill(b->data, sizeof b->data, &seed);
+    fill(&b->data, sizeof b->data, &seed);
     if ((t->memory & 7u) != 0) {
-        b->data[0] = (uint8_t)(t->memory >> 3 & 0x7Fu);
-        b->data[1] = 0;
-        b->data[2] = (uint8_t)((t->memory >> 10 & 3u) != 0 ? 0xC0 : t->memory >> 12 & 0xC0u);
+        b->data.bytes[0] = (uint8_t)(t->memory >> 3 & 0x7Fu);
+        b->data.bytes[1] = 0;
+        b->data.bytes[2] = (uint8_t)((t->memory >> 10 & 3u) != 0 ? 0xC0 : t->memory >> 12 & 0xC0u);
     }
-    fill(b->lib_response, sizeof b->lib_response, &seed);
-    memcpy(b->two_response, b->lib_response, sizeof b->two_response);
+    b->data_before = b->data;
+    fill(&b->lib_response, sizeof b->lib_response, &seed);
+    b->two_response = b->lib_response;
     if (t->kind != ONE_UNIT) {
-        refusal = hexbus_controller_make(&b->lib, t->timeout);
-        all_made = refusal == 0;
-        ok = same(refusal == (uint32_t)second_controller_make(&b->two, t->timeout), "making a controller");
+        struct words w = controller_words_of(&b->lib);
+
+        fill(before, sizeof before, &seed);
+        memcpy(w.word, before, w.n * sizeof *before);
+        ok = made_in(w, before, hexbus_controller_make(&b->lib.controller, t->timeout),
+                     second_controller_make(&b->two, broken == LATE_TIME_OUT ? t->timeout + 1 : t->timeout), "making a controller");
     }
     for (unsigned i = 0; i < t->units; i++) {
         struct station *s = &b->station[i];
+        struct words w = words_of(&s->lib);
 
-        fill(s->lib_command, sizeof s->lib_command, &seed);
-        fill(s->lib_input, sizeof s->lib_input, &seed);
-        fill(s->lib_output, sizeof s->lib_output, &seed);
-        memcpy(s->two_command, s->lib_command, sizeof s->two_command);
-        memcpy(s->two_input, s->lib_input, sizeof s->two_input);
-        memcpy(s->two_output, s->lib_output, sizeof s->two_output);
-        refusal = hexbus_unit_make(&s->lib, t->code[i], t->retry[i]);
-        all_made = all_made && refusal == 0;
-        ok = same(refusal == (uint32_t)second_unit_make(&s->two, t->code[i], t->retry[i]), "making a unit") && ok;
+        fill(&s->lib_lent, sizeof s->lib_lent, &seed);
+        s->two_lent = s->lib_lent;
+        fill(before, sizeof before, &seed);
+        memcpy(w.word, before, w.n * sizeof *before);
+        ok = made_in(w, before, hexbus_unit_make(&s->lib.unit, t->code[i], t->retry[i]),
+                     second_unit_make(&s->two, t->code[i], t->retry[i]), "making a unit") && ok;
     }
     return ok;
 }
@@ -165,93 +403,164 @@ static uint32_t packed(struct second_pulls p)
 
 static bool same_unit(const struct station *s)
 {
-    hexbus_unit_looks l;
+    struct {
+        hexbus_unit_looks l;
+        uint32_t after;
+    } looks = { .after = 0xEEEEEEEE };
+    const hexbus_unit_looks *l = &looks.l;
     struct second_unit_view v = second_unit_look(&s->two);
 
-    hexbus_unit_look(&s->lib, &l);
-    return same(hexbus_unit_pulls(&s->lib) == packed(second_unit_pulls(&s->two)), "a unit's pulls")
-        && same(l.opening == (uint32_t)v.mode, "a unit's mode")
-        && same(l.accepted_length == v.accepted, "a unit's accepted length")
-        && same(l.input_count == v.input_count, "a unit's input count")
-        && same(l.output_count == v.output_count, "a unit's output count")
-        && same(l.enabled == v.enabled, "a unit's enabling")
-        && same(l.requesting == v.requesting, "a unit's request")
-        && same(memcmp(s->lib_command, s->two_command, ROOM) == 0, "a unit's command buffer")
-        && same(memcmp(s->lib_input, s->two_input, 256) == 0, "a unit's input bytes")
-        && same(memcmp(s->lib_output, s->two_output, 256) == 0, "a unit's output bytes");
+    hexbus_unit_look(&s->lib.unit, &looks.l);
+    return same(hexbus_unit_pulls(&s->lib.unit) == packed(second_unit_pulls(&s->two)), "a unit's pulls")
+        && same(l->opening == (uint32_t)v.mode, "a unit's mode")
+        && same(l->accepted_length == v.accepted, "a unit's accepted length")
+        && same(l->input_count == v.input_count, "a unit's input count")
+        && same(l->output_count == v.output_count, "a unit's output count")
+        && same(l->enabled == v.enabled, "a unit's enabling")
+        && same(l->requesting == v.requesting, "a unit's request")
+        && same(looks.after == 0xEEEEEEEE, "a word behind a unit's looks")
+        && kept_around(s->lib.before, s->lib.after)
+        && same(memcmp(&s->lib_lent.command, &s->two_lent.command, sizeof s->lib_lent.command) == 0, "a unit's command buffer")
+        && same(memcmp(&s->lib_lent.input, &s->two_lent.input, sizeof s->lib_lent.input) == 0, "a unit's input bytes")
+        && same(memcmp(&s->lib_lent.output, &s->two_lent.output, sizeof s->lib_lent.output) == 0, "a unit's output bytes");
+}
+
+/* The entries, and three places past the last of them. */
+static bool same_ring(const hexbus_controller *c, const struct second_controller_view *v)
+{
+    for (unsigned i = 0; i < v->ring_count; i++)
+        if (!same(hexbus_controller_entry(c, i) == v->ring[i].code + (v->ring[i].marked ? HEXBUS_MARK : 0u), "the ring"))
+            return false;
+    return same(hexbus_controller_entry(c, v->ring_count) == 0 && hexbus_controller_entry(c, HEXBUS_RING_ENTRIES) == 0
+                && hexbus_controller_entry(c, SIZE_MAX) == 0, "past the ring's last");
 }
 
 static bool same_controller(const struct bench *b)
 {
     struct second_controller_view v = second_controller_look(&b->two);
-    hexbus_controller_looks l;
+    struct {
+        hexbus_controller_looks l;
+        uint32_t after;
+    } looks = { .after = 0xEEEEEEEE };
+    const hexbus_controller_looks *l = &looks.l;
 
-    hexbus_controller_look(&b->lib, &l);
-    if (!(same(hexbus_controller_pulls(&b->lib) == packed(second_controller_pulls(&b->two)), "the controller's pulls")
-          && same(l.may_start == v.may_start, "may start")
-          && same(l.submitted == v.submitted, "submitted")
-          && same(l.entries == v.ring_count, "the ring's count")
-          && same(memcmp(b->lib_response, b->two_response, ROOM) == 0, "the response buffer")))
-        return false;
-    for (unsigned i = 0; i < v.ring_count; i++)
-        if (!same(hexbus_controller_entry(&b->lib, i) == v.ring[i].code + (v.ring[i].marked ? HEXBUS_MARK : 0u), "the ring"))
-            return false;
-    return true;
+    hexbus_controller_look(&b->lib.controller, &looks.l);
+    return same(hexbus_controller_pulls(&b->lib.controller) == packed(second_controller_pulls(&b->two)), "the controller's pulls")
+        && same(l->may_start == v.may_start, "may start")
+        && same(l->submitted == v.submitted, "submitted")
+        && same(l->entries == v.ring_count, "the ring's count")
+        && same(looks.after == 0xEEEEEEEE, "a word behind the controller's looks")
+        && kept_around(b->lib.before, b->lib.after)
+        && same(memcmp(&b->lib_response, &b->two_response, sizeof b->lib_response) == 0, "the response buffer")
+        && same(memcmp(&b->data, &b->data_before, sizeof b->data) == 0, "the data")
+        && same_ring(&b->lib.controller, &v);
 }
 
 /* ---- One call on both sides -------------------------------------------- */
 
+/* What stands in a unit's words before a call, garbled first where the call says so: nothing that can be looked at changes. */
+static bool ready_unit(struct station *s, uint64_t seed, uint32_t *before)
+{
+    garble(words_of(&s->lib), seed);
+    memcpy(before, s->lib.unit.word, sizeof s->lib.unit.word);
+    return seed == 0 || same_unit(s);
+}
+
+static bool ready_controller(struct bench *b, uint64_t seed, uint32_t *before)
+{
+    garble(controller_words_of(&b->lib), seed);
+    memcpy(before, b->lib.controller.word, sizeof b->lib.controller.word);
+    return seed == 0 || same_controller(b);
+}
+
 static bool step_unit(struct station *s, const struct call *c, bool bav, bool hsk, uint8_t nibble, bool busy)
 {
     struct second_levels seen = { bav, hsk, nibble };
-    size_t room = c->short_room ? 255 : ROOM;
-    uint32_t one = hexbus_unit_step(&s->lib, bav, hsk, nibble, busy, s->lib_command, room, s->lib_input, s->lib_output);
-    int two = second_unit_step(&s->two, seen, busy, s->two_command, room, s->two_input, s->two_output);
+    size_t room = c->short_room ? 255 : c->exact_room ? 256 : ROOM;
+    struct memory *one = &s->lib_lent, *two = &s->two_lent;
+    uint32_t before[HEXBUS_UNIT_WORDS], answer;
+    int other;
 
-    return same(one == (uint32_t)two, "a unit's step") && same_unit(s);
+    if (!ready_unit(s, c->garble, before))
+        return false;
+    answer = hexbus_unit_step(&s->lib.unit, bav, hsk, nibble, busy, one->command.bytes, room, one->input.bytes, one->output.bytes);
+    other = second_unit_step(&s->two, seen, busy && broken != FORGETS_BUSY, two->command.bytes, room, two->input.bytes, two->output.bytes);
+    if (broken == CLEARS_NOBODYS_BITS)
+        s->lib.unit.word[3] &= FLAG;
+    if (broken == WRITES_PAST_A_BUFFER && (hexbus_unit_pulls(&s->lib.unit) & HEXBUS_HSK) != 0)
+        one->input.after[0]++;
+    return same(answer == (uint32_t)other, "a unit's step") && kept(before, words_of(&s->lib), answer == 0) && same_unit(s);
 }
 
 static bool step_controller(struct bench *b, const struct call *c, bool bav, bool hsk, uint8_t nibble, bool busy)
 {
+    static char told[160];
     struct second_levels seen = { bav, hsk, nibble };
     uint32_t n = c->wrong_data ? b->data_length + 1 : b->data_length;
     uint32_t room = c->short_room && b->room > 0 ? b->room - 1 : b->room;
-    hexbus_event e;
-    uint32_t one = hexbus_controller_step(&b->lib, bav, hsk, nibble, busy, b->data, n, b->lib_response, room, &e);
-    struct second_event two = second_controller_step(&b->two, seen, busy, b->data, n, b->two_response, room);
+    struct {
+        hexbus_event e;
+        uint32_t after;
+    } told_in = { { 7, 8, 9 }, 0xEEEEEEEE };
+    const hexbus_event *e = &told_in.e;
+    uint32_t before[HEXBUS_CONTROLLER_WORDS], answer;
+    struct second_event two;
 
-    static char told[160];
-
-    snprintf(told, sizeof told, "what the controller tells: %u %u %u, the second implementation %u %u %u", (unsigned)e.kind, (unsigned)e.value,
-             (unsigned)e.count, (unsigned)two.what, (unsigned)two.value, (unsigned)two.count);
-    return same(one == two.refusal, "the controller's step")
-        && same(one != 0 || (e.kind == two.what && e.value == two.value && e.count == two.count), told)
+    if (!ready_controller(b, c->garble, before))
+        return false;
+    answer = hexbus_controller_step(&b->lib.controller, bav, hsk, nibble, busy, b->data.bytes, n, b->lib_response.bytes, room, &told_in.e);
+    two = second_controller_step(&b->two, seen, busy, b->data.bytes, n, b->two_response.bytes, room);
+    if (answer == 0 && (e->kind != two.what || e->value != two.value || e->count != two.count)) {
+        snprintf(told, sizeof told, "what the controller tells: %u %u %u, the second implementation %u %u %u", (unsigned)e->kind,
+                 (unsigned)e->value, (unsigned)e->count, (unsigned)two.what, (unsigned)two.value, (unsigned)two.count);
+        return same(false, told);
+    }
+    return same(answer == two.refusal, "the controller's step")
+        && same(answer == 0 || (e->kind == 7 && e->value == 8 && e->count == 9), "the event of a refused step")
+        && same(told_in.after == 0xEEEEEEEE, "a word behind the event")
+        && kept(before, controller_words_of(&b->lib), answer == 0)
         && same_controller(b);
+}
+
+/* A command's fields in words: the bits past a field's width are not looked at, nor is the data's length. */
+static hexbus_command in_words(const struct second_command *k, uint64_t seed)
+{
+    hexbus_command h = { k->device, k->command, k->logical_unit, k->record, k->buffer_length, (uint32_t)seed };
+
+    h.device |= (uint32_t)seed << 8;
+    h.command |= (uint32_t)(seed >> 8) << 8;
+    h.logical_unit |= (uint32_t)(seed >> 16) << 8;
+    h.record_number |= (uint32_t)(seed >> 24) << 16;
+    h.buffer_length |= (uint32_t)(seed >> 32) << 16;
+    return h;
 }
 
 static bool submit(struct bench *b, const struct call *c)
 {
-    hexbus_command k = {
-        c->command.device, c->command.command, c->command.logical_unit, c->command.record, c->command.buffer_length, 0
-    };
-    uint32_t one = hexbus_controller_submit(&b->lib, &k, plenty, c->data_length, plenty, c->room);
-    int two = second_submit(&b->two, &c->command, c->data_length, c->room);
+    hexbus_command k = in_words(&c->command, c->garble), k_before = k;
+    uint32_t before[HEXBUS_CONTROLLER_WORDS], one;
+    int two;
 
+    if (!ready_controller(b, c->garble, before))
+        return false;
+    one = hexbus_controller_submit(&b->lib.controller, &k, plenty, c->data_length, plenty, c->room);
+    two = second_submit(&b->two, &c->command, c->data_length, c->room);
     if (one == 0) {
         b->data_length = c->data_length;
         b->room = c->room;
     }
-    return same(one == (uint32_t)two, "submitting") && same_controller(b);
+    return same(one == (uint32_t)two, "submitting") && same(memcmp(&k, &k_before, sizeof k) == 0, "the fields of a submitted command")
+        && kept(before, controller_words_of(&b->lib), one == 0) && same_controller(b);
 }
 
 /* A round of the bus: each party sees the levels left by all pulls of the round before. */
 static bool round_of(const struct trial *t, struct bench *b, const struct call *c)
 {
-    uint32_t all = hexbus_controller_pulls(&b->lib);
+    uint32_t all = hexbus_controller_pulls(&b->lib.controller);
     uint32_t nibble = all & 15u, lines = all & 48u;
 
     for (unsigned i = 0; i < t->units; i++) {
-        uint32_t p = hexbus_unit_pulls(&b->station[i].lib);
+        uint32_t p = hexbus_unit_pulls(&b->station[i].lib.unit);
 
         nibble &= p & 15u;
         lines |= p & 48u;
@@ -262,11 +571,44 @@ static bool round_of(const struct trial *t, struct bench *b, const struct call *
     return step_controller(b, c, (lines & 32u) != 0, (lines & 16u) != 0, (uint8_t)nibble, c->busy);
 }
 
+/* Feeding, taking and raising. */
+static bool call_unit(struct station *s, const struct call *c)
+{
+    uint32_t before[HEXBUS_UNIT_WORDS], one, two;
+    uint8_t byte = 0;
+
+    if (!ready_unit(s, c->garble, before))
+        return false;
+    switch (c->kind) {
+    case FEED:
+        one = hexbus_unit_feed(&s->lib.unit, s->lib_lent.input.bytes, c->byte);
+        two = (uint32_t)second_unit_feed(&s->two, s->two_lent.input.bytes, broken == FEEDS_OTHER_BYTE ? (uint8_t)~c->byte : c->byte);
+        return same(one == two, "feeding") && kept(before, words_of(&s->lib), one == 0) && same_unit(s);
+    case TAKE:
+        one = hexbus_unit_take(&s->lib.unit, s->lib_lent.output.bytes);
+        two = second_unit_take(&s->two, s->two_lent.output.bytes, &byte) ? byte : HEXBUS_NO_BYTE;
+        return same(one == two, "taking") && kept(before, words_of(&s->lib), one != HEXBUS_NO_BYTE) && same_unit(s);
+    default:
+        one = hexbus_unit_raise(&s->lib.unit);
+        two = (uint32_t)second_unit_raise(&s->two);
+        return same(one == two, "raising") && kept(before, words_of(&s->lib), one == 0) && same_unit(s);
+    }
+}
+
+static bool acknowledge(struct bench *b, const struct call *c)
+{
+    uint32_t before[HEXBUS_CONTROLLER_WORDS], one;
+
+    if (!ready_controller(b, c->garble, before))
+        return false;
+    one = hexbus_controller_acknowledge(&b->lib.controller, c->byte);
+    return same(one == (uint32_t)second_acknowledge(&b->two, c->byte), "acknowledging")
+        && kept(before, controller_words_of(&b->lib), one == 0) && same_controller(b);
+}
+
 static bool perform(const struct trial *t, struct bench *b, const struct call *c)
 {
     struct station *s = &b->station[c->at];
-    uint8_t byte = 0;
-    uint32_t taken;
 
     switch (c->kind) {
     case STEP:
@@ -275,21 +617,12 @@ static bool perform(const struct trial *t, struct bench *b, const struct call *c
         if (t->kind == ONE_CONTROLLER)
             return step_controller(b, c, c->bav, c->hsk, c->nibble, c->busy);
         return round_of(t, b, c);
-    case FEED:
-        return same(hexbus_unit_feed(&s->lib, s->lib_input, c->byte)
-                    == (uint32_t)second_unit_feed(&s->two, s->two_input, c->byte), "feeding") && same_unit(s);
-    case TAKE:
-        taken = hexbus_unit_take(&s->lib, s->lib_output);
-        if (second_unit_take(&s->two, s->two_output, &byte))
-            return same(taken == byte, "taking") && same_unit(s);
-        return same(taken == HEXBUS_NO_BYTE, "taking nothing") && same_unit(s);
-    case RAISE:
-        return same(hexbus_unit_raise(&s->lib) == (uint32_t)second_unit_raise(&s->two), "raising") && same_unit(s);
     case SUBMIT:
         return submit(b, c);
+    case ACKNOWLEDGE:
+        return acknowledge(b, c);
     default:
-        return same(hexbus_controller_acknowledge(&b->lib, c->byte)
-                    == (uint32_t)second_acknowledge(&b->two, c->byte), "acknowledging") && same_controller(b);
+        return call_unit(s, c);
     }
 }
 
@@ -452,7 +785,7 @@ static void partner_clear(struct partner *p)
 
 static void unit_step(const struct trial *t, const struct bench *b, struct partner *p, struct call *c)
 {
-    uint32_t pulls = hexbus_unit_pulls(&b->station[0].lib);
+    uint32_t pulls = hexbus_unit_pulls(&b->station[0].lib.unit);
     bool hsk_low = p->hsk || (pulls & 16u) != 0;
 
     c->kind = STEP;
@@ -482,7 +815,7 @@ static void unit_step(const struct trial *t, const struct bench *b, struct partn
 
 static void controller_step(const struct trial *t, const struct bench *b, struct partner *p, struct call *c)
 {
-    uint32_t pulls = hexbus_controller_pulls(&b->lib);
+    uint32_t pulls = hexbus_controller_pulls(&b->lib.controller);
     bool hsk_low = p->hsk || (pulls & 16u) != 0;
     bool frame = (pulls & 32u) != 0;
     size_t whole = 2u * (9u + (size_t)p->head[7] + 256u * p->head[8]);
@@ -534,6 +867,8 @@ static void random_call(const struct trial *t, const struct bench *b, struct par
     uint32_t pick = below(t->kind == A_BUS ? 60 : 80);
 
     memset(c, 0, sizeof *c);
+    c->garble = one_in(4) ? ((uint64_t)random_word() << 32) + random_word() : 0;
+    c->exact_room = one_in(2);
     c->at = (uint8_t)(t->units > 0 ? below(t->units) : 0);
     c->byte = random_byte();
     if (t->kind != ONE_CONTROLLER && t->units > 0 && (pick < 3 || (t->eager && pick >= 40 && pick < 44))) {
@@ -581,6 +916,8 @@ static long replay(const struct trial *t)
 
 static void print_call(const struct call *c)
 {
+    if (c->garble != 0)
+        printf("garbled by %" PRIx64 ": ", c->garble);
     switch (c->kind) {
     case STEP:
         printf("step bav %d hsk %d nibble %u busy %d hosts %" PRIx32 "%s%s\n", c->bav, c->hsk, c->nibble, c->busy, c->hosts,
@@ -604,27 +941,43 @@ static void print_call(const struct call *c)
     }
 }
 
-/* Calls are left out as long as a difference stays. */
+static struct trial less;
+
+/* Whether a difference stays in `less`: then that is the trial. */
+static bool still_differs(struct trial *t)
+{
+    long first = replay(&less);
+
+    if (first < 0)
+        return false;
+    *t = less;
+    t->calls = t->calls == 0 ? 0 : (size_t)first + 1;
+    return true;
+}
+
+/* Calls are left out as long as a difference stays, and words are not garbled where it stays without. */
 static void shrink(struct trial *t, long first)
 {
-    static struct trial less;
+    size_t before;
 
-    t->calls = (size_t)first + 1;
-    for (size_t part = t->calls / 2; part > 0; part /= 2)
-        for (size_t from = 0; from + part <= t->calls;) {
-            long still;
-
-            less = *t;
-            memmove(&less.call[from], &less.call[from + part], (less.calls - from - part) * sizeof less.call[0]);
-            less.calls -= part;
-            still = replay(&less);
-            if (still >= 0) {
-                *t = less;
-                t->calls = (size_t)still + 1;
-            } else {
-                from += part;
+    t->calls = t->calls == 0 ? 0 : (size_t)first + 1;
+    do {
+        before = t->calls;
+        for (size_t part = t->calls > 1 ? t->calls / 2 : 1; part > 0; part /= 2)
+            for (size_t from = 0; from + part <= t->calls;) {
+                less = *t;
+                memmove(&less.call[from], &less.call[from + part], (less.calls - from - part) * sizeof less.call[0]);
+                less.calls -= part;
+                if (less.calls == 0 || !still_differs(t))
+                    from += part;
             }
-        }
+    } while (t->calls < before);
+    for (size_t i = 0; i < t->calls; i++) {
+        less = *t;
+        less.call[i].garble = 0;
+        if (t->call[i].garble != 0)
+            still_differs(t);
+    }
     replay(t);
 }
 
@@ -640,6 +993,7 @@ static int report(struct trial *t, long first)
         printf("controller timeout %" PRIu32 "\n", t->timeout);
     for (size_t i = 0; i < t->calls; i++)
         print_call(&t->call[i]);
+    printf("%zu calls\n", t->calls);
     return 1;
 }
 
@@ -660,14 +1014,14 @@ static void setup(struct trial *t, enum trial_kind kind)
 {
     t->kind = kind;
     t->units = kind == ONE_UNIT ? 1 : kind == ONE_CONTROLLER ? 0 : one_in(5) ? below(MOST_UNITS + 1) : 1 + below(4);
-    t->timeout = one_in(30) ? random_word() % 70000 : one_in(4) ? 8 + below(300) : 8 + below(20);
+    t->timeout = one_in(30) ? random_word() >> below(32) : one_in(4) ? 8 + below(300) : 8 + below(20);
     t->memory = ((uint64_t)random_word() << 32) + random_word();
     t->wild = one_in(4);
     t->eager = one_in(5);
     t->calls = 0;
     for (unsigned i = 0; i < t->units; i++) {
         t->code[i] = one_in(200) ? 0 : new_code(t, i);
-        t->retry[i] = one_in(100) ? random_word() % 70000 : 4 + below(30);
+        t->retry[i] = one_in(100) ? random_word() >> below(32) : 4 + below(30);
     }
 }
 
@@ -708,53 +1062,213 @@ static int fails(const char *what)
     return 1;
 }
 
-static int message_trial(void)
+/* The words that a read is given: it fills them, and a refused one leaves them. */
+static bool read_as(const hexbus_command *r, const hexbus_command *before, uint32_t refusal, const struct second_command *s, size_t n)
 {
-    struct second_command k = random_command(&(struct trial){ .units = 0 });
-    hexbus_command h = { k.device, k.command, k.logical_unit, k.record, k.buffer_length, 0 };
-    uint8_t data[MOST_DATA], one[400], two[400], status = random_byte();
-    uint32_t n = random_length(), room = one_in(3) ? below(400) : 400, length;
-    size_t i;
+    if (refusal != 0)
+        return memcmp(r, before, sizeof *r) == 0;
+    return r->device == s->device && r->command == s->command && r->logical_unit == s->logical_unit && r->record_number == s->record
+        && r->buffer_length == s->buffer_length && r->data_length == n;
+}
 
-    for (i = 0; i < sizeof data; i++)
-        data[i] = random_byte();
-    for (i = 0; i < sizeof one; i++)
-        one[i] = two[i] = random_byte();
-    if (hexbus_command_write(&h, data, n, one, room) != (uint32_t)second_write_command(&k, data, n, two, room)
-        || memcmp(one, two, sizeof one) != 0)
+static int command_trial(const uint8_t *data, uint32_t n, struct buffer *one, struct buffer *two, uint32_t room)
+{
+    struct second_command k = random_command(&(struct trial){ .units = 0 }), s = { 0 };
+    hexbus_command h = in_words(&k, ((uint64_t)random_word() << 32) + random_word()), r = { 1, 2, 3, 4, 5, 6 }, r_before = r;
+    struct second_part part = { 9, 0 };
+    size_t i = below(2 * (9 + n) + 3), length = one_in(2) ? 9 + n : below(ROOM);
+    uint32_t answer;
+
+    if (hexbus_command_write(&h, data, n, one->bytes, room) != (uint32_t)second_write_command(&k, data, n, two->bytes, room)
+        || memcmp(one, two, sizeof *one) != 0)
         return fails("writing a command");
-    i = below(2 * (9 + n) + 3);
     if (hexbus_command_nibble(&h, data, n, i) != second_command_nibble(&k, data, n, i))
         return fails("a command's nibble");
-    length = one_in(2) ? 9 + n : below(400);
-    {
-        hexbus_command r = { 0 };
-        struct second_command s = { 0 };
-        struct second_part part = { 0, 0 };
-        uint32_t a = hexbus_command_read(one, length, &r);
-        int b = second_read_command(one, length, &s, &part);
+    length = length > ROOM ? ROOM : length;
+    answer = hexbus_command_read(one->bytes, length, &r);
+    if (answer != (uint32_t)second_read_command(one->bytes, length, &s, &part) || !read_as(&r, &r_before, answer, &s, part.length)
+        || part.offset != HEXBUS_COMMAND_HEAD)
+        return fails("reading a command");
+    return 0;
+}
 
-        if (a != (uint32_t)b || (a == 0 && (r.device != s.device || r.command != s.command || r.logical_unit != s.logical_unit
-                                            || r.record_number != s.record || r.buffer_length != s.buffer_length
-                                            || r.data_length != part.length || part.offset != 9)))
-            return fails("reading a command");
-    }
-    if (hexbus_response_write(status, data, n, one, room) != (uint32_t)second_write_response(data, n, status, two, room)
-        || memcmp(one, two, sizeof one) != 0)
+static int response_trial(const uint8_t *data, uint32_t n, struct buffer *one, struct buffer *two, uint32_t room)
+{
+    hexbus_response r = { 1, 2 };
+    struct second_part part = { 2, 0 };
+    uint8_t status = random_byte(), s = 0;
+    size_t i = below(2 * (3 + n) + 3), length = one_in(2) ? 3 + n : below(ROOM);
+    uint32_t answer;
+
+    if (hexbus_response_write(status, data, n, one->bytes, room) != (uint32_t)second_write_response(data, n, status, two->bytes, room)
+        || memcmp(one, two, sizeof *one) != 0)
         return fails("writing a response");
-    i = below(2 * (3 + n) + 3);
     if (hexbus_response_nibble(status, data, n, i) != second_response_nibble(data, n, status, i))
         return fails("a response's nibble");
-    length = one_in(2) ? 3 + n : below(400);
-    {
-        uint8_t s = 0;
-        struct second_part part = { 0, 0 };
-        hexbus_response r = { 0 };
-        uint32_t a = hexbus_response_read(one, length, &r);
-        int b = second_read_response(one, length, &s, &part);
+    length = length > ROOM ? ROOM : length;
+    answer = hexbus_response_read(one->bytes, length, &r);
+    if (answer != (uint32_t)second_read_response(one->bytes, length, &s, &part) || part.offset != HEXBUS_RESPONSE_HEAD
+        || (answer == 0 ? r.status != s || r.data_length != part.length : r.status != 1 || r.data_length != 2))
+        return fails("reading a response");
+    return 0;
+}
 
-        if (a != (uint32_t)b || (a == 0 && (r.status != s || r.data_length != part.length || part.offset != 2)))
-            return fails("reading a response");
+/* Data up to 300 bytes, and at times so much that it may not be written; past the room nothing changes either way. */
+static int message_trial(void)
+{
+    static uint8_t data[65536 + 16];
+    struct buffer one, two;
+    uint32_t n = one_in(50) ? 65530 + below(16) : random_length(), room = one_in(3) ? below(ROOM + 1) : ROOM;
+    uint64_t seed = ((uint64_t)random_word() << 32) + random_word();
+
+    fill(data, MOST_DATA, &seed);
+    fill(&one, sizeof one, &seed);
+    two = one;
+    return command_trial(data, n, &one, &two, room) != 0 || response_trial(data, n, &one, &two, room) != 0;
+}
+
+/* ---- Words that no save makes ------------------------------------------ */
+
+/* Random words: tags of every case and of none, numbers on both sides of what a state can hold. */
+static void random_words(struct words w)
+{
+    for (size_t i = 0; i < w.n; i++)
+        w.word[i] = one_in(4) ? random_word() : one_in(2) ? below(6) : below(600);
+    if (w.n == HEXBUS_UNIT_WORDS)
+        w.word[PHASE] = one_in(8) ? random_word() : below(6);
+    else
+        w.word[STAGE] = one_in(8) ? random_word() : below(5);
+}
+
+/* Two states in words of which one differs from the other in what is nobody's alone. */
+static bool same_words(struct words a, struct words b)
+{
+    uint32_t bits[HEXBUS_CONTROLLER_WORDS];
+
+    a.bits(a.word, bits);
+    for (size_t i = 0; i < a.n; i++)
+        if (!same(((a.word[i] ^ b.word[i]) & bits[i]) == 0, "what is done to words that no save makes"))
+            return false;
+    return true;
+}
+
+static bool garbage_unit(void)
+{
+    static struct memory one, two;
+    struct unit_words u = { .before = { 0 } }, v;
+    uint32_t before[HEXBUS_UNIT_WORDS], before_v[HEXBUS_UNIT_WORDS], first, answer;
+    uint64_t seed = ((uint64_t)random_word() << 32) + random_word();
+    hexbus_unit_looks l, m;
+
+    fill(&one, sizeof one, &seed);
+    two = one;
+    random_words(words_of(&u));
+    v = u;
+    garble(words_of(&v), seed | 1);
+    if (broken == LOOKS_AT_NOBODYS_BITS)
+        v.unit.word[3] ^= FLAG;
+    for (int i = 0; i < 16; i++) {
+        bool bav = !one_in(8), hsk = one_in(2), busy = one_in(4);
+        uint8_t nibble = (uint8_t)below(17), byte = random_byte();
+        size_t room = one_in(20) ? 255 : 256;
+
+        memcpy(before, u.unit.word, sizeof before);
+        memcpy(before_v, v.unit.word, sizeof before_v);
+        switch (below(12)) {
+        case 0:
+            first = hexbus_unit_feed(&u.unit, one.input.bytes, byte);
+            answer = hexbus_unit_feed(&v.unit, two.input.bytes, byte);
+            break;
+        case 1:
+            first = hexbus_unit_take(&u.unit, one.output.bytes) ^ HEXBUS_NO_BYTE;
+            answer = hexbus_unit_take(&v.unit, two.output.bytes) ^ HEXBUS_NO_BYTE;
+            if (!same(first == answer, "taking from words that no save makes"))
+                return false;
+            first = answer = first != 0 ? 0 : 1;
+            break;
+        case 2:
+            first = hexbus_unit_raise(&u.unit);
+            answer = hexbus_unit_raise(&v.unit);
+            break;
+        default:
+            first = hexbus_unit_step(&u.unit, bav, hsk, nibble, busy, one.command.bytes, room, one.input.bytes, one.output.bytes);
+            answer = hexbus_unit_step(&v.unit, bav, hsk, nibble, busy, two.command.bytes, room, two.input.bytes, two.output.bytes);
+            if (!same(first == (nibble > 15 ? 5u : room < 256 ? 11u : 0u), "a step of words that no save makes"))
+                return false;
+        }
+        hexbus_unit_look(&u.unit, &l);
+        hexbus_unit_look(&v.unit, &m);
+        if (!(same(first == answer && memcmp(&l, &m, sizeof l) == 0 && memcmp(&one, &two, sizeof one) == 0
+                   && hexbus_unit_pulls(&u.unit) == hexbus_unit_pulls(&v.unit), "a unit in words that no save makes")
+              && kept_around(u.before, u.after) && kept_around(v.before, v.after)
+              && kept(before, words_of(&u), first == 0) && kept(before_v, words_of(&v), first == 0)
+              && (first != 0 || same_words(words_of(&u), words_of(&v)))))
+            return false;
+    }
+    return true;
+}
+
+static bool garbage_controller(void)
+{
+    static struct buffer one, two;
+    static uint8_t data[65536], response[65536], other[65536];
+    struct controller_words u = { .before = { 0 } }, v;
+    uint32_t before[HEXBUS_CONTROLLER_WORDS], before_v[HEXBUS_CONTROLLER_WORDS], first, answer;
+    uint64_t seed = ((uint64_t)random_word() << 32) + random_word();
+    hexbus_controller_looks l, m;
+
+    fill(&one, sizeof one, &seed);
+    two = one;
+    random_words(controller_words_of(&u));
+    v = u;
+    garble(controller_words_of(&v), seed | 1);
+    for (int i = 0; i < 16; i++) {
+        bool bav = one_in(2), hsk = one_in(2), busy = one_in(4);
+        uint8_t nibble = (uint8_t)below(17), byte = (uint8_t)below(8);
+        size_t n = u.controller.word[8] & FIELD, room = u.controller.word[7] & FIELD;
+        struct second_command k = random_command(&(struct trial){ .units = 0 });
+        hexbus_command h = in_words(&k, seed);
+        hexbus_event e = { 7, 8, 9 }, f = e;
+        bool fits = room <= ROOM;
+
+        memcpy(before, u.controller.word, sizeof before);
+        memcpy(before_v, v.controller.word, sizeof before_v);
+        switch (below(12)) {
+        case 0:
+            first = hexbus_controller_submit(&u.controller, &h, data, byte, response, 400);
+            answer = hexbus_controller_submit(&v.controller, &h, data, byte, response, 400);
+            break;
+        case 1:
+            first = hexbus_controller_acknowledge(&u.controller, byte);
+            answer = hexbus_controller_acknowledge(&v.controller, byte);
+            break;
+        default:
+            first = hexbus_controller_step(&u.controller, bav, hsk, nibble, busy, data, n, fits ? one.bytes : response, room, &e);
+            answer = hexbus_controller_step(&v.controller, bav, hsk, nibble, busy, data, n, fits ? two.bytes : other, room, &f);
+        }
+        hexbus_controller_look(&u.controller, &l);
+        hexbus_controller_look(&v.controller, &m);
+        if (!(same(first == answer && memcmp(&l, &m, sizeof l) == 0 && memcmp(&e, &f, sizeof e) == 0 && memcmp(&one, &two, sizeof one) == 0
+                   && hexbus_controller_pulls(&u.controller) == hexbus_controller_pulls(&v.controller)
+                   && hexbus_controller_entry(&u.controller, byte) == hexbus_controller_entry(&v.controller, byte),
+                   "a controller in words that no save makes")
+              && kept_around(u.before, u.after) && kept_around(v.before, v.after)
+              && kept(before, controller_words_of(&u), first == 0) && kept(before_v, controller_words_of(&v), first == 0)
+              && (first != 0 || same_words(controller_words_of(&u), controller_words_of(&v)))))
+            return false;
+    }
+    return true;
+}
+
+static int garbage(long steps)
+{
+    for (long i = 0; i < steps / 32; i++) {
+        uint64_t seed = random_state;
+
+        if (garbage_unit() && garbage_controller())
+            continue;
+        printf("DIFFERENCE in garbage: %s, of words drawn from %" PRIx64 "\n", difference, seed);
+        return 1;
     }
     return 0;
 }
@@ -764,6 +1278,9 @@ int main(int argc, char **argv)
     long wanted = argc > 1 ? atol(argv[1]) : 10000000, done[3] = { 0, 0, 0 };
     uint64_t seed = argc > 2 ? strtoull(argv[2], NULL, 0) : (uint64_t)time(NULL);
 
+#ifdef BROKEN
+    broken = argc > 3 ? (enum broken_by)atoi(argv[3]) : NOTHING;
+#endif
     printf("seed %" PRIu64 "\n", seed);
     fflush(stdout);
     random_state = seed;
@@ -773,6 +1290,8 @@ int main(int argc, char **argv)
     for (long i = 0; i < wanted / 20; i++)
         if (message_trial() != 0)
             return 1;
+    if (garbage(wanted / 10) != 0)
+        return 1;
     while (done[0] + done[1] + done[2] < wanted)
         for (int kind = 0; kind < 3; kind++) {
             long steps = run_trial((enum trial_kind)kind);
@@ -781,6 +1300,7 @@ int main(int argc, char **argv)
                 return 1;
             done[kind] += steps;
         }
-    printf("%ld messages, %ld steps of units, %ld of controllers, %ld on buses: no difference\n", wanted / 20, done[0], done[1], done[2]);
+    printf("%ld messages, %ld calls on words that no save makes, %ld steps of units, %ld of controllers, %ld on buses: no difference\n", wanted / 20,
+           wanted / 10, done[0], done[1], done[2]);
     return 0;
 }
