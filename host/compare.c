@@ -955,7 +955,51 @@ static bool still_differs(struct trial *t)
     return true;
 }
 
-/* Calls are left out as long as a difference stays, and words are not garbled where it stays without. */
+/* The trial without some of its calls; the last one cannot be spared. */
+static bool shorter(struct trial *t, size_t from, size_t part)
+{
+    if (part >= t->calls)
+        return false;
+    less = *t;
+    memmove(&less.call[from], &less.call[from + part], (less.calls - from - part) * sizeof less.call[0]);
+    less.calls -= part;
+    return still_differs(t);
+}
+
+/* Two calls that stand apart, for scripts that are short already. */
+static bool without_a_pair(struct trial *t)
+{
+    for (size_t i = 0; i + 1 < t->calls && t->calls < 100; i++)
+        for (size_t j = i + 1; j < t->calls; j++) {
+            less = *t;
+            memmove(&less.call[j], &less.call[j + 1], (less.calls - j - 1) * sizeof less.call[0]);
+            memmove(&less.call[i], &less.call[i + 1], (less.calls - i - 2) * sizeof less.call[0]);
+            less.calls -= 2;
+            if (less.calls > 0 && still_differs(t))
+                return true;
+        }
+    return false;
+}
+
+/* A step with the host free, the nibble released, or nothing garbled. */
+static void plainer(struct trial *t, size_t i)
+{
+    less = *t;
+    less.call[i].garble = 0;
+    if (t->call[i].garble != 0)
+        still_differs(t);
+    less = *t;
+    less.call[i].busy = false;
+    less.call[i].hosts = 0;
+    if (t->call[i].busy || t->call[i].hosts != 0)
+        still_differs(t);
+    less = *t;
+    less.call[i].nibble = 15;
+    if (t->call[i].nibble != 15)
+        still_differs(t);
+}
+
+/* Calls are left out, and what is left is made plainer, as long as a difference stays. */
 static void shrink(struct trial *t, long first)
 {
     size_t before;
@@ -964,20 +1008,12 @@ static void shrink(struct trial *t, long first)
     do {
         before = t->calls;
         for (size_t part = t->calls > 1 ? t->calls / 2 : 1; part > 0; part /= 2)
-            for (size_t from = 0; from + part <= t->calls;) {
-                less = *t;
-                memmove(&less.call[from], &less.call[from + part], (less.calls - from - part) * sizeof less.call[0]);
-                less.calls -= part;
-                if (less.calls == 0 || !still_differs(t))
+            for (size_t from = 0; from + part <= t->calls;)
+                if (!shorter(t, from, part))
                     from += part;
-            }
-    } while (t->calls < before);
-    for (size_t i = 0; i < t->calls; i++) {
-        less = *t;
-        less.call[i].garble = 0;
-        if (t->call[i].garble != 0)
-            still_differs(t);
-    }
+        for (size_t i = 0; i < t->calls; i++)
+            plainer(t, i);
+    } while (t->calls < before || without_a_pair(t));
     replay(t);
 }
 

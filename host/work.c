@@ -1,8 +1,10 @@
 /*
- * One piece of work, N times: `host/bench` runs it under callgrind with two values of N and takes the difference.
+ * One piece of work, N times: `host/bench` counts the instructions of two values of N and takes the difference.
  * Compiled with -DSECOND it is the C implementation's, else the library's.
  *
- *   work WHAT SIZE N
+ *   work WHAT SIZE N          does it
+ *   work WHAT SIZE N time     does it five times and prints the least time of one, in nanoseconds
+ *   work sizes                prints the bytes of a unit and of a controller
  */
 #include <stdbool.h>
 #include <stddef.h>
@@ -10,6 +12,7 @@
 #include <stdio.h>
 #include <stdlib.h>
 #include <string.h>
+#include <time.h>
 
 #ifdef SECOND
 #include "second/second.h"
@@ -28,6 +31,7 @@ static uint32_t unit_pulls(const unit *u)
     return (uint32_t)p.nibble + 16u * p.hsk + 32u * p.bav;
 }
 static uint32_t feed(unit *u, uint8_t *input, uint8_t b) { return (uint32_t)second_unit_feed(u, input, b); }
+static uint32_t raise_request(unit *u) { return (uint32_t)second_unit_raise(u); }
 static uint32_t step_controller(controller *c, bool bav, bool hsk, uint8_t nibble, const uint8_t *data, size_t n, uint8_t *response, size_t room)
 {
     struct second_event e = second_controller_step(c, (struct second_levels){ bav, hsk, nibble }, false, data, n, response, room);
@@ -72,6 +76,7 @@ static uint32_t step_unit(unit *u, bool bav, bool hsk, uint8_t nibble, uint8_t *
 }
 static uint32_t unit_pulls(const unit *u) { return hexbus_unit_pulls(u); }
 static uint32_t feed(unit *u, uint8_t *input, uint8_t b) { return hexbus_unit_feed(u, input, b); }
+static uint32_t raise_request(unit *u) { return hexbus_unit_raise(u); }
 static uint32_t step_controller(controller *c, bool bav, bool hsk, uint8_t nibble, const uint8_t *data, size_t n, uint8_t *response, size_t room)
 {
     hexbus_event e;
@@ -128,14 +133,32 @@ static uint32_t round_of(size_t count, size_t n, size_t room)
     return answer;
 }
 
+/* Stops where the work is not what its name says: a figure for something else would be worse than none. */
+static void must(bool holds, const char *what)
+{
+    if (holds)
+        return;
+    fprintf(stderr, "work: %s\n", what);
+    exit(2);
+}
+
+/* Rounds until the frame that runs has ended, and the two of its rest; whether it ended as it should: 1 is an end, 2 a request handed over. */
+static void frame_ends(size_t count, size_t n, size_t room, uint32_t as)
+{
+    uint32_t answer;
+
+    do
+        answer = round_of(count, n, room);
+    while (answer == 0);
+    must(answer == 16 * as, "a frame does not end as it should");
+    round_of(count, 0, 0);
+    round_of(count, 0, 0);
+}
+
 static void frame(size_t count, uint8_t device, uint8_t code, uint16_t buffer, size_t n, size_t room)
 {
-    if (submit(&master, device, code, buffer, n, room) != 0)
-        exit(2);
-    while (round_of(count, n, room) / 16 == 0)
-        ;
-    round_of(count, 0, 0);
-    round_of(count, 0, 0);
+    must(submit(&master, device, code, buffer, n, room) == 0, "a command is refused");
+    frame_ends(count, n, room, 1);
 }
 
 static void make_bus(size_t count)
@@ -150,98 +173,303 @@ static void make_bus(size_t count)
         frame(count, 20, 0x00, 4, 3, 4);
 }
 
-/* A command sent to a unit that is alone: four rounds to a nibble. Stops after `rounds` rounds of it. */
-static void send(unit *u, const uint8_t *bytes, size_t nibbles, size_t rounds)
+/* ---- Steps ------------------------------------------------------------- */
+
+static uint32_t step(bool bav, bool hsk, uint8_t nibble)
 {
-    step_unit(u, true, false, 15, command[0], input[0], output[0]);
-    for (size_t i = 0; i < 4 * nibbles && i < rounds; i++)
-        step_unit(u, true, i % 4 == 1 || i % 4 == 2, i % 4 == 0 ? 15 : (uint8_t)(bytes[i / 8] >> 4 * (i / 4 % 2) & 15u), command[0], input[0], output[0]);
+    return step_unit(&units[0], bav, hsk, nibble, command[0], input[0], output[0]);
+}
+
+/* HSK as the other end of a handshake shows it: low in two rounds of four. */
+static bool low(long i)
+{
+    return i % 4 == 1 || i % 4 == 2;
+}
+
+/* A command's header sent to a unit that is alone, four rounds to a nibble. */
+static void send(const uint8_t header[9])
+{
+    step(true, false, 15);
+    for (size_t i = 0; i < 72; i++)
+        step(true, low((long)i), i % 4 == 0 ? 15 : (uint8_t)(header[i / 8] >> 4 * (i / 4 % 2) & 15u));
+}
+
+/* What is pulled in four rounds of a handshake. */
+static uint32_t pulled_by_unit(void)
+{
+    uint32_t all = 0;
+
+    for (long i = 0; i < 4; i++) {
+        step(true, low(i), 15);
+        all |= unit_pulls(&units[0]);
+    }
+    return all;
+}
+
+static void unit_idle(size_t size, long n)
+{
+    (void)size;
+    for (long i = 0; i < n; i++)
+        sink = step(false, false, 15);
+}
+
+static void unit_sitting_out(size_t size, long n)
+{
+    static const uint8_t other[9] = { 99, 4, 0, 0, 0, 0, 0, 0, 0 };
+
+    (void)size;
+    send(other);
+    for (long i = 0; i < n; i++)
+        sink = step(true, low(i), 7);
+    must((pulled_by_unit() & 48u) == 0, "the unit does not sit out");
+}
+
+/* 65,535 data bytes are announced; before the last of them comes the unit is set back. */
+static void unit_listening(size_t size, long n)
+{
+    static const uint8_t huge[9] = { 20, 4, 0, 0, 0, 0, 0, 0xFF, 0xFF };
+    unit kept;
+
+    (void)size;
+    send(huge);
+    kept = units[0];
+    for (long i = 0; i < n; i++) {
+        if (i % 400000 == 0)
+            units[0] = kept;
+        sink = step(true, low(i), (uint8_t)(i & 15));
+    }
+    must((pulled_by_unit() & 16u) != 0, "the unit does not listen");
+}
+
+/* A read of 128 bytes is answered; before the last nibble the unit is set back. */
+static void unit_responding(size_t size, long n)
+{
+    unit kept;
+
+    (void)size;
+    make_bus(1);
+    for (int i = 0; i < 128; i++)
+        feed(&units[0], input[0], (uint8_t)i);
+    must(submit(&master, 20, 0x03, 128, 0, 128) == 0, "a command is refused");
+    for (int i = 0; i < 72 + 8; i++)
+        round_of(1, 0, 128);
+    kept = units[0];
+    for (long i = 0; i < n; i++) {
+        if (i % 900 == 0)
+            units[0] = kept;
+        sink = step(true, low(i), 15);
+    }
+    must((pulled_by_unit() & 16u) != 0, "the unit does not respond");
+}
+
+static void controller_idle(size_t size, long n)
+{
+    (void)size;
+    make_controller(&master, 200);
+    for (long i = 0; i < n; i++)
+        sink = step_controller(&master, false, false, 15, data, 0, response, 0);
+}
+
+static void controller_sending(size_t size, long n)
+{
+    controller kept;
+
+    (void)size;
+    make_controller(&master, 200);
+    submit(&master, 20, 4, 0, 65535, 0);
+    kept = master;
+    for (long i = 0; i < n; i++) {
+        if (i % 400000 == 0)
+            master = kept;
+        sink = step_controller(&master, true, low(i), 15, data, 65535, response, 0);
+    }
+    must((controller_pulls(&master) & 32u) != 0, "the controller does not send");
+}
+
+/* A response of 65,535 data bytes: its length is taken first. */
+static void controller_listening(size_t size, long n)
+{
+    controller kept;
+
+    (void)size;
+    make_controller(&master, 65535);
+    submit(&master, 20, 3, 65535, 0, 65535);
+    for (int i = 0; i < 3 + 3 * 18; i++)
+        step_controller(&master, true, false, 15, data, 0, response, 65535);
+    for (int i = 0; i < 16; i++)
+        step_controller(&master, true, low(i), 15, data, 0, response, 65535);
+    kept = master;
+    for (long i = 0; i < n; i++) {
+        if (i % 400000 == 0)
+            master = kept;
+        sink = step_controller(&master, true, low(i), (uint8_t)(i & 15), data, 0, response, 65535);
+    }
+    must((controller_pulls(&master) & 32u) != 0, "the controller does not listen");
+}
+
+/* ---- Frames and rounds ------------------------------------------------- */
+
+/* The bus as it stands, before each frame again. */
+static unit kept_unit;
+static controller kept_master;
+
+static void keep(void)
+{
+    kept_unit = units[0];
+    kept_master = master;
+}
+
+static void again(void)
+{
+    units[0] = kept_unit;
+    master = kept_master;
+}
+
+static void frame_write(size_t size, long n)
+{
+    make_bus(1);
+    keep();
+    for (long i = 0; i < n; i++) {
+        again();
+        frame(1, 20, 0x04, 0, size, 0);
+    }
+}
+
+static void frame_read(size_t size, long n)
+{
+    make_bus(1);
+    for (size_t i = 0; i < size; i++)
+        must(feed(&units[0], input[0], (uint8_t)i) == 0, "a byte is refused");
+    keep();
+    for (long i = 0; i < n; i++) {
+        again();
+        frame(1, 20, 0x03, (uint16_t)size, 0, size);
+    }
+}
+
+static void frame_enable(size_t size, long n)
+{
+    (void)size;
+    make_bus(1);
+    keep();
+    for (long i = 0; i < n; i++) {
+        again();
+        frame(1, 20, 0x08, 0, 0, 0);
+    }
+}
+
+/* A service frame: from the unit's pull of BAV to its request handed over, and the rest. */
+static void frame_service(size_t size, long n)
+{
+    (void)size;
+    make_bus(1);
+    frame(1, 20, 0x08, 0, 0, 0);
+    must(raise_request(&units[0]) == 0, "a request is refused");
+    while ((unit_pulls(&units[0]) & 32u) == 0)
+        round_of(1, 0, 0);
+    keep();
+    for (long i = 0; i < n; i++) {
+        again();
+        frame_ends(1, 0, 0, 2);
+    }
+}
+
+static void round_idle(size_t size, long n)
+{
+    make_bus(size);
+    for (long i = 0; i < n; i++)
+        sink = round_of(size, 0, 0);
+}
+
+/* A frame of 99 rounds with its answer, two of rest, and the next one is submitted. */
+static void round_in_frames(size_t size, long n)
+{
+    make_bus(size);
+    for (long i = 0; i < n; i++) {
+        if (i % 101 == 0)
+            must(submit(&master, 20, 0x09, 0, 0, 0) == 0, "a command is refused");
+        sink = round_of(size, 0, 0);
+    }
+}
+
+/* ---- Messages ---------------------------------------------------------- */
+
+static void command_write(size_t size, long n)
+{
+    for (long i = 0; i < n; i++)
+        sink = write_command(data, size, message, sizeof message);
+}
+
+static void command_read(size_t size, long n)
+{
+    must(write_command(data, size, message, sizeof message) == 0, "a message is refused");
+    for (long i = 0; i < n; i++)
+        sink = read_command(message, 9 + size);
+}
+
+static void response_write(size_t size, long n)
+{
+    for (long i = 0; i < n; i++)
+        sink = write_response(data, size, message, sizeof message);
+}
+
+static void response_read(size_t size, long n)
+{
+    must(write_response(data, size, message, sizeof message) == 0, "a message is refused");
+    for (long i = 0; i < n; i++)
+        sink = read_response(message, 3 + size);
+}
+
+static const struct {
+    const char *what;
+    void (*does)(size_t size, long n);
+} works[] = {
+    { "unit-idle", unit_idle }, { "unit-listening", unit_listening }, { "unit-responding", unit_responding },
+    { "unit-sitting-out", unit_sitting_out }, { "controller-idle", controller_idle }, { "controller-sending", controller_sending },
+    { "controller-listening", controller_listening }, { "frame-write", frame_write }, { "frame-read", frame_read },
+    { "frame-enable", frame_enable }, { "frame-service", frame_service }, { "round-idle", round_idle }, { "round-in-frames", round_in_frames },
+    { "command-write", command_write }, { "command-read", command_read }, { "response-write", response_write },
+    { "response-read", response_read },
+};
+
+/* A new unit each time. */
+static double nanoseconds(size_t which, size_t size, long n)
+{
+    clock_t begin;
+
+    make_unit(&units[0], 20);
+    begin = clock();
+    works[which].does(size, n);
+    return (double)(clock() - begin) * 1e9 / CLOCKS_PER_SEC / (double)n;
 }
 
 int main(int argc, char **argv)
 {
-    const char *what = argc > 3 ? argv[1] : "";
-    size_t size = argc > 3 ? strtoul(argv[2], NULL, 10) : 0;
-    long n = argc > 3 ? atol(argv[3]) : 0;
-    static const uint8_t huge[9] = { 20, 4, 0, 0, 0, 0, 0, 0xFF, 0xFF };
-    static const uint8_t other[9] = { 99, 4, 0, 0, 0, 0, 0, 0, 0 };
-    static unit kept;
+    size_t which = 0, size;
+    long n;
 
-    make_unit(&units[0], 20);
-    if (strcmp(what, "unit-idle") == 0) {
-        for (long i = 0; i < n; i++)
-            sink = step_unit(&units[0], false, false, 15, command[0], input[0], output[0]);
-    } else if (strcmp(what, "unit-sitting-out") == 0) {
-        send(&units[0], other, 18, 72);
-        for (long i = 0; i < n; i++)
-            sink = step_unit(&units[0], true, i % 4 == 1 || i % 4 == 2, 7, command[0], input[0], output[0]);
-    } else if (strcmp(what, "unit-listening") == 0) {
-        send(&units[0], huge, 18, 72);
-        for (long i = 0; i < n; i++)
-            sink = step_unit(&units[0], true, i % 4 == 1 || i % 4 == 2, (uint8_t)(i & 15), command[0], input[0], output[0]);
-    } else if (strcmp(what, "unit-responding") == 0) {
-        make_bus(1);
-        for (int i = 0; i < 128; i++)
-            feed(&units[0], input[0], (uint8_t)i);
-        submit(&master, 20, 0x03, 128, 0, 128);
-        for (int i = 0; i < 72 + 8; i++)
-            round_of(1, 0, 128);
-        kept = units[0];
-        for (long i = 0; i < n; i++) {
-            if (i % 900 == 0)
-                units[0] = kept;
-            sink = step_unit(&units[0], true, i % 4 == 1 || i % 4 == 2, 15, command[0], input[0], output[0]);
-        }
-    } else if (strcmp(what, "controller-idle") == 0) {
-        make_controller(&master, 200);
-        for (long i = 0; i < n; i++)
-            sink = step_controller(&master, false, false, 15, data, 0, response, 0);
-    } else if (strcmp(what, "controller-sending") == 0) {
-        make_controller(&master, 200);
-        submit(&master, 20, 4, 0, 65535, 0);
-        for (long i = 0; i < n; i++)
-            sink = step_controller(&master, true, i % 4 == 1 || i % 4 == 2, 15, data, 65535, response, 0);
-    } else if (strcmp(what, "controller-listening") == 0) {
-        make_controller(&master, 65535);
-        submit(&master, 20, 3, 60000, 0, 60000);
-        for (int i = 0; i < 3 + 3 * 18; i++)
-            step_controller(&master, true, false, 15, data, 0, response, 60000);
-        for (long i = 0; i < n; i++)
-            sink = step_controller(&master, true, i % 4 == 1 || i % 4 == 2, i < 16 ? 14 : (uint8_t)(i & 15), data, 0, response, 60000);
-    } else if (strcmp(what, "frame-write") == 0) {
-        make_bus(1);
-        for (long i = 0; i < n; i++) {
-            frame(1, 20, 0x04, 0, size, 0);
-            units[0] = (kept = units[0]);
-        }
-    } else if (strcmp(what, "round-idle") == 0) {
-        make_bus(size);
-        for (long i = 0; i < n; i++)
-            sink = round_of(size, 0, 0);
-    } else if (strcmp(what, "round-in-frames") == 0) {
-        make_bus(size);
-        for (long i = 0; i < n; i++) {
-            if (i % 100 == 0)
-                submit(&master, 20, 0x09, 0, 0, 0);
-            sink = round_of(size, 0, 0);
-        }
-    } else if (strcmp(what, "command-write") == 0) {
-        for (long i = 0; i < n; i++)
-            sink = write_command(data, size, message, sizeof message);
-    } else if (strcmp(what, "command-read") == 0) {
-        write_command(data, size, message, sizeof message);
-        for (long i = 0; i < n; i++)
-            sink = read_command(message, 9 + size);
-    } else if (strcmp(what, "response-write") == 0) {
-        for (long i = 0; i < n; i++)
-            sink = write_response(data, size, message, sizeof message);
-    } else if (strcmp(what, "response-read") == 0) {
-        write_response(data, size, message, sizeof message);
-        for (long i = 0; i < n; i++)
-            sink = read_response(message, 3 + size);
-    } else {
-        fprintf(stderr, "work: %s is not measured\n", what);
-        return 2;
+    if (argc == 2 && strcmp(argv[1], "sizes") == 0) {
+        printf("%zu %zu\n", sizeof(unit), sizeof(controller));
+        return 0;
     }
+    must(argc >= 4, "work WHAT SIZE N [time]");
+    while (which < sizeof works / sizeof works[0] && strcmp(works[which].what, argv[1]) != 0)
+        which++;
+    must(which < sizeof works / sizeof works[0], "this is not measured");
+    size = strtoul(argv[2], NULL, 10);
+    n = atol(argv[3]);
+    if (argc > 4) {
+        double least = nanoseconds(which, size, n);
+
+        for (int i = 0; i < 4; i++) {
+            double t = nanoseconds(which, size, n);
+
+            least = t < least ? t : least;
+        }
+        printf("%.1f\n", least);
+        return 0;
+    }
+    make_unit(&units[0], 20);
+    works[which].does(size, n);
     return 0;
 }

@@ -1,0 +1,60 @@
+/*
+ * A plugin for Debian's qemu-user that counts the instructions of a program: a block of them adds its number when it is run. The total
+ * goes to the error output when the program ends. With from=A,bytes=N (hexadecimal) what stands in those N bytes of code is not counted.
+ * Debian has no package with QEMU's header, so what is used of it is declared here (version 1 of the interface).
+ */
+#include <inttypes.h>
+#include <stddef.h>
+#include <stdint.h>
+#include <stdio.h>
+#include <stdlib.h>
+#include <string.h>
+
+typedef uint64_t qemu_plugin_id_t;
+struct qemu_info;
+struct qemu_plugin_tb;
+
+size_t qemu_plugin_tb_n_insns(const struct qemu_plugin_tb *block);
+uint64_t qemu_plugin_tb_vaddr(const struct qemu_plugin_tb *block);
+void qemu_plugin_register_vcpu_tb_trans_cb(qemu_plugin_id_t id, void (*call)(qemu_plugin_id_t, struct qemu_plugin_tb *));
+void qemu_plugin_register_vcpu_tb_exec_cb(struct qemu_plugin_tb *block, void (*call)(unsigned, void *), int flags, void *with);
+void qemu_plugin_register_atexit_cb(qemu_plugin_id_t id, void (*call)(qemu_plugin_id_t, void *), void *with);
+
+extern int qemu_plugin_version;
+int qemu_plugin_install(qemu_plugin_id_t id, const struct qemu_info *info, int argc, char **argv);
+
+int qemu_plugin_version = 1;
+static uint64_t count, from, bytes;
+
+static void run(unsigned processor, void *instructions)
+{
+    (void)processor;
+    count += (uintptr_t)instructions;
+}
+
+static void translated(qemu_plugin_id_t id, struct qemu_plugin_tb *block)
+{
+    (void)id;
+    if (qemu_plugin_tb_vaddr(block) - from >= bytes)
+        qemu_plugin_register_vcpu_tb_exec_cb(block, run, 0, (void *)(uintptr_t)qemu_plugin_tb_n_insns(block));
+}
+
+static void ended(qemu_plugin_id_t id, void *nothing)
+{
+    (void)id;
+    (void)nothing;
+    fprintf(stderr, "Collected : %" PRIu64 "\n", count);
+}
+
+int qemu_plugin_install(qemu_plugin_id_t id, const struct qemu_info *info, int argc, char **argv)
+{
+    (void)info;
+    for (int i = 0; i < argc; i++)
+        if (strncmp(argv[i], "from=", 5) == 0)
+            from = strtoull(argv[i] + 5, NULL, 16);
+        else if (strncmp(argv[i], "bytes=", 6) == 0)
+            bytes = strtoull(argv[i] + 6, NULL, 16);
+    qemu_plugin_register_vcpu_tb_trans_cb(id, translated);
+    qemu_plugin_register_atexit_cb(id, ended, NULL);
+    return 0;
+}
