@@ -61,7 +61,7 @@ static const enum broken_by broken = NOTHING;
 
 /* ---- Calls of a trial -------------------------------------------------- */
 
-enum { MOST_UNITS = 16, MOST_CALLS = 6000, MOST_DATA = 320, ROOM = 320, AROUND = 16 };
+enum { MOST_UNITS = 16, MOST_CALLS = 6000, MOST_DATA = 320, ROOM = 320, AROUND = 16, SHORT = 100 };
 
 enum call_kind { STEP, FEED, TAKE, RAISE, SUBMIT, ACKNOWLEDGE };
 
@@ -941,6 +941,12 @@ static void print_call(const struct call *c)
     }
 }
 
+/* A trial and the calls that it has. */
+static void copy(struct trial *to, const struct trial *from)
+{
+    memcpy(to, from, offsetof(struct trial, call) + from->calls * sizeof from->call[0]);
+}
+
 static struct trial less;
 
 /* Whether a difference stays in `less`: then that is the trial. */
@@ -950,32 +956,37 @@ static bool still_differs(struct trial *t)
 
     if (first < 0)
         return false;
-    *t = less;
+    copy(t, &less);
     t->calls = t->calls == 0 ? 0 : (size_t)first + 1;
     return true;
 }
 
-/* The trial without some of its calls; the last one cannot be spared. */
-static bool shorter(struct trial *t, size_t from, size_t part)
+static void leave_out(struct trial *t, size_t from, size_t part)
 {
-    if (part >= t->calls)
-        return false;
-    less = *t;
-    memmove(&less.call[from], &less.call[from + part], (less.calls - from - part) * sizeof less.call[0]);
-    less.calls -= part;
-    return still_differs(t);
+    memmove(&t->call[from], &t->call[from + part], (t->calls - from - part) * sizeof t->call[0]);
+    t->calls -= part;
 }
 
-/* Two calls that stand apart, for scripts that are short already. */
+/* Without a row of so many calls, wherever it begins. */
+static void without_rows(struct trial *t, size_t part)
+{
+    for (size_t from = 0; from + part <= t->calls && part < t->calls;) {
+        copy(&less, t);
+        leave_out(&less, from, part);
+        if (!still_differs(t))
+            from += t->calls < SHORT ? 1 : part;
+    }
+}
+
+/* Without two calls that stand apart. */
 static bool without_a_pair(struct trial *t)
 {
-    for (size_t i = 0; i + 1 < t->calls && t->calls < 100; i++)
-        for (size_t j = i + 1; j < t->calls; j++) {
-            less = *t;
-            memmove(&less.call[j], &less.call[j + 1], (less.calls - j - 1) * sizeof less.call[0]);
-            memmove(&less.call[i], &less.call[i + 1], (less.calls - i - 2) * sizeof less.call[0]);
-            less.calls -= 2;
-            if (less.calls > 0 && still_differs(t))
+    for (size_t i = 0; i + 1 < t->calls && t->calls < SHORT; i++)
+        for (size_t j = i + 1; j < t->calls && t->calls > 2; j++) {
+            copy(&less, t);
+            leave_out(&less, j, 1);
+            leave_out(&less, i, 1);
+            if (still_differs(t))
                 return true;
         }
     return false;
@@ -984,16 +995,16 @@ static bool without_a_pair(struct trial *t)
 /* A step with the host free, the nibble released, or nothing garbled. */
 static void plainer(struct trial *t, size_t i)
 {
-    less = *t;
+    copy(&less, t);
     less.call[i].garble = 0;
     if (t->call[i].garble != 0)
         still_differs(t);
-    less = *t;
+    copy(&less, t);
     less.call[i].busy = false;
     less.call[i].hosts = 0;
     if (t->call[i].busy || t->call[i].hosts != 0)
         still_differs(t);
-    less = *t;
+    copy(&less, t);
     less.call[i].nibble = 15;
     if (t->call[i].nibble != 15)
         still_differs(t);
@@ -1007,10 +1018,10 @@ static void shrink(struct trial *t, long first)
     t->calls = t->calls == 0 ? 0 : (size_t)first + 1;
     do {
         before = t->calls;
-        for (size_t part = t->calls > 1 ? t->calls / 2 : 1; part > 0; part /= 2)
-            for (size_t from = 0; from + part <= t->calls;)
-                if (!shorter(t, from, part))
-                    from += part;
+        for (size_t part = t->calls / 2; part > 0; part /= 2)
+            without_rows(t, part);
+        for (size_t part = t->calls < SHORT ? t->calls : 0; part > 0; part--)
+            without_rows(t, part);
         for (size_t i = 0; i < t->calls; i++)
             plainer(t, i);
     } while (t->calls < before || without_a_pair(t));

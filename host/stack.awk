@@ -10,6 +10,8 @@ END { for (f in own) if (f ~ /^hexbus_/) print "code", f, 8 + deepest(f) }
 function deepest(g,    list, n, i, most) {
     if (!(g in own)) return 0
     if (g in known) return known[g]
+    if (g in open) { print "stack: " g " calls itself" > "/dev/stderr"; exit 1 }
+    open[g] = 1
     most = below[g]
     n = split(calls[g], list, " ")
     for (i = 1; i <= n; i++) if (8 + deepest(list[i]) > most) most = 8 + deepest(list[i])

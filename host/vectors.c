@@ -387,7 +387,7 @@ static bool is_busy(unsigned n, unsigned round)
 /*
  * frame BYTES: a whole frame; the response, and the round in which it ends, the first being that in which BAV is pulled. BAV goes high
  * behind the round after "cut", the host is free in every n-th round after "free", and a byte is fed in the round after "feeding".
- * fill N: so many bytes are fed, counting up from 0; the last one's answer. see: a step at these levels; what is pulled then.
+ * feed BYTES: the last one's answer. drain: all bytes that can be taken. see: a step at these levels; what is pulled then.
  */
 static const struct row unit_rows[] = {
     { "make 0 20", "5", "" }, { "make 20 3", "5", "" }, { "make 20 65536", "5", "" }, { "make 20 4294967295", "5", "" },
@@ -397,10 +397,12 @@ static const struct row unit_rows[] = {
     { "frame 14 04 00 00 00 00 00 03 00 41 42 43", " 00 00 00 in 123", "update 80 in 0 out 3" },
     { "take", "41", "update 80 in 0 out 2" }, { "take", "42", "update 80 in 0 out 1" }, { "take", "43", "update 80 in 0 out 0" },
     { "take", "nothing", NULL },
-    { "feed 44", "0", "update 80 in 1 out 0" }, { "feed 45", "0", "update 80 in 2 out 0" }, { "feed 46", "0", "update 80 in 3 out 0" },
+    { "feed 44 45 46", "0", "update 80 in 3 out 0" },
     { "frame 14 03 00 00 00 02 00 00 00", " 02 00 44 45 00 in 115", "update 80 in 1 out 0" },
     { "frame 14 03 00 00 00 02 00 00 00", " 01 00 46 00 in 107", "update 80 in 0 out 0" },
     { "frame 14 03 00 00 00 02 00 00 00", " 00 00 00 in 99", NULL },
+    { "feed 32 37 32 39 35", "0", "update 80 in 5 out 0" },   /* source document 000, 7.2 */
+    { "frame 14 03 01 00 00 50 00 00 00", " 05 00 32 37 32 39 35 00 in 139", "update 80 in 0 out 0" },
     { "frame 14 0A 00 00 00 00 00 00 00", " 00 00 0A in 99", NULL },
     { "raise", "7", NULL },
     { "frame 14 08 00 00 00 00 00 00 00", " 00 00 00 in 99", "update 80 in 0 out 0 enabled" },
@@ -445,6 +447,7 @@ static const struct row unit_rows[] = {
     { "frame 14 00 00 00 00 03 00 03 00 50 00 C0", " 00 00 0C in 123", NULL },
     { "frame 14 00 00 00 00 04 00 04 00 81 00 C0 42", " 00 00 0C in 131", NULL },
     { "frame 14 00 00 00 00 04 00 04 00 50 00 C0 42", " 00 00 01 in 131", NULL },
+    { "frame 14 00 01 00 00 04 00 0D 00 00 00 80 42 3D 34 38 30 30 2C 50 3D 4F", " 00 00 01 in 203", NULL },   /* 7.1 has options */
     { "frame 14 00 00 00 00 FF FF 03 00 01 00 DF", " 04 00 01 00 00 00 00 in 155", "update 1 in 0 out 0" },
     { "frame 14 00 00 00 00 00 00 00 00", " 00 00 05 in 99", NULL }, { "frame 14 01 00 00 00 00 00 00 00", " 00 00 00 in 99", "closed 0 in 0 out 0" },
     /* open for input, for output */
@@ -461,15 +464,15 @@ static const struct row unit_rows[] = {
     { "frame 14 04 00 00 00 00 00 FF FF 65535*00", " 00 00 08 in 524379", NULL },
     /* queues: 256 bytes, and room that is used again */
     { "frame 14 00 00 00 00 04 00 03 00 80 00 C0", " 04 00 80 00 00 00 00 in 155", "update 128 in 0 out 0" },
-    { "fill 255", "0", "update 128 in 255 out 0" }, { "feed FF", "0", "update 128 in 256 out 0" }, { "feed 00", "6", NULL },
+    { "feed 255*00", "0", "update 128 in 255 out 0" }, { "feed FF", "0", "update 128 in 256 out 0" }, { "feed 00", "6", NULL },
     { "frame 14 03 00 00 00 50 00 00 00", " 50 00 80*00 00 in 739", "update 128 in 176 out 0" },
-    { "fill 80", "0", "update 128 in 256 out 0" }, { "feed 00", "6", NULL },
+    { "feed 80*00", "0", "update 128 in 256 out 0" }, { "feed 00", "6", NULL },
     { "frame 14 03 00 00 00 80 00 00 00", " 80 00 128*50 00 in 1123", "update 128 in 128 out 0" },
     { "frame 14 03 00 00 00 FF FF 00 00", " 80 00 128*D0 00 in 1123", "update 128 in 0 out 0" },
-    { "feed 41", "0", "update 128 in 1 out 0" }, { "feed 42", "0", "update 128 in 2 out 0" },
+    { "feed 41 42", "0", "update 128 in 2 out 0" },
     { "feeding 90 frame 14 03 00 00 00 05 00 00 00", " 02 00 41 42 00 in 115", "update 128 in 1 out 0" },
     { "frame 14 03 00 00 00 05 00 00 00", " 01 00 5A 00 in 107", "update 128 in 0 out 0" },
-    { "fill 200", "0", "update 128 in 200 out 0" },
+    { "feed 200*00", "0", "update 128 in 200 out 0" },
     { "frame 14 03 00 00 00 00 00 00 00", " 00 00 00 in 99", NULL },
     { "frame 14 03 00 00 00 FF FF 00 00", " 80 00 128*00 00 in 1123", "update 128 in 72 out 0" },
     { "frame 14 04 00 00 00 00 00 64 00 100*00", " 00 00 00 in 899", "update 128 in 72 out 100" },
@@ -494,7 +497,7 @@ static const struct row unit_rows[] = {
     { "cut 88 frame 14 04 00 00 00 00 00 02 00 61 62", "cut", "update 128 in 0 out 2" },
     { "cut 92 frame 14 04 00 00 00 00 00 02 00 63 64", "cut", "update 128 in 0 out 4" }, { "drain", " 61 62 63 64", "update 128 in 0 out 0" },
     { "frame 14 08 00 00 00 00 00 00 00", " 00 00 00 in 99", "update 128 in 0 out 0 enabled" },
-    { "raise", "0", "update 128 in 0 out 0 enabled requesting" }, { "fill 3", "0", "update 128 in 3 out 0 enabled requesting" },
+    { "raise", "0", "update 128 in 0 out 0 enabled requesting" }, { "feed 3*00", "0", "update 128 in 3 out 0 enabled requesting" },
     { "cut 2 frame 14 01 00 00 00 00 00 00 00", "cut", NULL }, { "cut 4 frame 14 01 00 00 00 00 00 00 00", "cut", NULL },
     { "cut 41 frame 14 01 00 00 00 00 00 00 00", "cut", NULL }, { "cut 71 frame 14 01 00 00 00 00 00 00 00", "cut", NULL },
     { "cut 96 frame 14 03 00 00 00 05 00 00 00", "cut", NULL }, { "cut 122 frame 14 03 00 00 00 05 00 00 00", "cut", NULL },
@@ -637,12 +640,10 @@ static void unit_call(void)
             answer = hexbus_unit_make(&unit, code, number(10));
             own = answer == 0 ? code : own;
         } else if (next_is("feed")) {
-            answer = hexbus_unit_feed(&unit, input, (uint8_t)number(16));
-        } else if (next_is("fill")) {
-            uint32_t n = number(10);
+            size_t n = read_bytes(bytes);
 
-            for (uint32_t i = 0; i < n; i++)
-                answer = hexbus_unit_feed(&unit, input, (uint8_t)i);
+            for (size_t i = 0; i < n; i++)
+                answer = hexbus_unit_feed(&unit, input, bytes[i]);
         } else if (next_is("raise")) {
             answer = hexbus_unit_raise(&unit);
         } else {
