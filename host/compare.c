@@ -82,8 +82,20 @@ struct call {
 
 enum trial_kind { ONE_UNIT, ONE_CONTROLLER, A_BUS };
 
+/* Where a unit may stand between two frames: put into its words, so that full queues need not be filled first. */
+struct start {
+    uint8_t mode, accepted;
+    bool enabled, requesting;
+    uint8_t input_head, output_head;
+    uint16_t input_count, output_count;
+};
+
 struct trial {
     enum trial_kind kind;
+    bool started;                /* from these states, and from this ring */
+    struct start start[MOST_UNITS];
+    unsigned entries;
+    struct second_entry entry[HEXBUS_RING_ENTRIES];
     unsigned units;
     uint8_t code[MOST_UNITS];
     uint32_t retry[MOST_UNITS];
@@ -167,7 +179,10 @@ static void fill(void *memory, size_t n, uint64_t *seed)
 enum { FLAG = 1, BYTE = 0xFF, FIELD = 0xFFFF, ENTRY = 0x1FF };
 #define WHOLE UINT32_MAX
 
-enum unit_word { OPENING = 4, ACCEPTED = 5, PHASE = 12, UNIT_LINE = 13, UNIT_HALF = 14, UNIT_NIBBLE = 15, UNIT_PLACE = 16, REPLY = 17, REPLY_VALUE = 18 };
+enum unit_word {
+    OPENING = 4, ACCEPTED = 5, ENABLED = 6, REQUESTING = 7, INPUT = 8, OUTPUT = 10, PHASE = 12, UNIT_LINE = 13, UNIT_HALF = 14,
+    UNIT_NIBBLE = 15, UNIT_PLACE = 16, REPLY = 17, REPLY_VALUE = 18
+};
 enum unit_phase { SELECTING = 1, TAKING, ANSWERED, RESPONDING, SITTING_OUT };
 enum controller_word {
     STAGE = 1, KIND = 2, CONTROLLER_HALF = 9, CONTROLLER_LINE = 10, CONTROLLER_NIBBLE = 11, CONTROLLER_PLACE = 12, RESPONSE = 13, LENGTH = 14,
@@ -355,6 +370,31 @@ static bool made_in(struct words w, const uint32_t *before, uint32_t refusal, in
         && (refusal == 0 ? clean(w) : same(memcmp(before, w.word, w.n * sizeof *before) == 0, "a refused making changes words"));
 }
 
+static void start_unit(struct station *s, const struct start *f)
+{
+    uint32_t *w = s->lib.unit.word;
+
+    w[OPENING] = s->two.mode = f->mode;
+    w[ACCEPTED] = s->two.accepted = f->accepted;
+    w[ENABLED] = s->two.enabled = f->enabled;
+    w[REQUESTING] = s->two.requesting = f->requesting;
+    w[INPUT] = s->two.input.head = f->input_head;
+    w[INPUT + 1] = s->two.input.count = f->input_count;
+    w[OUTPUT] = s->two.output.head = f->output_head;
+    w[OUTPUT + 1] = s->two.output.count = f->output_count;
+}
+
+static void start_ring(struct bench *b, const struct trial *t)
+{
+    uint32_t *w = b->lib.controller.word;
+
+    w[ENTRIES] = b->two.ring_count = (uint8_t)t->entries;
+    for (unsigned i = 0; i < t->entries; i++) {
+        b->two.ring[i] = t->entry[i];
+        w[ENTRIES + 1 + i] = t->entry[i].code + (t->entry[i].marked ? HEXBUS_MARK : 0u);
+    }
+}
+
 static bool prepare(const struct trial *t, struct bench *b)
 {
     uint64_t seed = t->memory;
@@ -378,7 +418,11 @@ static bool prepare(const struct trial *t, struct bench *b)
         fill(before, sizeof before, &seed);
         memcpy(w.word, before, w.n * sizeof *before);
         ok = made_in(w, before, hexbus_controller_make(&b->lib.controller, t->timeout),
-                     second_controller_make(&b->two, broken == LATE_TIME_OUT ? t->timeout + 1 : t->timeout), "making a controller");
+                     second_controller_make(&b->two, t->timeout), "making a controller");
+        if (broken == LATE_TIME_OUT)
+            b->two.time_out++;
+        if (t->started && all_made)
+            start_ring(b, t);
     }
     for (unsigned i = 0; i < t->units; i++) {
         struct station *s = &b->station[i];
@@ -390,6 +434,8 @@ static bool prepare(const struct trial *t, struct bench *b)
         memcpy(w.word, before, w.n * sizeof *before);
         ok = made_in(w, before, hexbus_unit_make(&s->lib.unit, t->code[i], t->retry[i]),
                      second_unit_make(&s->two, t->code[i], t->retry[i]), "making a unit") && ok;
+        if (t->started && all_made)
+            start_unit(s, &t->start[i]);
     }
     return ok;
 }
@@ -628,20 +674,28 @@ static bool perform(const struct trial *t, struct bench *b, const struct call *c
 
 /* ---- Random calls ------------------------------------------------------ */
 
-static uint8_t random_command_code(void)
+/* Mostly what a unit that is closed or open can do something with. */
+static uint8_t random_command_code(bool open)
 {
-    static const uint8_t usual[] = { 0x00, 0x00, 0x00, 0x00, 0x01, 0x03, 0x03, 0x03, 0x04, 0x04, 0x08, 0x08, 0x08, 0x09, 0x0A, 0x0A };
+    static const uint8_t closed[] = { 0x00, 0x00, 0x00, 0x00, 0x00, 0x00, 0x00, 0x00, 0x00, 0x01, 0x03, 0x04, 0x08, 0x09, 0x0A, 0x0A };
+    static const uint8_t opened[] = { 0x03, 0x03, 0x03, 0x03, 0x04, 0x04, 0x04, 0x04, 0x08, 0x08, 0x09, 0x0A, 0x0A, 0x0A, 0x00, 0x01 };
 
-    return one_in(16) ? random_byte() : one_in(24) ? (uint8_t)(0xFE + below(2)) : usual[below(sizeof usual)];
+    if (one_in(24))
+        return random_byte();
+    if (one_in(40))
+        return (uint8_t)(0xFE + below(2));
+    return open ? opened[below(sizeof opened)] : closed[below(sizeof closed)];
 }
 
-static struct second_command random_command(const struct trial *t)
+/* For one of the units that are there, for all, or for anybody. */
+static struct second_command random_command(const struct trial *t, const struct bench *b)
 {
     struct second_command k;
-    uint32_t pick = below(10);
+    uint32_t pick = below(12), at = t->units > 0 ? below(t->units) : 0;
+    bool known = t->units > 0 && pick < 10;
 
-    k.device = t->units > 0 && pick < 8 ? t->code[below(t->units)] : pick == 8 ? 0 : random_byte();
-    k.command = random_command_code();
+    k.device = known ? t->code[at] : pick == 10 ? 0 : random_byte();
+    k.command = random_command_code(known ? b->station[at].two.mode != SECOND_CLOSED : one_in(2));
     k.logical_unit = random_byte();
     k.record = (uint16_t)random_word();
     k.buffer_length = (uint16_t)(one_in(6) ? below(300) : below(9));
@@ -649,7 +703,9 @@ static struct second_command random_command(const struct trial *t)
         k.device = random_byte();
         k.command = one_in(9) ? k.command : 0x08;
     }
-    if (t->eager && t->kind == ONE_UNIT && one_in(2))
+    if (t->kind == ONE_CONTROLLER && b != NULL && b->two.ring_count > 0 && one_in(2))
+        k.device = b->two.ring[below(b->two.ring_count)].code;
+    if (t->eager && t->kind == ONE_UNIT && b->station[0].two.mode != SECOND_CLOSED && one_in(2))
         k.command = 0x04;
     return k;
 }
@@ -661,10 +717,10 @@ static uint32_t random_length(void)
     return pick == 0 ? 254 + below(6) : pick < 4 ? below(60) : pick < 20 ? 3 : below(7);
 }
 
-static void random_submit(const struct trial *t, struct call *c)
+static void random_submit(const struct trial *t, const struct bench *b, struct call *c)
 {
     c->kind = SUBMIT;
-    c->command = random_command(t);
+    c->command = random_command(t, b);
     c->data_length = c->command.command == 0 && !one_in(4) ? 3 : random_length();
     if (c->command.command == 0 && !one_in(4))
         c->command.buffer_length = (uint16_t)(4 + below(3));
@@ -700,9 +756,9 @@ static void open_data(uint8_t *bytes)
     bytes[2] = attributes[below(sizeof attributes)];
 }
 
-static void partner_command(const struct trial *t, struct partner *p)
+static void partner_command(const struct trial *t, const struct bench *b, struct partner *p)
 {
-    struct second_command k = random_command(t);
+    struct second_command k = random_command(t, b);
     uint8_t data[MOST_DATA];
     uint32_t n = k.command == 0 && !one_in(4) ? 3 : t->eager && k.command == 4 ? below(257) : random_length();
 
@@ -801,7 +857,7 @@ static void unit_step(const struct trial *t, const struct bench *b, struct partn
         partner_clear(p);
         p->frame = true;
         p->rest = 1 + below(2);
-        partner_command(t, p);
+        partner_command(t, b, p);
         return;
     }
     if (!partner_sends(p, hsk_low))
@@ -872,11 +928,11 @@ static void random_call(const struct trial *t, const struct bench *b, struct par
     c->at = (uint8_t)(t->units > 0 ? below(t->units) : 0);
     c->byte = random_byte();
     if (t->kind != ONE_CONTROLLER && t->units > 0 && (pick < 3 || (t->eager && pick >= 40 && pick < 44))) {
-        c->kind = (uint8_t)(pick == 0 || pick >= 40 ? FEED : pick == 1 && !t->eager ? TAKE : RAISE);
+        c->kind = (uint8_t)(pick == 0 || pick >= 40 ? FEED : pick == 1 && !t->eager ? TAKE : one_in(3) ? RAISE : FEED);
         return;
     }
     if (t->kind != ONE_UNIT && pick >= 3 && pick < 6) {
-        random_submit(t, c);
+        random_submit(t, b, c);
         return;
     }
     if (t->kind != ONE_UNIT && pick == 6) {
@@ -1016,6 +1072,9 @@ static void shrink(struct trial *t, long first)
     size_t before;
 
     t->calls = t->calls == 0 ? 0 : (size_t)first + 1;
+    copy(&less, t);
+    less.started = false;
+    still_differs(t);
     do {
         before = t->calls;
         for (size_t part = t->calls / 2; part > 0; part /= 2)
@@ -1034,10 +1093,21 @@ static int report(struct trial *t, long first)
 
     shrink(t, first);
     printf("DIFFERENCE in %s: %s\n", kinds[t->kind], difference);
-    for (unsigned i = 0; i < t->units; i++)
-        printf("unit %u code %u retry %" PRIu32 "\n", i, t->code[i], t->retry[i]);
-    if (t->kind != ONE_UNIT)
-        printf("controller timeout %" PRIu32 "\n", t->timeout);
+    for (unsigned i = 0; i < t->units; i++) {
+        const struct start *f = &t->start[i];
+
+        printf("unit %u code %u retry %" PRIu32, i, t->code[i], t->retry[i]);
+        if (t->started)
+            printf(" mode %u accepted %u enabled %d requesting %d input %u from %u output %u from %u", f->mode, f->accepted, f->enabled,
+                   f->requesting, f->input_count, f->input_head, f->output_count, f->output_head);
+        printf("\n");
+    }
+    if (t->kind != ONE_UNIT) {
+        printf("controller timeout %" PRIu32, t->timeout);
+        for (unsigned i = 0; t->started && i < t->entries; i++)
+            printf("%s %u%s", i == 0 ? " ring" : "", t->entry[i].code, t->entry[i].marked ? "*" : "");
+        printf("\n");
+    }
     for (size_t i = 0; i < t->calls; i++)
         print_call(&t->call[i]);
     printf("%zu calls\n", t->calls);
@@ -1057,6 +1127,40 @@ static uint8_t new_code(const struct trial *t, unsigned n)
     }
 }
 
+static uint16_t random_count(void)
+{
+    return (uint16_t)(one_in(3) ? 256 - below(5) : one_in(2) ? below(5) : below(257));
+}
+
+static void random_start(struct start *f)
+{
+    memset(f, 0, sizeof *f);
+    f->output_head = random_byte();
+    f->output_count = random_count();
+    f->mode = (uint8_t)(one_in(3) ? below(4) : SECOND_UPDATE);
+    if (f->mode == SECOND_CLOSED)
+        return;
+    f->accepted = (uint8_t)(1 + below(128));
+    f->enabled = one_in(2);
+    f->requesting = f->enabled && one_in(2);
+    f->input_head = random_byte();
+    f->input_count = f->mode == SECOND_OUTPUT ? 0 : random_count();
+}
+
+/* A ring of other codes, or of those that are on the bus. */
+static void random_ring(struct trial *t)
+{
+    uint8_t first = (uint8_t)(1 + below(200)), apart = (uint8_t)(1 + below(3));
+
+    t->entries = t->kind == A_BUS ? below(t->units + 1) : one_in(3) ? HEXBUS_RING_ENTRIES : below(HEXBUS_RING_ENTRIES + 1);
+    for (unsigned i = 0; i < t->entries; i++) {
+        t->entry[i].code = t->kind == A_BUS ? t->code[i] : (uint8_t)(first + i * apart);
+        t->entry[i].marked = one_in(3);
+        if (t->entry[i].code == 0)
+            t->entries = i;
+    }
+}
+
 static void setup(struct trial *t, enum trial_kind kind)
 {
     t->kind = kind;
@@ -1069,7 +1173,10 @@ static void setup(struct trial *t, enum trial_kind kind)
     for (unsigned i = 0; i < t->units; i++) {
         t->code[i] = one_in(200) ? 0 : new_code(t, i);
         t->retry[i] = one_in(100) ? random_word() >> below(32) : 4 + below(30);
+        random_start(&t->start[i]);
     }
+    t->started = one_in(2);
+    random_ring(t);
 }
 
 /* Returns the steps that were taken, or -1 for a difference. */
@@ -1101,6 +1208,24 @@ static long run_trial(enum trial_kind kind)
     return steps;
 }
 
+/* Settings around their limits: a party is made or refused, and new. */
+static int making_trial(void)
+{
+    static const uint32_t limits[] = { 0, 3, 4, 7, 8, 65535, 65536, 65536 + 8, UINT32_MAX };
+    static struct trial t;
+    static struct bench b;
+
+    setup(&t, A_BUS);
+    t.units = 1;
+    t.started = false;
+    t.code[0] = one_in(4) ? 0 : random_byte();
+    t.retry[0] = one_in(8) ? random_word() >> below(32) : limits[below(sizeof limits / sizeof limits[0])];
+    t.timeout = one_in(8) ? random_word() >> below(32) : limits[below(sizeof limits / sizeof limits[0])];
+    if (prepare(&t, &b) && (!all_made || (same_unit(&b.station[0]) && same_controller(&b))))
+        return 0;
+    return report(&t, 0);
+}
+
 /* ---- Messages and classes ---------------------------------------------- */
 
 static int fails(const char *what)
@@ -1120,7 +1245,7 @@ static bool read_as(const hexbus_command *r, const hexbus_command *before, uint3
 
 static int command_trial(const uint8_t *data, uint32_t n, struct buffer *one, struct buffer *two, uint32_t room)
 {
-    struct second_command k = random_command(&(struct trial){ .units = 0 }), s = { 0 };
+    struct second_command k = random_command(&(struct trial){ .units = 0 }, NULL), s = { 0 };
     hexbus_command h = in_words(&k, ((uint64_t)random_word() << 32) + random_word()), r = { 1, 2, 3, 4, 5, 6 }, r_before = r;
     struct second_part part = { 9, 0 };
     size_t i = below(2 * (9 + n) + 3), length = one_in(2) ? 9 + n : below(ROOM);
@@ -1273,7 +1398,7 @@ static bool garbage_controller(void)
         bool bav = one_in(2), hsk = one_in(2), busy = one_in(4);
         uint8_t nibble = (uint8_t)below(17), byte = (uint8_t)below(8);
         size_t n = u.controller.word[8] & FIELD, room = u.controller.word[7] & FIELD;
-        struct second_command k = random_command(&(struct trial){ .units = 0 });
+        struct second_command k = random_command(&(struct trial){ .units = 0 }, NULL);
         hexbus_command h = in_words(&k, seed);
         hexbus_event e = { 7, 8, 9 }, f = e;
         bool fits = room <= ROOM;
@@ -1322,6 +1447,7 @@ static int garbage(long steps)
 
 int main(int argc, char **argv)
 {
+    static const enum trial_kind turns[] = { ONE_UNIT, ONE_CONTROLLER, A_BUS, ONE_UNIT, ONE_CONTROLLER, ONE_UNIT };
     long wanted = argc > 1 ? atol(argv[1]) : 10000000, done[3] = { 0, 0, 0 };
     uint64_t seed = argc > 2 ? strtoull(argv[2], NULL, 0) : (uint64_t)time(NULL);
 
@@ -1334,18 +1460,21 @@ int main(int argc, char **argv)
     for (unsigned code = 0; code < 256; code++)
         if (hexbus_class((uint8_t)code) != second_class((uint8_t)code))
             return fails("the class of a code");
+    for (long i = 0; i < wanted / 1000; i++)
+        if (making_trial() != 0)
+            return 1;
     for (long i = 0; i < wanted / 20; i++)
         if (message_trial() != 0)
             return 1;
     if (garbage(wanted / 10) != 0)
         return 1;
     while (done[0] + done[1] + done[2] < wanted)
-        for (int kind = 0; kind < 3; kind++) {
-            long steps = run_trial((enum trial_kind)kind);
+        for (size_t i = 0; i < sizeof turns / sizeof turns[0]; i++) {
+            long steps = run_trial(turns[i]);
 
             if (steps < 0)
                 return 1;
-            done[kind] += steps;
+            done[turns[i]] += steps;
         }
     printf("%ld messages, %ld calls on words that no save makes, %ld steps of units, %ld of controllers, %ld on buses: no difference\n", wanted / 20,
            wanted / 10, done[0], done[1], done[2]);
