@@ -1324,112 +1324,152 @@ static bool same_words(struct words a, struct words b)
     return true;
 }
 
+/* A call, and whether it changed the state. */
+struct any_call {
+    uint32_t pick;
+    bool bav, hsk, busy;
+    uint8_t nibble, byte;
+    size_t data_length, room;
+    hexbus_command fields;
+};
+
+struct any_answer {
+    uint32_t number;
+    bool changes;
+};
+
+static struct any_call random_any_call(void)
+{
+    struct second_command k = random_command(&(struct trial){ .units = 0 }, NULL);
+
+    return (struct any_call){
+        .pick = below(12), .bav = !one_in(4), .hsk = one_in(2), .busy = one_in(4), .nibble = (uint8_t)below(17), .byte = (uint8_t)below(8),
+        .room = one_in(20) ? 255 : 256, .fields = in_words(&k, random_state)
+    };
+}
+
+static struct any_answer call_any_unit(struct unit_words *u, struct memory *m, const struct any_call *c)
+{
+    uint32_t n;
+
+    switch (c->pick) {
+    case 0:
+        n = hexbus_unit_feed(&u->unit, m->input.bytes, c->byte);
+        break;
+    case 1:
+        n = hexbus_unit_take(&u->unit, m->output.bytes);
+        return (struct any_answer){ n, n != HEXBUS_NO_BYTE };
+    case 2:
+        n = hexbus_unit_raise(&u->unit);
+        break;
+    default:
+        n = hexbus_unit_step(&u->unit, c->bav, c->hsk, c->nibble, c->busy, m->command.bytes, c->room, m->input.bytes, m->output.bytes);
+        same(n == (c->nibble > 15 ? 5u : c->room < 256 ? 11u : 0u), "a step of words that no save makes");
+    }
+    return (struct any_answer){ n, n == 0 };
+}
+
+static bool same_any_unit(const struct unit_words *u, const struct unit_words *v)
+{
+    hexbus_unit_looks l, m;
+
+    hexbus_unit_look(&u->unit, &l);
+    hexbus_unit_look(&v->unit, &m);
+    return same(memcmp(&l, &m, sizeof l) == 0 && hexbus_unit_pulls(&u->unit) == hexbus_unit_pulls(&v->unit), "a unit in words that no save makes")
+        && kept_around(u->before, u->after) && kept_around(v->before, v->after);
+}
+
 static bool garbage_unit(void)
 {
     static struct memory one, two;
     struct unit_words u = { .before = { 0 } }, v;
-    uint32_t before[HEXBUS_UNIT_WORDS], before_v[HEXBUS_UNIT_WORDS], first, answer;
+    struct words w = words_of(&u), x = words_of(&v);
     uint64_t seed = ((uint64_t)random_word() << 32) + random_word();
-    hexbus_unit_looks l, m;
 
     fill(&one, sizeof one, &seed);
     two = one;
-    random_words(words_of(&u));
+    random_words(w);
     v = u;
-    garble(words_of(&v), seed | 1);
+    garble(x, seed | 1);
     if (broken == LOOKS_AT_NOBODYS_BITS)
         v.unit.word[3] ^= FLAG;
-    for (int i = 0; i < 16; i++) {
-        bool bav = !one_in(8), hsk = one_in(2), busy = one_in(4);
-        uint8_t nibble = (uint8_t)below(17), byte = random_byte();
-        size_t room = one_in(20) ? 255 : 256;
+    difference = NULL;
+    for (int i = 0; i < 16 && difference == NULL; i++) {
+        struct unit_words before_u = u, before_v = v;
+        struct any_call c = random_any_call();
+        struct any_answer a = call_any_unit(&u, &one, &c), b = call_any_unit(&v, &two, &c);
 
-        memcpy(before, u.unit.word, sizeof before);
-        memcpy(before_v, v.unit.word, sizeof before_v);
-        switch (below(12)) {
-        case 0:
-            first = hexbus_unit_feed(&u.unit, one.input.bytes, byte);
-            answer = hexbus_unit_feed(&v.unit, two.input.bytes, byte);
-            break;
-        case 1:
-            first = hexbus_unit_take(&u.unit, one.output.bytes) ^ HEXBUS_NO_BYTE;
-            answer = hexbus_unit_take(&v.unit, two.output.bytes) ^ HEXBUS_NO_BYTE;
-            if (!same(first == answer, "taking from words that no save makes"))
-                return false;
-            first = answer = first != 0 ? 0 : 1;
-            break;
-        case 2:
-            first = hexbus_unit_raise(&u.unit);
-            answer = hexbus_unit_raise(&v.unit);
-            break;
-        default:
-            first = hexbus_unit_step(&u.unit, bav, hsk, nibble, busy, one.command.bytes, room, one.input.bytes, one.output.bytes);
-            answer = hexbus_unit_step(&v.unit, bav, hsk, nibble, busy, two.command.bytes, room, two.input.bytes, two.output.bytes);
-            if (!same(first == (nibble > 15 ? 5u : room < 256 ? 11u : 0u), "a step of words that no save makes"))
-                return false;
-        }
-        hexbus_unit_look(&u.unit, &l);
-        hexbus_unit_look(&v.unit, &m);
-        if (!(same(first == answer && memcmp(&l, &m, sizeof l) == 0 && memcmp(&one, &two, sizeof one) == 0
-                   && hexbus_unit_pulls(&u.unit) == hexbus_unit_pulls(&v.unit), "a unit in words that no save makes")
-              && kept_around(u.before, u.after) && kept_around(v.before, v.after)
-              && kept(before, words_of(&u), first == 0) && kept(before_v, words_of(&v), first == 0)
-              && (first != 0 || same_words(words_of(&u), words_of(&v)))))
-            return false;
+        if (same(a.number == b.number, "a call on words that no save makes") && same_any_unit(&u, &v)
+            && same(memcmp(&one, &two, sizeof one) == 0, "bytes that are lent with words that no save makes")
+            && kept(before_u.unit.word, w, a.changes) && kept(before_v.unit.word, x, a.changes) && a.changes)
+            same_words(w, x);
     }
-    return true;
+    return difference == NULL;
 }
 
-static bool garbage_controller(void)
+/* What a controller is lent: as much as its words may ask for. */
+struct plenty {
+    uint8_t data[65536], response[65536];
+};
+
+static struct any_answer call_any_controller(struct controller_words *u, struct plenty *m, const struct any_call *c, hexbus_event *e)
 {
-    static struct buffer one, two;
-    static uint8_t data[65536], response[65536], other[65536];
-    struct controller_words u = { .before = { 0 } }, v;
-    uint32_t before[HEXBUS_CONTROLLER_WORDS], before_v[HEXBUS_CONTROLLER_WORDS], first, answer;
-    uint64_t seed = ((uint64_t)random_word() << 32) + random_word();
+    uint32_t n;
+
+    switch (c->pick) {
+    case 0:
+        n = hexbus_controller_submit(&u->controller, &c->fields, m->data, c->byte, m->response, 400);
+        break;
+    case 1:
+        n = hexbus_controller_acknowledge(&u->controller, c->byte);
+        break;
+    default:
+        n = hexbus_controller_step(&u->controller, c->bav, c->hsk, c->nibble, c->busy, m->data, c->data_length, m->response, c->room, e);
+    }
+    return (struct any_answer){ n, n == 0 };
+}
+
+static bool same_any_controller(const struct controller_words *u, const struct controller_words *v, size_t entry)
+{
     hexbus_controller_looks l, m;
 
-    fill(&one, sizeof one, &seed);
-    two = one;
-    random_words(controller_words_of(&u));
-    v = u;
-    garble(controller_words_of(&v), seed | 1);
-    for (int i = 0; i < 16; i++) {
-        bool bav = one_in(2), hsk = one_in(2), busy = one_in(4);
-        uint8_t nibble = (uint8_t)below(17), byte = (uint8_t)below(8);
-        size_t n = u.controller.word[8] & FIELD, room = u.controller.word[7] & FIELD;
-        struct second_command k = random_command(&(struct trial){ .units = 0 }, NULL);
-        hexbus_command h = in_words(&k, seed);
-        hexbus_event e = { 7, 8, 9 }, f = e;
-        bool fits = room <= ROOM;
+    hexbus_controller_look(&u->controller, &l);
+    hexbus_controller_look(&v->controller, &m);
+    return same(memcmp(&l, &m, sizeof l) == 0 && hexbus_controller_pulls(&u->controller) == hexbus_controller_pulls(&v->controller)
+                && hexbus_controller_entry(&u->controller, entry) == hexbus_controller_entry(&v->controller, entry),
+                "a controller in words that no save makes")
+        && kept_around(u->before, u->after) && kept_around(v->before, v->after);
+}
 
-        memcpy(before, u.controller.word, sizeof before);
-        memcpy(before_v, v.controller.word, sizeof before_v);
-        switch (below(12)) {
-        case 0:
-            first = hexbus_controller_submit(&u.controller, &h, data, byte, response, 400);
-            answer = hexbus_controller_submit(&v.controller, &h, data, byte, response, 400);
-            break;
-        case 1:
-            first = hexbus_controller_acknowledge(&u.controller, byte);
-            answer = hexbus_controller_acknowledge(&v.controller, byte);
-            break;
-        default:
-            first = hexbus_controller_step(&u.controller, bav, hsk, nibble, busy, data, n, fits ? one.bytes : response, room, &e);
-            answer = hexbus_controller_step(&v.controller, bav, hsk, nibble, busy, data, n, fits ? two.bytes : other, room, &f);
-        }
-        hexbus_controller_look(&u.controller, &l);
-        hexbus_controller_look(&v.controller, &m);
-        if (!(same(first == answer && memcmp(&l, &m, sizeof l) == 0 && memcmp(&e, &f, sizeof e) == 0 && memcmp(&one, &two, sizeof one) == 0
-                   && hexbus_controller_pulls(&u.controller) == hexbus_controller_pulls(&v.controller)
-                   && hexbus_controller_entry(&u.controller, byte) == hexbus_controller_entry(&v.controller, byte),
-                   "a controller in words that no save makes")
-              && kept_around(u.before, u.after) && kept_around(v.before, v.after)
-              && kept(before, controller_words_of(&u), first == 0) && kept(before_v, controller_words_of(&v), first == 0)
-              && (first != 0 || same_words(controller_words_of(&u), controller_words_of(&v)))))
-            return false;
+/* Mostly lent what the words ask for. */
+static bool garbage_controller(void)
+{
+    static struct plenty one, two;
+    struct controller_words u = { .before = { 0 } }, v;
+    struct words w = controller_words_of(&u), x = controller_words_of(&v);
+
+    random_words(w);
+    v = u;
+    garble(x, random_state | 1);
+    difference = NULL;
+    for (int i = 0; i < 16 && difference == NULL; i++) {
+        struct controller_words before_u = u, before_v = v;
+        struct any_call c = random_any_call();
+        hexbus_event e = { 7, 8, 9 }, f = e;
+        struct any_answer a, b;
+
+        c.data_length = one_in(20) ? below(65536) : u.controller.word[KIND + 6] & FIELD;
+        c.room = one_in(20) ? below(65536) : u.controller.word[KIND + 5] & FIELD;
+        a = call_any_controller(&u, &one, &c, &e);
+        b = call_any_controller(&v, &two, &c, &f);
+        if (same(a.number == b.number && memcmp(&e, &f, sizeof e) == 0, "a call on words that no save makes") && same_any_controller(&u, &v, c.byte)
+            && same(a.changes || (e.kind == 7 && e.value == 8 && e.count == 9), "the event of a refused step")
+            && kept(before_u.controller.word, w, a.changes) && kept(before_v.controller.word, x, a.changes) && a.changes)
+            same_words(w, x);
     }
-    return true;
+    if (difference == NULL && one_in(50))
+        same(memcmp(&one, &two, sizeof one) == 0, "bytes that are lent with words that no save makes");
+    return difference == NULL;
 }
 
 static int garbage(long steps)
@@ -1468,6 +1508,7 @@ int main(int argc, char **argv)
             return 1;
     if (garbage(wanted / 10) != 0)
         return 1;
+    difference = NULL;
     while (done[0] + done[1] + done[2] < wanted)
         for (size_t i = 0; i < sizeof turns / sizeof turns[0]; i++) {
             long steps = run_trial(turns[i]);
