@@ -1,5 +1,5 @@
 /*
- * How deep each exported call goes on the stack, over the random calls of compare.c: linked with --wrap, so that every call comes through
+ * How deep each exported call goes on the stack, over the random calls of host/compare: linked with --wrap, so that every call comes through
  * here. Before it the stack below is painted, after it the lowest byte that is no longer paint is looked for. What is printed counts from
  * the caller's stack pointer, with the return address and the arguments that stand on the stack. At the end: a call, its bytes; for
  * comparison, those of the C implementation.
