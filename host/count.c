@@ -1,7 +1,8 @@
 /*
  * A plugin for Debian's qemu-user that counts the instructions of a program: a block of them adds its number when it is run. The total
  * goes to the error output when the program ends. With from=A,bytes=N (hexadecimal) what stands in those N bytes of code is not counted.
- * Debian has no package with QEMU's header, so what is used of it is declared here (version 1 of the interface).
+ * Debian has no package with QEMU's header, so what is used of it is declared here; it is the same in version 1 of the interface, which
+ * QEMU has before 9.0, and in version 2, the least that it takes since. Compiled with -DVERSION=1 or 2.
  */
 #include <inttypes.h>
 #include <stddef.h>
@@ -23,7 +24,7 @@ void qemu_plugin_register_atexit_cb(qemu_plugin_id_t id, void (*call)(qemu_plugi
 extern int qemu_plugin_version;
 int qemu_plugin_install(qemu_plugin_id_t id, const struct qemu_info *info, int argc, char **argv);
 
-int qemu_plugin_version = 1;
+int qemu_plugin_version = VERSION;
 static uint64_t count, from, bytes;
 
 static void run(unsigned processor, void *instructions)
