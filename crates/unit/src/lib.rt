@@ -99,7 +99,7 @@ fn lowered(u: Unit, hsk: bool, m: Moved) -> Unit
 }
 
 // A request's pull is released at the first HSK low that is seen.
-fn still_asks(asking: bool, hsk: bool) -> bool
+pub fn still_asks(asking: bool, hsk: bool) -> bool
     ensures { λ r. ⌜ r ≡ asking && not hsk ⌝ }
 {
     if asking {

@@ -13,10 +13,10 @@ use Rattle.field.specs.Field.{byteFrom, nibbleOf}
 use Rattle.header.specs.Header.{InRange}
 use Rattle.header.specs.declared.Header.{Header}
 use Rattle.header.proofs.Laws.{with-none}
-use Rattle.line.specs.Line.{senderNibble, hearOf, takenOf}
+use Rattle.line.specs.Line.{senderNibble, hearOf, takenOf, isReady}
 use Rattle.line.specs.declared.Lines.{Lines}
 use Rattle.line.specs.declared.Listener.{Listener}
-use Rattle.line.specs.declared.Listener.the-variants.{Holding}
+use Rattle.line.specs.declared.Listener.the-variants.{Ready, Holding, Waiting}
 use Rattle.line.specs.declared.Sender.{Sender}
 use Rattle.line.specs.declared.Sender.the-variants.{Next, Placed, Kept}
 use Rattle.message.specs.Format.{responseFormat, headOf, endOf}
@@ -31,7 +31,7 @@ use Rattle.phase.proofs.Laws.{last-byte, last-output, more-bytes, more-output}
 use Rattle.place.proofs.Places.{nibble-at-place}
 use Rattle.queue.specs.Queue.{held, contents, byteAt as queue·byteAt}
 use Rattle.queue.specs.declared.Queue.{Queue}
-use Rattle.reply.specs.Reply.{responseBytes, lastNibble}
+use Rattle.reply.specs.Reply.{isSilent, responseBytes, lastNibble}
 use Rattle.reply.proofs.Laws.{queued-at, length-data}
 use Rattle.serial.specs.Serial.{finished}
 use Rattle.serial.specs.declared.Reply.{Reply}
@@ -41,7 +41,7 @@ use Rattle.unit.specs.Unit.{asks, highStep, lowStep, unitStep, unitBuffer, unit
 use Rattle.unitwords.specs.Unit.{openingOf, openingNumber, acceptedIn, queueOf, loadedSerial, serialIn, replyOf, replyTag, replyIn, loadedHeader, headerIn, loadedPartial, loadedPhase, selectingIn, progressIn, phaseIn, loaded, settingsIn, savedIn}
 use Rattle.words.specs.Words.{at, numberIn, flagOf, bit, flagIn, listenerOf, listenerTag, senderOf, senderTag, senderIn}
 use Rattle.words.proofs.Laws.{again8, again16}
-use Rattle.unitround.specs.Round.{rowIn, movedIn, sentStep}
+use Rattle.unitround.specs.Round.{rowIn, movedIn, repliedStep, sentStep}
 
 flag-again : (word : ℕ) → flagIn word (flagOf word) ≡ word
 flag-again word = by-parity (word % 2) refl
@@ -174,12 +174,9 @@ module _ (ws : List ℕ) where
         ∙ ap (set (set ws 2 x) 3) (behind ws 2 3 x (omega arith) ∙ sym (flag-again (at ws 3)) ∙ ap (flagIn (at ws 3)) t)
         ∙ ap (λ (y : ℕ). set (set ws 2 y) 3 (flagIn (at ws 3) a)) ex
 
-    pub pull-ends : {v : ℕ} → f ≡ true → hsk ≡ true → v ≡ flagIn (at (set ws 2 x) 3) false → set (set ws 2 x) 3 v ≡ rowIn ws 0 (flagOf (at ws 3) && not hsk)
-    pull-ends t h e =
-        rw (flag-is t, h) (λ k. set (set ws 2 (ex k)) 3 ((e ∙ ap (λ (w : ℕ). flagIn w false) (behind ws 2 3 x (omega arith))) k))
-
-    pub pull-stays : f ≡ true → hsk ≡ false → set ws 2 x ≡ rowIn ws 0 (flagOf (at ws 3) && not hsk)
-    pull-stays t h = rw (flag-is t, h) (pull-kept (flag-is t))
+    pub pull-after : {a : Bool} {v : ℕ} → f ≡ true → a ≡ true && not hsk → v ≡ flagIn (at (set ws 2 x) 3) a → set (set ws 2 x) 3 v ≡ rowIn ws 0 (flagOf (at ws 3) && not hsk)
+    pull-after t h e =
+        rw (flag-is t) (λ k. set (set ws 2 (ex k)) 3 ((e ∙ (λ j. flagIn (behind ws 2 3 x (omega arith) j) (h j))) k))
 
     pub no-pull : f ≡ false → set ws 2 x ≡ rowIn ws 0 (flagOf (at ws 3) && not hsk)
     no-pull t = rw (flag-is t) (pull-kept (flag-is t))
@@ -416,23 +413,114 @@ module _ (ws : List ℕ) where
   tagged-at : (t j : ℕ) → 13 < j → at (tagged t) j ≡ at ws j
   tagged-at t j h = behind (set ws 12 4) 13 j t h ∙ behind ws 12 j 4 (omega arith)
 
+  written : (s : Sender) (i : ℕ) (w : Bool)
+      → phaseIn ws (Responding (replyOf (at ws 17) (at ws 18)) i s w)
+      ≡ set (set (set (set (tagged (senderTag s)) 14 (flagIn (at ws 14) w)) 15 (senderIn (at ws 15) s)) 16 i) 17 (replyTag (replyOf (at ws 17) 0))
+  written s i w =
+      let value : at ws 18 ≡ at (set (set (set (set (tagged (senderTag s)) 14 (flagIn (at ws 14) w)) 15 (senderIn (at ws 15) s)) 16 i) 17 (replyTag (replyOf (at ws 17) 0))) 18 =
+      sym
+      (behind (set (set (set (tagged (senderTag s)) 14 (flagIn (at ws 14) w)) 15 (senderIn (at ws 15) s)) 16 i) 17 18 (replyTag (replyOf (at ws 17) 0)) (omega arith)
+      ∙ behind (set (set (tagged (senderTag s)) 14 (flagIn (at ws 14) w)) 15 (senderIn (at ws 15) s)) 16 18 i (omega arith)
+      ∙ behind (set (tagged (senderTag s)) 14 (flagIn (at ws 14) w)) 15 18 (senderIn (at ws 15) s) (omega arith)
+      ∙ behind (tagged (senderTag s)) 14 18 (flagIn (at ws 14) w) (omega arith)
+      ∙ tagged-at (senderTag s) 18 (omega arith)) in
+      (λ k. set (set (set (set (set (tagged (senderTag s)) 14 (flagIn (at ws 14) w)) 15 (senderIn (at ws 15) s)) 16 i) 17 (tag-again k)) 18 (reply-again k))
+      ∙ ap (set (set (set (set (set (tagged (senderTag s)) 14 (flagIn (at ws 14) w)) 15 (senderIn (at ws 15) s)) 16 i) 17 (replyTag (replyOf (at ws 17) 0))) 18) value
+      ∙ set-getD (set (set (set (set (tagged (senderTag s)) 14 (flagIn (at ws 14) w)) 15 (senderIn (at ws 15) s)) 16 i) 17 (replyTag (replyOf (at ws 17) 0))) 18 0
+
+  -- Words 15 and 16 behind those of the tags and the flag.
+  waiting-nibble : (t x : ℕ) → set (set (tagged t) 14 x) 15 (at ws 15) ≡ set (tagged t) 14 x
+  waiting-nibble t x =
+      ap (set (set (tagged t) 14 x) 15) (sym (behind (tagged t) 14 15 x (omega arith) ∙ tagged-at t 15 (omega arith)))
+      ∙ set-getD (set (tagged t) 14 x) 15 0
+
+  waiting-place : (t x : ℕ) → set (set (tagged t) 14 x) 16 (at ws 16) ≡ set (tagged t) 14 x
+  waiting-place t x =
+      ap (set (set (tagged t) 14 x) 16) (sym (behind (tagged t) 14 16 x (omega arith) ∙ tagged-at t 16 (omega arith)))
+      ∙ set-getD (set (tagged t) 14 x) 16 0
+
+  sender-again : senderIn (at ws 15) (senderOf (at ws 13) (at ws 15)) ≡ at ws 15
+  sender-again = by-tag (eqb (at ws 13) 1) (eqb (at ws 13) 2)
+    where
+      by-tag : (a b : Bool) → senderIn (at ws 15) (cond a (Placed (at ws 15 % 256)) (cond b (Kept (at ws 15 % 256)) Next)) ≡ at ws 15
+      by-tag true b = again8 (at ws 15)
+      by-tag false true = again8 (at ws 15)
+      by-tag false false = refl
+
+  -- The round before the first nibble, and the one before that.
+  pub written-begun : {s : Sender} {t w r : ℕ} → s ≡ senderOf (at ws 13) (at ws 15) → t ≡ senderTag s → w ≡ flagIn (at ws 14) false → r ≡ replyTag (replyOf (at ws 17) 0)
+      → set (set (tagged t) 14 w) 17 r ≡ phaseIn ws (Responding (replyOf (at ws 17) (at ws 18)) (at ws 16) (senderOf (at ws 13) (at ws 15)) false)
+  written-begun {s} {t} es et ew er =
+      let tag : t ≡ senderTag (senderOf (at ws 13) (at ws 15)) = et ∙ ap senderTag es in
+      (λ k. set (set (tagged (tag k)) 14 (ew k)) 17 (er k))
+      ∙ ap (λ (l : List ℕ). set l 17 (replyTag (replyOf (at ws 17) 0)))
+      (sym
+      (ap (λ (n : ℕ). set (set (set (tagged (senderTag (senderOf (at ws 13) (at ws 15)))) 14 (flagIn (at ws 14) false)) 15 n) 16 (at ws 16)) sender-again
+      ∙ ap (λ (l : List ℕ). set l 16 (at ws 16)) (waiting-nibble (senderTag (senderOf (at ws 13) (at ws 15))) (flagIn (at ws 14) false))
+      ∙ waiting-place (senderTag (senderOf (at ws 13) (at ws 15))) (flagIn (at ws 14) false)))
+      ∙ sym (written (senderOf (at ws 13) (at ws 15)) (at ws 16) false)
+
+  silent-by : (a b c d : Bool) (v : ℕ)
+      → isSilent (cond a (Status (v % 256)) (cond b (Opened (v % 256)) (cond c (Bytes (v % 65536)) (cond d Polled Silent))))
+      ≡ eqb (replyTag (cond a (Status 0) (cond b (Opened 0) (cond c (Bytes 0) (cond d Polled Silent))))) 0
+  silent-by true b c d v = refl
+  silent-by false true c d v = refl
+  silent-by false false true d v = refl
+  silent-by false false false true v = refl
+  silent-by false false false false v = refl
+
+  module _ {tag : ℕ} (e : tag ≡ replyTag (replyOf (at ws 17) 0)) where
+    silent-is : {v : Bool} → eqb tag 0 ≡ v → isSilent (replyOf (at ws 17) (at ws 18)) ≡ v
+    silent-is t =
+        silent-by (eqb (at ws 17) 1) (eqb (at ws 17) 2) (eqb (at ws 17) 3) (eqb (at ws 17) 4) (at ws 18) ∙ ap (λ (k : ℕ). eqb k 0) (sym e) ∙ t
+
+    pub no-response : {after : List ℕ} → eqb tag 0 ≡ true → after ≡ phaseIn ws (SittingOut false) → after ≡ phaseIn ws (repliedStep (replyOf (at ws 17) (at ws 18)))
+    no-response t q = rw (silent-is t) q
+
+    pub response-waits : {w : ℕ} → eqb tag 0 ≡ false → w ≡ flagIn (at ws 14) true
+        → set (set (set (tagged 0) 14 w) 16 0) 17 tag ≡ phaseIn ws (repliedStep (replyOf (at ws 17) (at ws 18)))
+    response-waits t ew =
+        rw (silent-is t)
+        ((λ k. set (set (set (tagged 0) 14 (ew k)) 16 0) 17 (e k))
+        ∙ ap (λ (l : List ℕ). set (set l 16 0) 17 (replyTag (replyOf (at ws 17) 0))) (sym (waiting-nibble 0 (flagIn (at ws 14) true)))
+        ∙ sym (written Next 0 true))
+
+  -- Receiving, after the last nibble.
+  module _ (hsk busy : Bool) {ear tag : ℕ} (eh : ear ≡ listenerTag (hearOf (listenerOf (at ws 13)) hsk busy)) (et : tag ≡ replyTag (replyOf (at ws 17) 0)) where
+    ready-by : (l : Listener) → isReady l ≡ eqb (listenerTag l) 0
+    ready-by Ready = refl
+    ready-by Holding = refl
+    ready-by Waiting = refl
+
+    ready-is : {v : Bool} → eqb ear 0 ≡ v → isReady (hearOf (listenerOf (at ws 13)) hsk busy) ≡ v
+    ready-is t = ready-by (hearOf (listenerOf (at ws 13)) hsk busy) ∙ ap (λ (k : ℕ). eqb k 0) (sym eh) ∙ t
+
+    pub all-heard : {after : List ℕ} → eqb ear 0 ≡ true → after ≡ phaseIn ws (repliedStep (replyOf (at ws 17) (at ws 18)))
+        → after ≡ phaseIn ws (answeredStep (listenerOf (at ws 13)) (replyOf (at ws 17) (at ws 18)) hsk busy)
+    all-heard t q = rw (ready-is t) q
+
+    pub not-yet-heard : eqb ear 0 ≡ false
+        → set (set (set ws 12 3) 13 ear) 17 tag ≡ phaseIn ws (answeredStep (listenerOf (at ws 13)) (replyOf (at ws 17) (at ws 18)) hsk busy)
+    not-yet-heard t =
+        let there : at ws 18 ≡ at (set (set (set ws 12 3) 13 ear) 17 tag) 18 =
+        sym (behind (set (set ws 12 3) 13 ear) 17 18 tag (omega arith) ∙ behind (set ws 12 3) 13 18 ear (omega arith) ∙ behind ws 12 18 3 (omega arith)) in
+        rw (ready-is t)
+        (sym (set-getD (set (set (set ws 12 3) 13 ear) 17 tag) 18 0)
+        ∙ ap (set (set (set (set ws 12 3) 13 ear) 17 tag) 18) (sym there ∙ sym reply-again)
+        ∙ (λ k. set (set (set (set ws 12 3) 13 (eh k)) 17 ((et ∙ sym tag-again) k)) 18 (replyIn (at ws 18) (replyOf (at ws 17) (at ws 18)))))
+
   module _ (f : flagOf (at ws 14) ≡ false) where
-    written : (s : Sender) (i : ℕ)
+    not-waiting : (t : ℕ) → set (tagged t) 14 (flagIn (at ws 14) false) ≡ tagged t
+    not-waiting t =
+        ap (set (tagged t) 14) (ap (flagIn (at ws 14)) (sym f) ∙ flag-again (at ws 14) ∙ sym (tagged-at t 14 (omega arith)))
+        ∙ set-getD (tagged t) 14 0
+
+    written-on : (s : Sender) (i : ℕ)
         → phaseIn ws (Responding (replyOf (at ws 17) (at ws 18)) i s false)
         ≡ set (set (set (tagged (senderTag s)) 15 (senderIn (at ws 15) s)) 16 i) 17 (replyTag (replyOf (at ws 17) 0))
-    written s i =
-        let no-wait : flagIn (at ws 14) false ≡ at (tagged (senderTag s)) 14 =
-        ap (flagIn (at ws 14)) (sym f) ∙ flag-again (at ws 14) ∙ sym (tagged-at (senderTag s) 14 (omega arith)) in
-        let value : at ws 18 ≡ at (set (set (set (tagged (senderTag s)) 15 (senderIn (at ws 15) s)) 16 i) 17 (replyTag (replyOf (at ws 17) 0))) 18 =
-        sym
-        (behind (set (set (tagged (senderTag s)) 15 (senderIn (at ws 15) s)) 16 i) 17 18 (replyTag (replyOf (at ws 17) 0)) (omega arith)
-        ∙ behind (set (tagged (senderTag s)) 15 (senderIn (at ws 15) s)) 16 18 i (omega arith)
-        ∙ behind (tagged (senderTag s)) 15 18 (senderIn (at ws 15) s) (omega arith)
-        ∙ tagged-at (senderTag s) 18 (omega arith)) in
-        (λ k. set (set (set (set (set (tagged (senderTag s)) 14 (no-wait k)) 15 (senderIn (at ws 15) s)) 16 i) 17 (tag-again k)) 18 (reply-again k))
-        ∙ ap (λ (l : List ℕ). set (set (set (set l 15 (senderIn (at ws 15) s)) 16 i) 17 (replyTag (replyOf (at ws 17) 0))) 18 (at ws 18)) (set-getD (tagged (senderTag s)) 14 0)
-        ∙ ap (set (set (set (set (tagged (senderTag s)) 15 (senderIn (at ws 15) s)) 16 i) 17 (replyTag (replyOf (at ws 17) 0))) 18) value
-        ∙ set-getD (set (set (set (tagged (senderTag s)) 15 (senderIn (at ws 15) s)) 16 i) 17 (replyTag (replyOf (at ws 17) 0))) 18 0
+    written-on s i =
+        written s i false
+        ∙ ap (λ (l : List ℕ). set (set (set l 15 (senderIn (at ws 15) s)) 16 i) 17 (replyTag (replyOf (at ws 17) 0))) (not-waiting (senderTag s))
 
     same-nibble : (t : ℕ) → set (tagged t) 15 (at ws 15) ≡ tagged t
     same-nibble t = ap (set (tagged t) 15) (sym (tagged-at t 15 (omega arith))) ∙ set-getD (tagged t) 15 0
@@ -440,7 +528,7 @@ module _ (ws : List ℕ) where
     -- A nibble that is kept, one that is placed, and the next.
     written-kept : phaseIn ws (Responding (replyOf (at ws 17) (at ws 18)) (at ws 16) (Kept (at ws 15 % 256)) false) ≡ set (tagged 2) 17 (replyTag (replyOf (at ws 17) 0))
     written-kept =
-        written (Kept (at ws 15 % 256)) (at ws 16)
+        written-on (Kept (at ws 15 % 256)) (at ws 16)
         ∙ ap (λ (n : ℕ). set (set (set (tagged 2) 15 n) 16 (at ws 16)) 17 (replyTag (replyOf (at ws 17) 0))) (again8 (at ws 15))
         ∙ ap (λ (l : List ℕ). set (set l 16 (at ws 16)) 17 (replyTag (replyOf (at ws 17) 0))) (same-nibble 2)
         ∙ ap (λ (l : List ℕ). set l 17 (replyTag (replyOf (at ws 17) 0))) (ap (set (tagged 2) 16) (sym (tagged-at 2 16 (omega arith))) ∙ set-getD (tagged 2) 16 0)
@@ -451,12 +539,12 @@ module _ (ws : List ℕ) where
     written-placed n =
         let there : at ws 16 ≡ at (set (tagged 1) 15 (numberIn 256 (at ws 15) n)) 16 =
         sym (behind (tagged 1) 15 16 (numberIn 256 (at ws 15) n) (omega arith) ∙ tagged-at 1 16 (omega arith)) in
-        written (Placed n) (at ws 16)
+        written-on (Placed n) (at ws 16)
         ∙ ap (λ (l : List ℕ). set l 17 (replyTag (replyOf (at ws 17) 0)))
         (ap (set (set (tagged 1) 15 (numberIn 256 (at ws 15) n)) 16) there ∙ set-getD (set (tagged 1) 15 (numberIn 256 (at ws 15) n)) 16 0)
 
     written-next : (i : ℕ) → phaseIn ws (Responding (replyOf (at ws 17) (at ws 18)) i Next false) ≡ set (set (tagged 0) 16 i) 17 (replyTag (replyOf (at ws 17) 0))
-    written-next i = written Next i ∙ ap (λ (l : List ℕ). set (set l 16 i) 17 (replyTag (replyOf (at ws 17) 0))) (same-nibble 0)
+    written-next i = written-on Next i ∙ ap (λ (l : List ℕ). set (set l 16 i) 17 (replyTag (replyOf (at ws 17) 0))) (same-nibble 0)
 
   -- Responding, by the sender's tag.
   module _ (hsk : Bool) (input : List ℕ) where
@@ -491,25 +579,22 @@ module _ (ws : List ℕ) where
           (said (Placed (nibbleIn (responseBytes (contents input (queueOf (at ws 8) (at ws 9))) (replyOf (at ws 17) (at ws 18))) (at ws 16)))
           (q ∙ sym (written-placed f (nibbleIn (responseBytes (contents input (queueOf (at ws 8) (at ws 9))) (replyOf (at ws 17) (at ws 18))) (at ws 16)))))
 
-  -- A nibble that is sent: which one is the last, in the code's numbers.
-  module _ {reply : Reply} {q : Queue} {last i : ℕ} (er : reply ≡ replyOf (at ws 17) (at ws 18)) (eq : q ≡ queueOf (at ws 8) (at ws 9)) (el : last ≡ lastNibble q reply) (ei : i ≡ at ws 16) where
-    last-is : last ≡ lastNibble (queueOf (at ws 8) (at ws 9)) (replyOf (at ws 17) (at ws 18))
-    last-is = el ∙ (λ k. lastNibble (eq k) (er k))
-
-    pub next-nibble : {after : List ℕ} → flagOf (at ws 14) ≡ false → i < last → after ≡ set (set (tagged 0) 16 (at ws 16 + 1)) 17 (replyTag (replyOf (at ws 17) 0))
-        → after ≡ movedIn ws (sentStep (loadedSerial ws) (replyOf (at ws 17) (at ws 18)) (at ws 16))
-    next-nibble f t x =
-        let below : at ws 16 < lastNibble (queueOf (at ws 8) (at ws 9)) (replyOf (at ws 17) (at ws 18)) = omega (arith, t, ei, last-is) in
+  -- A nibble that is sent: whether it is the last.
+  module _ {last i : ℕ} (el : last ≡ lastNibble (queueOf (at ws 8) (at ws 9)) (replyOf (at ws 17) (at ws 18))) (ei : i ≡ at ws 16) where
+    pub next-nibble : {r : ℕ} → flagOf (at ws 14) ≡ false → i < last → r ≡ replyTag (replyOf (at ws 17) 0)
+        → set (set (tagged 0) 16 (at ws 16 + 1)) 17 r ≡ movedIn ws (sentStep (loadedSerial ws) (replyOf (at ws 17) (at ws 18)) (at ws 16))
+    next-nibble f t er =
+        let below : at ws 16 < lastNibble (queueOf (at ws 8) (at ws 9)) (replyOf (at ws 17) (at ws 18)) = omega (arith, t, ei, el) in
         rw (lt-ltb (at ws 16) (lastNibble (queueOf (at ws 8) (at ws 9)) (replyOf (at ws 17) (at ws 18))) below)
-        (x ∙ sym (written-next f (at ws 16 + 1)) ∙ ap (λ (l : List ℕ). phaseIn l (Responding (replyOf (at ws 17) (at ws 18)) (at ws 16 + 1) Next false)) (sym serial-again))
+        (ap (set (set (tagged 0) 16 (at ws 16 + 1)) 17) er
+        ∙ sym (written-next f (at ws 16 + 1))
+        ∙ ap (λ (l : List ℕ). phaseIn l (Responding (replyOf (at ws 17) (at ws 18)) (at ws 16 + 1) Next false)) (sym serial-again))
 
-    pub last-nibble : {s t : Serial} {between after : List ℕ} → last ≤ i → s ≡ loadedSerial ws → t ≡ finished s reply → between ≡ serialIn ws t
-        → after ≡ phaseIn between (SittingOut false)
+    pub last-nibble : {after : List ℕ} → last ≤ i → after ≡ movedIn ws (moves (SittingOut false) (finished (loadedSerial ws) (replyOf (at ws 17) (at ws 18))))
         → after ≡ movedIn ws (sentStep (loadedSerial ws) (replyOf (at ws 17) (at ws 18)) (at ws 16))
-    last-nibble h es et eb x =
-        let past : lastNibble (queueOf (at ws 8) (at ws 9)) (replyOf (at ws 17) (at ws 18)) ≤ at ws 16 = omega (arith, h, ei, last-is) in
-        rw (le-ltb (at ws 16) (lastNibble (queueOf (at ws 8) (at ws 9)) (replyOf (at ws 17) (at ws 18))) past)
-        (x ∙ ap (λ (l : List ℕ). phaseIn l (SittingOut false)) (eb ∙ ap (serialIn ws) (et ∙ (λ k. finished (es k) (er k)))))
+    last-nibble h q =
+        let past : lastNibble (queueOf (at ws 8) (at ws 9)) (replyOf (at ws 17) (at ws 18)) ≤ at ws 16 = omega (arith, h, ei, el) in
+        rw (le-ltb (at ws 16) (lastNibble (queueOf (at ws 8) (at ws 9)) (replyOf (at ws 17) (at ws 18))) past) q
 
 -- A nibble of a read's data is of a byte of the queue.
 pub read-at : (bytes : List ℕ) (q : Queue) (n i : ℕ) → 4 ≤ i → i / 2 - 2 < n → i / 2 - 2 < held q

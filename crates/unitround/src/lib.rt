@@ -2,17 +2,20 @@
 ghost use mathlib.Core.Path.{_≡_};
 ghost use mathlib.Core.Bool.{false, _&&_, not};
 ghost use mathlib.Core.List.{[], _∷_};
-ghost use Prim.Native.Nat.{_%_, _≤_};
+ghost use Prim.Native.Nat.{_%_};
 ghost use lib.Seq.{sets};
 ghost use Rattle.message.specs.Nibbles.{nibbleIn};
-ghost use Rattle.phase.specs.Phase.{selectingStep, answered, stored, byteStep, byteBuffer, byteOutput, takingStep, takingBuffer, takingOutput, answeredStep, respondingStep, phaseStep, phaseBuffer, phaseOutput, idleStep};
-ghost use Rattle.phase.specs.declared.Phase.the-variants.{Responding};
+ghost use Rattle.header.specs.Header.{headerIn};
+ghost use Rattle.phase.specs.Phase.{moves, partial, withByte, selected, selectingStep, answered, stored, byteStep, byteBuffer, byteOutput, takingStep, takingBuffer, takingOutput, answeredStep, respondingStep, phaseStep, phaseBuffer, phaseOutput, idleStep};
+ghost use Rattle.phase.specs.declared.Phase.the-variants.{Responding, SittingOut};
+ghost use Rattle.phase.specs.declared.Progress.the-variants.{Taking};
 ghost use Rattle.queue.specs.Queue.{contents};
-ghost use Rattle.reply.specs.Reply.{responseBytes};
+ghost use Rattle.reply.specs.Reply.{responseBytes, lastNibble};
+ghost use Rattle.serial.specs.Serial.{finished};
 ghost use Rattle.unit.specs.Unit.{highStep, unitStep, unitBuffer, unitOutput, pullsOf, pullsHsk, pullsNibble};
-ghost use Rattle.unitwords.specs.Unit.{queueOf, loadedSerial, replyOf, replyTag, loadedPartial, loadedPhase, phaseIn, loaded, savedIn};
+ghost use Rattle.unitwords.specs.Unit.{queueOf, loadedSerial, replyOf, replyTag, loadedPartial, loadedPhase, progressIn, phaseIn, loaded, savedIn};
 ghost use Rattle.words.specs.Words.{at, numberIn, flagOf, listenerOf, senderOf};
-ghost use Rattle.unitround.specs.Round.{rowIn, movedIn, sentStep};
+ghost use Rattle.unitround.specs.Round.{rowIn, movedIn, repliedStep, sentStep};
 use header::Header;
 use line::Lines;
 use phase::Moved;
@@ -105,9 +108,7 @@ fn lowered(words: &mut [u32; 23], hsk: bool)
 {
     words[2] = words::with16(words[2], 0);
     if words::flag(words[3]) {
-        if hsk {
-            words[3] = words::with_flag(words[3], false);
-        }
+        words[3] = words::with_flag(words[3], unit::still_asks(true, hsk));
     }
 }
 
@@ -178,15 +179,38 @@ fn selecting(words: &mut [u32; 23], seen: Lines, busy: bool)
     let low = words::number8(words[15]);
     if words::takes(ear, seen.hsk) {
         if half {
-            let own = words::number8(words[0]);
-            let next = phase::select(own, field::byte_of(low, seen.nibble));
-            unitwords::save_phase(words, next);
+            select(words, field::byte_of(low, seen.nibble));
             return;
         }
         unitwords::save_selecting(words, 1, 1, true, seen.nibble);
         return;
     }
     unitwords::save_selecting(words, 1, words::heard(ear, seen.hsk, busy), half, low);
+}
+
+// The device code is there.
+fn select(words: &mut [u32; 23], code: u8)
+    ensures { λ _. ⌜ now (words .exit) ≡ phaseIn (now (words .entry)) (selected (at (now (words .entry)) 0 % 256) code) ⌝ }
+{
+    let own = words::number8(words[0]);
+    let is_own = code == own;
+    if is_own {
+        address(words, code);
+        return;
+    }
+    let is_all = code == 0;
+    if is_all {
+        address(words, code);
+        return;
+    }
+    unitwords::save_sitting_out(words, true);
+}
+
+fn address(words: &mut [u32; 23], code: u8)
+    ensures { λ _. ⌜ now (words .exit) ≡ progressIn (now (words .entry)) 1 (Taking (partial (withByte (headerIn []) 0 code) 1)) ⌝ }
+{
+    let header = Header::new().with(0, code);
+    unitwords::save_partial(words, 1, phase::whole_bytes(header, 1));
 }
 
 // Receiving, until the last nibble is taken.
@@ -207,36 +231,27 @@ fn taking(words: &mut [u32; 23], seen: Lines, busy: bool, buffer: &mut [u8], out
     words[13] = words::heard(ear, seen.hsk, busy);
 }
 
-// A byte of a command is there.
+// A byte of a command is there. One of its data, not the last, leaves the header and the state as they are.
 fn take_byte(words: &mut [u32; 23], b: u8, buffer: &mut [u8], output: &mut [u8; 256])
-    ensures { λ _. ⌜ (now (words .exit) ≡ movedIn (now (words .entry)) (byteStep (loadedSerial (now (words .entry))) (loadedPartial (now (words .entry))) b (now (buffer .entry)))) × ((now (buffer .exit) ≡ byteBuffer (loadedPartial (now (words .entry))) b (now (buffer .entry))) × (now (output .exit) ≡ byteOutput (loadedSerial (now (words .entry))) (loadedPartial (now (words .entry))) b (now (buffer .entry)) (now (output .entry)))) ⌝ }
-{
-    if 9 <= words[16] {
-        take_data(words, b, buffer, output);
-        return;
-    }
-    take_header(words, b, buffer, output);
-}
-
-// A byte of its data: the header stays.
-fn take_data(words: &mut [u32; 23], b: u8, buffer: &mut [u8], output: &mut [u8; 256])
-    requires { ⌜ 9 ≤ at (now words) 16 ⌝ }
     ensures { λ _. ⌜ (now (words .exit) ≡ movedIn (now (words .entry)) (byteStep (loadedSerial (now (words .entry))) (loadedPartial (now (words .entry))) b (now (buffer .entry)))) × ((now (buffer .exit) ≡ byteBuffer (loadedPartial (now (words .entry))) b (now (buffer .entry))) × (now (output .exit) ≡ byteOutput (loadedSerial (now (words .entry))) (loadedPartial (now (words .entry))) b (now (buffer .entry)) (now (output .entry)))) ⌝ }
 {
     let place = words[16];
     let n = words::number16(words[22]);
-    phase::put(n, place, b, buffer);
-    if 8 + n as u32 <= place {
-        let header = unitwords::load_header(words);
-        answer(words, header, buffer, output);
+    if 9 <= place {
+        if place < 8 + n as u32 {
+            phase::put(n, place, b, buffer);
+            unitwords::save_selecting(words, 2, 1, false, 0);
+            words[16] = place + 1;
+            return;
+        }
+        take_any(words, b, buffer, output);
         return;
     }
-    unitwords::save_selecting(words, 2, 1, false, 0);
-    words[16] = place + 1;
+    take_any(words, b, buffer, output);
 }
 
-// A byte of its header, or any.
-fn take_header(words: &mut [u32; 23], b: u8, buffer: &mut [u8], output: &mut [u8; 256])
+// Any byte.
+fn take_any(words: &mut [u32; 23], b: u8, buffer: &mut [u8], output: &mut [u8; 256])
     ensures { λ _. ⌜ (now (words .exit) ≡ movedIn (now (words .entry)) (byteStep (loadedSerial (now (words .entry))) (loadedPartial (now (words .entry))) b (now (buffer .entry)))) × ((now (buffer .exit) ≡ byteBuffer (loadedPartial (now (words .entry))) b (now (buffer .entry))) × (now (output .exit) ≡ byteOutput (loadedSerial (now (words .entry))) (loadedPartial (now (words .entry))) b (now (buffer .entry)) (now (output .entry)))) ⌝ }
 {
     let place = words[16];
@@ -273,9 +288,34 @@ fn save_moved(words: &mut [u32; 23], m: Moved)
 fn answered(words: &mut [u32; 23], hsk: bool, busy: bool)
     ensures { λ _. ⌜ now (words .exit) ≡ phaseIn (now (words .entry)) (answeredStep (listenerOf (at (now (words .entry)) 13)) (replyOf (at (now (words .entry)) 17) (at (now (words .entry)) 18)) hsk busy) ⌝ }
 {
-    let ear = words::listener(words[13]);
-    let reply = unitwords::reply(words[17], words[18]);
-    unitwords::save_phase(words, phase::answered(ear, reply, hsk, busy));
+    let ear = words::heard(words[13], hsk, busy);
+    let tag = unitwords::reply_tag_again(words[17]);
+    let is_ready = ear == 0;
+    if is_ready {
+        respond(words, tag);
+        return;
+    }
+    words[12] = 3;
+    words[13] = ear;
+    words[17] = tag;
+}
+
+// HSK was seen high after the last nibble: the response waits for its round, unless there is none.
+fn respond(words: &mut [u32; 23], tag: u32)
+    requires { ⌜ tag ≡ replyTag (replyOf (at (now words) 17) 0) ⌝ }
+    ensures { λ _. ⌜ now (words .exit) ≡ phaseIn (now (words .entry)) (repliedStep (replyOf (at (now (words .entry)) 17) (at (now (words .entry)) 18))) ⌝ }
+{
+    let is_silent = tag == 0;
+    if is_silent {
+        unitwords::save_sitting_out(words, false);
+        return;
+    }
+    let wait = words::with_flag(words[14], true);
+    words[12] = 4;
+    words[13] = 0;
+    words[14] = wait;
+    words[16] = 0;
+    words[17] = tag;
 }
 
 fn responding(words: &mut [u32; 23], hsk: bool, input: &[u8; 256])
@@ -307,10 +347,13 @@ fn responding(words: &mut [u32; 23], hsk: bool, input: &[u8; 256])
 fn begin(words: &mut [u32; 23])
     ensures { λ _. ⌜ now (words .exit) ≡ phaseIn (now (words .entry)) (Responding (replyOf (at (now (words .entry)) 17) (at (now (words .entry)) 18)) (at (now (words .entry)) 16) (senderOf (at (now (words .entry)) 13) (at (now (words .entry)) 15)) false) ⌝ }
 {
-    let reply = unitwords::reply(words[17], words[18]);
-    let sender = words::sender(words[13], words[15]);
-    let i = words[16];
-    unitwords::save_responding(words, reply, i, sender, false);
+    let sender = words::sender_tag(words::sender(words[13], words[15]));
+    let wait = words::with_flag(words[14], false);
+    let tag = unitwords::reply_tag_again(words[17]);
+    words[12] = 4;
+    words[13] = sender;
+    words[14] = wait;
+    words[17] = tag;
 }
 
 // The nibble is kept.
@@ -328,9 +371,27 @@ fn sent(words: &mut [u32; 23])
     requires { ⌜ flagOf (at (now words) 14) ≡ false ⌝ }
     ensures { λ _. ⌜ now (words .exit) ≡ movedIn (now (words .entry)) (sentStep (loadedSerial (now (words .entry))) (replyOf (at (now (words .entry)) 17) (at (now (words .entry)) 18)) (at (now (words .entry)) 16)) ⌝ }
 {
-    let reply = unitwords::reply(words[17], words[18]);
+    let tag = words[17];
+    let q = unitwords::queue(words[8], words[9]);
+    let reads = tag == 3;
+    if reads {
+        let reply = Reply::Bytes(words::number16(words[18]));
+        let last = reply::last(reply, q);
+        send_on(words, last);
+        return;
+    }
+    let reply = unitwords::reply(tag, words[18]);
+    let last = reply::last(reply, q);
+    send_on(words, last);
+}
+
+// On to the next nibble, up to the last.
+fn send_on(words: &mut [u32; 23], last: usize)
+    requires { ⌜ flagOf (at (now words) 14) ≡ false ⌝ }
+    requires { ⌜ last ≡ lastNibble (queueOf (at (now words) 8) (at (now words) 9)) (replyOf (at (now words) 17) (at (now words) 18)) ⌝ }
+    ensures { λ _. ⌜ now (words .exit) ≡ movedIn (now (words .entry)) (sentStep (loadedSerial (now (words .entry))) (replyOf (at (now (words .entry)) 17) (at (now (words .entry)) 18)) (at (now (words .entry)) 16)) ⌝ }
+{
     let i = words[16];
-    let last = reply::last(reply, unitwords::queue(words[8], words[9]));
     if phase::wide(i) < last {
         let tag = unitwords::reply_tag_again(words[17]);
         words[12] = 4;
@@ -339,6 +400,14 @@ fn sent(words: &mut [u32; 23])
         words[17] = tag;
         return;
     }
+    finish(words);
+}
+
+// The last nibble is sent: what waited for it happens.
+fn finish(words: &mut [u32; 23])
+    ensures { λ _. ⌜ now (words .exit) ≡ movedIn (now (words .entry)) (moves (SittingOut false) (finished (loadedSerial (now (words .entry))) (replyOf (at (now (words .entry)) 17) (at (now (words .entry)) 18)))) ⌝ }
+{
+    let reply = unitwords::reply(words[17], words[18]);
     let serial = unitwords::load_serial(words);
     unitwords::save_serial(words, serial.finish(reply));
     unitwords::save_sitting_out(words, false);

@@ -1,54 +1,66 @@
+use Rattle.unitround.proofs.Laws.{all-heard, not-yet-heard}
 use borrow.Author.Needs.{needs}
 use Rattle.unitround.proofs.answered.Statement.{statement}
 use Rattle.unitround.proofs.answered.Tie as tie
 use Rattle.unitround.proofs.answered.Reads as reads
 use Rattle.unitround.proofs.answered.Lts as lts
-use Rattle.phase.proofs.answered.Reads as answered-reads
-use Rattle.unitwords.proofs.reply.Reads as reply-reads
-use Rattle.unitwords.proofs.save_phase.Reads as save-phase-reads
-use Rattle.words.proofs.listener.Reads as listener-reads
+use Rattle.unitround.proofs.respond.Reads as respond-reads
+use Rattle.unitwords.proofs.reply_tag_again.Reads as reply-tag-again-reads
+use Rattle.words.proofs.heard.Reads as heard-reads
 
--- src/lib.rt:278:31
-element-copy-out-listener : tie.Need-element-copy-out-listener
-element-copy-out-listener c = search needs
+-- src/lib.rt:291:28
+element-copy-out-heard : tie.Need-element-copy-out-heard
+element-copy-out-heard c = search needs
 
--- src/lib.rt:278:9
-listener-requires : tie.Need-listener-requires
-listener-requires c κs = search needs
+-- src/lib.rt:291:9
+heard-requires : tie.Need-heard-requires
+heard-requires c κs = search needs
 
--- src/lib.rt:279:34
-element-copy-out-reply : tie.Need-element-copy-out-reply
-element-copy-out-reply c = search needs
+-- src/lib.rt:292:42
+element-copy-out-reply-tag-again : tie.Need-element-copy-out-reply-tag-again
+element-copy-out-reply-tag-again c = search needs
 
--- src/lib.rt:279:45
-element-copy-out-reply-2 : tie.Need-element-copy-out-reply-2
-element-copy-out-reply-2 c = search needs
+-- src/lib.rt:292:9
+reply-tag-again-requires : tie.Need-reply-tag-again-requires
+reply-tag-again-requires c κs = search needs
 
--- src/lib.rt:279:9
-reply-requires : tie.Need-reply-requires
-reply-requires c κs = search needs
+-- src/lib.rt:295:9
+respond-requires : tie.Need-respond-requires
+respond-requires c κs = search needs
 
--- src/lib.rt:280:34
-answered-requires : tie.Need-answered-requires
-answered-requires c κs = search needs
-
--- src/lib.rt:280:5
-save-phase-requires : tie.Need-save-phase-requires
-save-phase-requires c κs = search needs
-
--- src/lib.rt:275:1
+-- src/lib.rt:296:9
 returns : tie.Need-returns
-returns c = simp (← (c .before .before .before .before .before .before .listener .ensures), ← (c .before .before .before .reply .ensures), ← (c .before .answered .ensures)) (c .save-phase .ensures)
+returns c = let a = c .before .before .before .before .before .before .before .args in
+    all-heard (a .words .now) (a .hsk) (a .busy) (c .before .before .before .before .before .heard .ensures) (c .before .before .before .reply-tag-again .ensures) (c .before .before .if1 .taken) (c .respond .ensures)
+
+-- src/lib.rt:298:5
+element-write-words : tie.Need-element-write-words
+element-write-words c = search needs
+
+-- src/lib.rt:299:5
+element-write-words-2 : tie.Need-element-write-words-2
+element-write-words-2 c = search needs
+
+-- src/lib.rt:300:5
+element-write-words-3 : tie.Need-element-write-words-3
+element-write-words-3 c = search needs
+
+-- src/lib.rt:288:1
+returns-2 : tie.Need-returns-2
+returns-2 c = let a = c .before .before .before .before .before .args in
+    not-yet-heard (a .words .now) (a .hsk) (a .busy) (c .before .before .before .heard .ensures) (c .before .reply-tag-again .ensures) (c .if1 .left)
 
 pub answered-spec : {M : Type 1} → statement M
 answered-spec =
     tie.close
     (tie.spec
-    element-copy-out-listener
-    listener-requires
-    element-copy-out-reply
-    element-copy-out-reply-2
-    reply-requires
-    answered-requires
-    save-phase-requires
-    returns)
+    element-copy-out-heard
+    heard-requires
+    element-copy-out-reply-tag-again
+    reply-tag-again-requires
+    respond-requires
+    returns
+    element-write-words
+    element-write-words-2
+    element-write-words-3
+    returns-2)

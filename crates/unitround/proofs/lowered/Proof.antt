@@ -1,58 +1,58 @@
-use Rattle.unitround.proofs.Laws.{pull-ends, pull-stays, no-pull}
+use Rattle.unitround.proofs.Laws.{pull-after, no-pull}
 use borrow.Author.Needs.{needs}
 use Rattle.unitround.proofs.lowered.Statement.{statement}
 use Rattle.unitround.proofs.lowered.Tie as tie
 use Rattle.unitround.proofs.lowered.Reads as reads
 use Rattle.unitround.proofs.lowered.Lts as lts
+use Rattle.unit.proofs.still_asks.Reads as still-asks-reads
 use Rattle.words.proofs.flag.Reads as flag-reads
 use Rattle.words.proofs.with16.Reads as with16-reads
 use Rattle.words.proofs.with_flag.Reads as with-flag-reads
 
--- src/lib.rt:106:30
+-- src/lib.rt:109:30
 element-copy-out-with16 : tie.Need-element-copy-out-with16
 element-copy-out-with16 c = search needs
 
--- src/lib.rt:106:16
+-- src/lib.rt:109:16
 with16-requires : tie.Need-with16-requires
 with16-requires c κs = search needs
 
--- src/lib.rt:106:5
+-- src/lib.rt:109:5
 element-write-words : tie.Need-element-write-words
 element-write-words c = search needs
 
--- src/lib.rt:107:20
+-- src/lib.rt:110:20
 element-copy-out-flag : tie.Need-element-copy-out-flag
 element-copy-out-flag c = search needs
 
--- src/lib.rt:107:8
+-- src/lib.rt:110:8
 flag-requires : tie.Need-flag-requires
 flag-requires c κs = search needs
 
--- src/lib.rt:109:41
+-- src/lib.rt:111:37
 element-copy-out-with-flag : tie.Need-element-copy-out-with-flag
 element-copy-out-with-flag c = search needs
 
--- src/lib.rt:109:24
+-- src/lib.rt:111:47
+still-asks-requires : tie.Need-still-asks-requires
+still-asks-requires c κs = search needs
+
+-- src/lib.rt:111:20
 with-flag-requires : tie.Need-with-flag-requires
 with-flag-requires c κs = search needs
 
--- src/lib.rt:109:13
+-- src/lib.rt:111:9
 element-write-words-2 : tie.Need-element-write-words-2
 element-write-words-2 c = search needs
 
--- src/lib.rt:103:1
+-- src/lib.rt:106:1
 returns : tie.Need-returns
 returns c = let a = c .before .before .before .before .before .before .before .before .args in
-    pull-ends (a .words .now) (a .hsk) (c .before .before .before .before .before .before .with16 .ensures) (c .before .before .before .before .flag .ensures) (c .before .before .before .if1 .taken) (c .before .before .if2 .taken) (c .with-flag .ensures)
+    pull-after (a .words .now) (a .hsk) (c .before .before .before .before .before .before .with16 .ensures) (c .before .before .before .before .flag .ensures) (c .before .before .before .if1 .taken) (c .before .still-asks .ensures) (c .with-flag .ensures)
 
--- src/lib.rt:103:1
+-- src/lib.rt:106:1
 returns-2 : tie.Need-returns-2
-returns-2 c = let a = c .before .before .before .before .before .before .args in
-    pull-stays (a .words .now) (a .hsk) (c .before .before .before .before .with16 .ensures) (c .before .before .flag .ensures) (c .before .if1 .taken) (c .if2 .left)
-
--- src/lib.rt:103:1
-returns-3 : tie.Need-returns-3
-returns-3 c = let a = c .before .before .before .before .before .args in
+returns-2 c = let a = c .before .before .before .before .before .args in
     no-pull (a .words .now) (a .hsk) (c .before .before .before .with16 .ensures) (c .before .flag .ensures) (c .if1 .left)
 
 pub lowered-spec : {M : Type 1} → statement M
@@ -65,8 +65,8 @@ lowered-spec =
     element-copy-out-flag
     flag-requires
     element-copy-out-with-flag
+    still-asks-requires
     with-flag-requires
     element-write-words-2
     returns
-    returns-2
-    returns-3)
+    returns-2)

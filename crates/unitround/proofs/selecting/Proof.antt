@@ -4,79 +4,66 @@ use Rattle.unitround.proofs.selecting.Tie as tie
 use Rattle.unitround.proofs.selecting.Reads as reads
 use Rattle.unitround.proofs.selecting.Lts as lts
 use Rattle.field.proofs.byte_of.Reads as byte-of-reads
-use Rattle.phase.proofs.select.Reads as select-reads
-use Rattle.unitwords.proofs.save_phase.Reads as save-phase-reads
+use Rattle.unitround.proofs.select.Reads as select-reads
 use Rattle.unitwords.proofs.save_selecting.Reads as save-selecting-reads
 use Rattle.words.proofs.flag.Reads as flag-reads
 use Rattle.words.proofs.heard.Reads as heard-reads
 use Rattle.words.proofs.number8.Reads as number8-reads
 use Rattle.words.proofs.takes.Reads as takes-reads
 
--- src/lib.rt:169:15
+-- src/lib.rt:177:15
 element-copy-out-ear : tie.Need-element-copy-out-ear
 element-copy-out-ear c = search needs
 
--- src/lib.rt:170:28
+-- src/lib.rt:178:28
 element-copy-out-flag : tie.Need-element-copy-out-flag
 element-copy-out-flag c = search needs
 
--- src/lib.rt:170:9
+-- src/lib.rt:178:9
 flag-requires : tie.Need-flag-requires
 flag-requires c κs = search needs
 
--- src/lib.rt:171:30
+-- src/lib.rt:179:30
 element-copy-out-number8 : tie.Need-element-copy-out-number8
 element-copy-out-number8 c = search needs
 
--- src/lib.rt:171:9
+-- src/lib.rt:179:9
 number8-requires : tie.Need-number8-requires
 number8-requires c κs = search needs
 
--- src/lib.rt:172:8
+-- src/lib.rt:180:8
 takes-requires : tie.Need-takes-requires
 takes-requires c κs = search needs
 
--- src/lib.rt:174:38
-element-copy-out-number8-2 : tie.Need-element-copy-out-number8-2
-element-copy-out-number8-2 c = search needs
-
--- src/lib.rt:174:17
-number8-requires-2 : tie.Need-number8-requires-2
-number8-requires-2 c κs = search needs
-
--- src/lib.rt:175:43
+-- src/lib.rt:182:27
 byte-of-requires : tie.Need-byte-of-requires
 byte-of-requires c κs = search needs
 
--- src/lib.rt:175:17
+-- src/lib.rt:182:13
 select-requires : tie.Need-select-requires
 select-requires c κs = search needs
 
--- src/lib.rt:176:13
-save-phase-requires : tie.Need-save-phase-requires
-save-phase-requires c κs = search needs
-
--- src/lib.rt:177:13
+-- src/lib.rt:183:13
 returns : tie.Need-returns
-returns c = simp (← (c .before .before .before .before .before .before .before .before .before .before .before .flag .ensures), ← (c .before .before .before .before .before .before .before .before .before .number8 .ensures), ← (c .before .before .before .before .before .before .before .before .takes .ensures)) (simp (c .before .before .before .before .before .before .before .if1 .taken, c .before .before .before .before .before .before .if2 .taken) (simp (← (c .before .before .before .before .number82 .ensures), ← (c .before .before .before .byte-of .ensures), ← (c .before .before .select .ensures)) (c .save-phase .ensures)))
+returns c = simp (← (c .before .before .before .before .before .before .before .before .flag .ensures), ← (c .before .before .before .before .before .before .number8 .ensures), ← (c .before .before .before .before .before .takes .ensures)) (simp (c .before .before .before .before .if1 .taken, c .before .before .before .if2 .taken) (simp (← (c .before .byte-of .ensures)) (c .select .ensures)))
 
--- src/lib.rt:179:9
+-- src/lib.rt:185:9
 save-selecting-requires : tie.Need-save-selecting-requires
 save-selecting-requires c κs = search needs
 
--- src/lib.rt:180:9
+-- src/lib.rt:186:9
 returns-2 : tie.Need-returns-2
 returns-2 c = simp (← (c .before .before .before .before .before .before .before .flag .ensures), ← (c .before .before .before .before .before .number8 .ensures), ← (c .before .before .before .before .takes .ensures)) (simp (c .before .before .before .if1 .taken, c .before .before .if2 .left) (c .save-selecting .ensures))
 
--- src/lib.rt:182:41
+-- src/lib.rt:188:41
 heard-requires : tie.Need-heard-requires
 heard-requires c κs = search needs
 
--- src/lib.rt:182:5
+-- src/lib.rt:188:5
 save-selecting-requires-2 : tie.Need-save-selecting-requires-2
 save-selecting-requires-2 c κs = search needs
 
--- src/lib.rt:166:1
+-- src/lib.rt:174:1
 returns-3 : tie.Need-returns-3
 returns-3 c = simp (← (c .before .before .before .before .before .before .before .flag .ensures), ← (c .before .before .before .before .before .number8 .ensures), ← (c .before .before .before .before .takes .ensures)) (simp (c .before .before .before .if1 .left) (simp (← (c .before .heard .ensures)) (c .save-selecting2 .ensures)))
 
@@ -90,11 +77,8 @@ selecting-spec =
     element-copy-out-number8
     number8-requires
     takes-requires
-    element-copy-out-number8-2
-    number8-requires-2
     byte-of-requires
     select-requires
-    save-phase-requires
     returns
     save-selecting-requires
     returns-2

@@ -2,10 +2,10 @@ use mathlib.Core.Path.{_≡_, refl, _∙_}
 use Rattle.phase.specs.Phase.{withByte}
 use Rattle.unitround.proofs.Laws.{last-of-all, more-to-come, next-header}
 use borrow.Author.Needs.{needs}
-use Rattle.unitround.proofs.take_header.Statement.{statement}
-use Rattle.unitround.proofs.take_header.Tie as tie
-use Rattle.unitround.proofs.take_header.Reads as reads
-use Rattle.unitround.proofs.take_header.Lts as lts
+use Rattle.unitround.proofs.take_any.Statement.{statement}
+use Rattle.unitround.proofs.take_any.Tie as tie
+use Rattle.unitround.proofs.take_any.Reads as reads
+use Rattle.unitround.proofs.take_any.Lts as lts
 use Rattle.header.proofs.Header.with.Reads as with-reads
 use Rattle.phase.proofs.put.Reads as put-reads
 use Rattle.phase.proofs.whole_bytes.Reads as whole-bytes-reads
@@ -80,8 +80,8 @@ returns-2 c = let a = c .before .before .before .before .before .before .before 
     let place = c .before .before .before .before .before .before .before .before .before .wide .ensures in
     more-to-come (a .words .now) (a .buffer .now) (a .output .now) (a .b) (c .before .before .before .before .before .before .before .before .with .ensures ∙ (λ i. withByte (from i) (place i) (a .b))) refl (c .before .before .before .before .before .before .put .ensures) (c .before .before .before .if1 .left) (next-header (a .words .now) (c .before .whole-bytes .ensures) (c .save-partial .ensures))
 
-pub take-header-spec : {M : Type 1} → statement M
-take-header-spec =
+pub take-any-spec : {M : Type 1} → statement M
+take-any-spec =
     tie.close
     (tie.spec
     element-copy-out-place

@@ -1,0 +1,44 @@
+use mathlib.Core.Path.{_∙_, ap}
+use mathlib.Core.List.{[]}
+use Rattle.header.specs.declared.Header.{Header}
+use Rattle.phase.specs.Phase.{partial, withByte}
+use Rattle.phase.specs.declared.Partial.{Partial}
+use Rattle.phase.specs.declared.Progress.the-variants.{Taking}
+use Rattle.unitwords.specs.Unit.{progressIn}
+use borrow.Author.Needs.{needs}
+use Rattle.unitround.proofs.address.Statement.{statement}
+use Rattle.unitround.proofs.address.Tie as tie
+use Rattle.unitround.proofs.address.Reads as reads
+use Rattle.unitround.proofs.address.Lts as lts
+use Rattle.header.proofs.Header.new.Reads as new-reads
+use Rattle.header.proofs.Header.with.Reads as with-reads
+use Rattle.phase.proofs.whole_bytes.Reads as whole-bytes-reads
+use Rattle.unitwords.proofs.save_partial.Reads as save-partial-reads
+
+-- src/lib.rt:212:18
+new-requires : tie.Need-new-requires
+new-requires c κs = search needs
+
+-- src/lib.rt:212:9
+with-requires : tie.Need-with-requires
+with-requires c κs = search needs
+
+-- src/lib.rt:213:39
+whole-bytes-requires : tie.Need-whole-bytes-requires
+whole-bytes-requires c κs = search needs
+
+-- src/lib.rt:213:5
+save-partial-requires : tie.Need-save-partial-requires
+save-partial-requires c κs = search needs
+
+-- src/lib.rt:209:1
+returns : tie.Need-returns
+returns c = let a = c .before .before .before .before .before .args in
+    c .save-partial .ensures
+    ∙ ap (λ (p : Partial). progressIn (a .words .now) 1 (Taking p))
+    (c .before .whole-bytes .ensures ∙ ap (λ (h : Header). partial h 1) (c .before .before .before .with .ensures ∙ ap (λ (h : Header). withByte h 0 (a .code)) (c .before .before .before .before .new .ensures)))
+
+pub address-spec : {M : Type 1} → statement M
+address-spec =
+    tie.close
+    (tie.spec new-requires with-requires whole-bytes-requires save-partial-requires returns)
