@@ -15,6 +15,18 @@ add-behind c = search needs
 copy-requires : tie.Need-copy-requires
 copy-requires c κs = search needs
 
+sub-through : tie.Need-sub-through
+sub-through c = search needs
+
+part-through-start : tie.Need-part-through-start
+part-through-start c = search needs
+
+part-through-end : tie.Need-part-through-end
+part-through-end c = search needs
+
+through-requires : tie.Need-through-requires
+through-requires c κs = search needs
+
 sub-copy : tie.Need-sub-copy
 sub-copy c = search needs
 
@@ -26,18 +38,6 @@ part-copy-end c = search needs
 
 copy-requires-2 : tie.Need-copy-requires-2
 copy-requires-2 c κs = search needs
-
-sub-copy-2 : tie.Need-sub-copy-2
-sub-copy-2 c = search needs
-
-part-copy-start-2 : tie.Need-part-copy-start-2
-part-copy-start-2 c = search needs
-
-part-copy-end-2 : tie.Need-part-copy-end-2
-part-copy-end-2 c = search needs
-
-copy-requires-3 : tie.Need-copy-requires-3
-copy-requires-3 c κs = search needs
 
 add-result : tie.Need-add-result
 add-result c = search needs
@@ -57,12 +57,12 @@ returns c =
     let out = start .args .out .now in
     let o = at-first .copy .last .1 .0 in
     let k = length h in
-    let room = start .pre in
+    let room = start .pre .0 in
     let long : length o ≡ length out = at-first .copy .kept .1 .0 in
-    let second = put-tail k d o (at-second .copy2 .last .1 .0) (omega arith) (at-second .copy2 .ensures .1) in
-    let p = putMid k (length o - k) o (at-second .copy2 .last .1 .0) in
-    let wide : length p ≡ length o = same-len-mid k (length o - k) o (at-second .copy2 .last .1 .0) (at-second .copy2 .kept .1 .0) in
-    let third = put-tail (k + length d) e p (at-third .copy3 .last .1 .0) (omega arith) (at-third .copy3 .ensures .1) in
+    let second = put-tail k d o (at-second .through .last .1 .0) (omega arith) (at-second .through .ensures .1) in
+    let p = putMid k (length o - k) o (at-second .through .last .1 .0) in
+    let wide : length p ≡ length o = same-len-mid k (length o - k) o (at-second .through .last .1 .0) (at-second .through .kept .1 .0) in
+    let third = put-tail (k + length d) e p (at-third .copy2 .last .1 .0) (omega arith) (at-third .copy2 .ensures .1) in
     (omega arith, put-together h d e out o p _ (omega arith) (at-first .copy .ensures .1) second third)
 
 pub put-spec : {M : Type 1} → statement M
@@ -71,14 +71,14 @@ put-spec =
     (tie.spec
     add-behind
     copy-requires
+    sub-through
+    part-through-start
+    part-through-end
+    through-requires
     sub-copy
     part-copy-start
     part-copy-end
     copy-requires-2
-    sub-copy-2
-    part-copy-start-2
-    part-copy-end-2
-    copy-requires-3
     add-result
     same-length
     returns)
