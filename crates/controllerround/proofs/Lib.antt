@@ -1,1 +1,4 @@
 pub mod Laws
+pub mod Tags
+pub mod Turns
+pub mod Heard

@@ -1,6 +1,8 @@
 // A controller in the words that a caller lends: loaded before a call, saved after it.
 ghost use mathlib.Core.Path.{_≡_};
-ghost use Prim.Native.Nat.{_%_, _<_};
+ghost use Prim.Native.Nat.{_<_};
+ghost use lib.ListN.{set};
+ghost use Rattle.frame.specs.Frame.{isSubmitted};
 ghost use Rattle.words.specs.Words.{at, numberIn};
 ghost use Rattle.controllerwords.specs.Controller.{kindOf, kindTag, loadedFrame, frameIn, loadedResponse, responseIn, loadedStage, stageIn, entryOf, entryNumber, loadedRing, ringIn, loaded, savedIn, saved};
 use answer::Partial;
@@ -45,12 +47,6 @@ pub fn save_new(words: &mut [u32; 33], c: Controller)
 {
     *words = [0; 33];
     save(words, c);
-}
-
-pub fn timeout(words: &[u32; 33]) -> u16
-    ensures { λ r. ⌜ r ≡ at (now (words .entry)) 0 % 65536 ⌝ }
-{
-    words::number16(words[0])
 }
 
 pub fn load_stage(words: &[u32; 33]) -> Stage
@@ -141,6 +137,30 @@ pub fn save_ring(words: &mut [u32; 33], r: Ring)
     }
 }
 
+// A frame that stays as it is: of its words only the tag of its kind is written, and only one that no save makes.
+pub fn keep_kind(words: &mut [u32; 33])
+    ensures { λ _. ⌜ now (words .exit) ≡ set (now (words .entry)) 2 (kindTag (kindOf (at (now (words .entry)) 2))) ⌝ }
+{
+    if 2 < words[2] {
+        words[2] = 0;
+    }
+}
+
+// Whether the tag of a kind is that of a submitted command.
+pub fn submits(tag: u32) -> bool
+    ensures { λ r. ⌜ r ≡ isSubmitted (kindOf tag) ⌝ }
+{
+    let polls = tag == 1;
+    if polls {
+        return false;
+    }
+    let is_null = tag == 2;
+    if is_null {
+        return false;
+    }
+    true
+}
+
 // An entry in nine bits: its code, and 256 while it is marked.
 pub fn entry_number(e: Entry) -> u32
     ensures { λ r. ⌜ (r ≡ entryNumber e) × (r < 512) ⌝ }
@@ -187,7 +207,8 @@ fn kind_tag(k: Kind) -> u32
     }
 }
 
-fn load_frame(words: &[u32; 33]) -> Frame
+// The frame that stands in the words.
+pub fn load_frame(words: &[u32; 33]) -> Frame
     ensures { λ r. ⌜ r ≡ loadedFrame (now (words .entry)) ⌝ }
 {
     let command = words::command(words[3], words[4], words[5], words[6], words[7]);
@@ -218,7 +239,8 @@ fn save_frame(words: &mut [u32; 33], f: Frame)
     words[8] = data_length;
 }
 
-fn load_response(words: &[u32; 33]) -> Response
+// The response, as far as it was taken.
+pub fn load_response(words: &[u32; 33]) -> Response
     ensures { λ r. ⌜ r ≡ loadedResponse (now (words .entry)) ⌝ }
 {
     let tag = words[13];

@@ -12,13 +12,12 @@ use Rattle.controller.specs.declared.Controller.{Controller}
 use Rattle.controllerwords.specs.Controller.{loadedStage, loaded, savedIn, saved}
 use Rattle.frame.specs.Frame.{frameBuffer, lentAt}
 use Rattle.frame.specs.declared.Lent.{Lent}
-use Rattle.frame.specs.declared.Stage.{Stage}
 use Rattle.line.specs.declared.Lines.{Lines}
 use Rattle.message.specs.Answer.{Answer, gives, refused, kept}
 use Rattle.ring.specs.Ring.{counted}
 use Rattle.turn.specs.declared.Event.{Event}
 use Rattle.words.specs.Words.{bit, number}
-use Rattle.controllerround.specs.Round.{eventWords, inStage}
+use Rattle.controllerround.specs.Round.{eventWords}
 use Rattle.gateway.specs.Controller.{controllerAfter, controllerMadeIn, eventsAfter, looksWords}
 
 -- An answer that gives, and one that refuses.
@@ -40,11 +39,9 @@ module _ (ws d response : List ℕ) (seen : Lines) (busy : Bool) where
   pub level : 15 < seen .nibble → refused 5 ≡ stepping (loaded ws) seen busy d response
   level h = sym (rw (lt-ltb 15 (seen .nibble) h))
 
-  pub lent : {stage : Stage} {l x : Lent} → seen .nibble ≤ 15 → stage ≡ loadedStage ws → l ≡ lentAt stage (length d) (length response) → l ≡ x
+  pub lent : {l x : Lent} → seen .nibble ≤ 15 → l ≡ lentAt (loadedStage ws) (length d) (length response) → l ≡ x
       → ifLent x (eventIn (loaded ws) seen busy d) ≡ stepping (loaded ws) seen busy d response
-  lent h e p q =
-      ap (λ (l : Lent). ifLent l (eventIn (loaded ws) seen busy d)) (sym q ∙ p ∙ ap (λ (s : Stage). lentAt s (length d) (length response)) e)
-      ∙ sym (rw (le-ltb 15 (seen .nibble) h))
+  lent h p q = ap (λ (l : Lent). ifLent l (eventIn (loaded ws) seen busy d)) (sym q ∙ p) ∙ sym (rw (le-ltb 15 (seen .nibble) h))
 
   abbrev Left : ℕ → List ℕ → List ℕ → List ℕ → List ℕ → Type 0
   Left r after response′ events events′ =
@@ -61,20 +58,18 @@ module _ (ws d response : List ℕ) (seen : Lines) (busy : Bool) where
     ),
   )
 
-  pub step-goes-on : {stage : Stage} {after response′ events′ : List ℕ} (events : List ℕ) → stage ≡ loadedStage ws
+  pub step-goes-on : {after response′ events′ : List ℕ} (events : List ℕ)
       → gives (eventIn (loaded ws) seen busy d) ≡ stepping (loaded ws) seen busy d response
-      → (after ≡ savedIn ws (controllerStep (inStage ws stage) seen busy d))
-      × ((response′ ≡ frameBuffer stage seen response) × (events′ ≡ eventWords (eventIn (inStage ws stage) seen busy d)))
+      → (after ≡ savedIn ws (controllerStep (loaded ws) seen busy d))
+      × ((response′ ≡ frameBuffer (loadedStage ws) seen response) × (events′ ≡ eventWords (eventIn (loaded ws) seen busy d)))
       → Left 0 after response′ events events′
-  step-goes-on events e p q = (
+  step-goes-on events p q = (
     ap number p,
     (
-      q .0 ∙ ap (λ (s : Stage). savedIn ws (controllerStep (inStage ws s) seen busy d)) e
-          ∙ ap (λ (a : Answer Event). controllerAfter a (kept a (controllerStep (loaded ws) seen busy d) (loaded ws)) ws) p,
+      q .0 ∙ ap (λ (a : Answer Event). controllerAfter a (kept a (controllerStep (loaded ws) seen busy d) (loaded ws)) ws) p,
       (
-        q .1 .0 ∙ ap (λ (s : Stage). frameBuffer s seen response) e
-            ∙ ap (λ (a : Answer Event). kept a (frameBuffer (loadedStage ws) seen response) response) p,
-        q .1 .1 ∙ ap (λ (s : Stage). eventWords (eventIn (inStage ws s) seen busy d)) e ∙ ap (λ (a : Answer Event). eventsAfter a events) p,
+        q .1 .0 ∙ ap (λ (a : Answer Event). kept a (frameBuffer (loadedStage ws) seen response) response) p,
+        q .1 .1 ∙ ap (λ (a : Answer Event). eventsAfter a events) p,
       ),
     ),
   )

@@ -50,11 +50,10 @@ pub extern "C" fn hexbus_controller_step(
     if 15 < nibble {
         return 5;
     }
-    let stage = controllerwords::load_stage(controller);
-    match frame::check(stage, data.len(), response.len()) {
+    match controllerround::check(controller, data.len(), response.len()) {
         Lent::Fits => {
             let seen = Lines { bav, hsk, nibble };
-            controllerround::round(controller, stage, seen, busy, data, response, event);
+            controllerround::round(controller, seen, busy, data, response, event);
             0
         }
         Lent::Data => 10,
@@ -67,7 +66,7 @@ pub extern "C" fn hexbus_controller_step(
 pub extern "C" fn hexbus_controller_pulls(controller: &[u32; 33]) -> u32
     ensures { λ r. ⌜ r ≡ linesNumber (pullsOf (loaded (now (controller .entry)) .stage)) ⌝ }
 {
-    words::lines(frame::pulls(controllerwords::load_stage(controller)))
+    controllerround::pulls(controller)
 }
 
 // Submits a command for the next frame.

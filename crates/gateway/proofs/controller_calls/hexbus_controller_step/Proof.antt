@@ -11,9 +11,6 @@ returns c =
     let seen = linesOf (a .bav) (a .hsk) (a .nibble) in
     step-refused (a .controller .now) (a .«data» .now) (a .response .now) seen (a .busy) (a .event .now) (level (a .controller .now) (a .«data» .now) (a .response .now) seen (a .busy) (c .if1 .taken))
 
-load-stage-requires : tie.Need-load-stage-requires
-load-stage-requires c κs = search needs
-
 check-requires : tie.Need-check-requires
 check-requires c κs = search needs
 
@@ -34,34 +31,32 @@ same-length c = search needs
 
 returns-2 : tie.Need-returns-2
 returns-2 c =
-    let at-check = c .before .before .before .before .before .before .before .before in
-    let a = c .before .before .before .before .before .before .before .before .before .before .before .before .before .before .args in
+    let at-arm = c .before .before .before .before .before .before in
+    let at-check = at-arm .before .before in
+    let a = at-check .before .before .before .before .before .args in
     let seen = linesOf (a .bav) (a .hsk) (a .nibble) in
-    let answer = lent (a .controller .now) (a .«data» .now) (a .response .now) seen (a .busy) (at-check .before .before .before .if1 .left) (at-check .before .load-stage .ensures) (at-check .check .ensures) (c .before .before .before .before .before .before .enum-told .given .1) in
-    step-goes-on (a .controller .now) (a .«data» .now) (a .response .now) seen (a .busy) (a .event .now) (at-check .before .load-stage .ensures) answer (c .before .before .round .ensures)
+    let answer = lent (a .controller .now) (a .«data» .now) (a .response .now) seen (a .busy) (at-check .before .before .if1 .left) (at-check .check .ensures) (at-arm .enum-told .given .1) in
+    step-goes-on (a .controller .now) (a .«data» .now) (a .response .now) seen (a .busy) (a .event .now) answer (c .before .before .round .ensures)
 
 returns-3 : tie.Need-returns-3
 returns-3 c =
     let at-check = c .before .before in
-    let a = c .before .before .before .before .before .before .before .before .args in
+    let a = at-check .before .before .before .before .before .args in
     let seen = linesOf (a .bav) (a .hsk) (a .nibble) in
-    let answer = lent (a .controller .now) (a .«data» .now) (a .response .now) seen (a .busy) (at-check .before .before .before .if1 .left) (at-check .before .load-stage .ensures) (at-check .check .ensures) (c .enum-told2 .given .1) in
-    step-refused (a .controller .now) (a .«data» .now) (a .response .now) seen (a .busy) (a .event .now) answer
+    step-refused (a .controller .now) (a .«data» .now) (a .response .now) seen (a .busy) (a .event .now) (lent (a .controller .now) (a .«data» .now) (a .response .now) seen (a .busy) (at-check .before .before .if1 .left) (at-check .check .ensures) (c .enum-told2 .given .1))
 
 returns-4 : tie.Need-returns-4
 returns-4 c =
     let at-check = c .before .before in
-    let a = c .before .before .before .before .before .before .before .before .args in
+    let a = at-check .before .before .before .before .before .args in
     let seen = linesOf (a .bav) (a .hsk) (a .nibble) in
-    let answer = lent (a .controller .now) (a .«data» .now) (a .response .now) seen (a .busy) (at-check .before .before .before .if1 .left) (at-check .before .load-stage .ensures) (at-check .check .ensures) (c .enum-told3 .given .1) in
-    step-refused (a .controller .now) (a .«data» .now) (a .response .now) seen (a .busy) (a .event .now) answer
+    step-refused (a .controller .now) (a .«data» .now) (a .response .now) seen (a .busy) (a .event .now) (lent (a .controller .now) (a .«data» .now) (a .response .now) seen (a .busy) (at-check .before .before .if1 .left) (at-check .check .ensures) (c .enum-told3 .given .1))
 
 pub hexbus-controller-step-spec : {M : Type 1} → statement M
 hexbus-controller-step-spec =
     tie.close
     (tie.spec
     returns
-    load-stage-requires
     check-requires
     enum-told
     round-requires
