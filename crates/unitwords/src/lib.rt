@@ -245,13 +245,6 @@ fn reply_tag(r: Reply) -> u32
     }
 }
 
-// The tag that a save of the reply with this tag leaves.
-pub fn reply_tag_again(tag: u32) -> u32
-    ensures { λ r. ⌜ r ≡ replyTag (replyOf tag 0) ⌝ }
-{
-    if tag < 5 { tag } else { 0 }
-}
-
 fn with_reply(word: u32, r: Reply) -> u32
     ensures { λ n. ⌜ n ≡ replyIn word r ⌝ }
 {

@@ -1,5 +1,4 @@
 use mathlib.Core.Path.{_∙_, ap}
-use mathlib.Core.List.{[]}
 use Rattle.header.specs.declared.Header.{Header}
 use Rattle.phase.specs.Phase.{partial, withByte}
 use Rattle.phase.specs.declared.Partial.{Partial}
@@ -8,12 +7,6 @@ use Rattle.unitwords.specs.Unit.{progressIn}
 use borrow.Author.Needs.{needs}
 use Rattle.unitround.proofs.address.Statement.{statement}
 use Rattle.unitround.proofs.address.Tie as tie
-use Rattle.unitround.proofs.address.Reads as reads
-use Rattle.unitround.proofs.address.Lts as lts
-use Rattle.header.proofs.Header.new.Reads as new-reads
-use Rattle.header.proofs.Header.with.Reads as with-reads
-use Rattle.phase.proofs.whole_bytes.Reads as whole-bytes-reads
-use Rattle.unitwords.proofs.save_partial.Reads as save-partial-reads
 
 -- src/lib.rt:212:18
 new-requires : tie.Need-new-requires

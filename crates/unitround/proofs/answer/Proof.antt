@@ -1,16 +1,10 @@
 use mathlib.Core.Path.{_∙_, ap}
 use Rattle.phase.specs.Phase.{answered, stored}
-use Rattle.phase.specs.declared.Moved.{Moved}
 use Rattle.serial.specs.declared.Serial.{Serial}
-use Rattle.unitround.specs.Round.{movedIn}
+use Rattle.unitresponding.specs.Responding.{movedIn}
 use borrow.Author.Needs.{needs}
 use Rattle.unitround.proofs.answer.Statement.{statement}
 use Rattle.unitround.proofs.answer.Tie as tie
-use Rattle.unitround.proofs.answer.Reads as reads
-use Rattle.unitround.proofs.answer.Lts as lts
-use Rattle.phase.proofs.answer.Reads as answer-reads
-use Rattle.unitround.proofs.save_moved.Reads as save-moved-reads
-use Rattle.unitwords.proofs.load_serial.Reads as load-serial-reads
 
 -- src/lib.rt:260:9
 load-serial-requires : tie.Need-load-serial-requires

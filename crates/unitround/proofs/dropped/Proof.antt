@@ -1,16 +1,7 @@
-use mathlib.Core.Path.{_≡_}
 use Rattle.unitround.proofs.Laws.{high-round}
 use borrow.Author.Needs.{needs}
 use Rattle.unitround.proofs.dropped.Statement.{statement}
 use Rattle.unitround.proofs.dropped.Tie as tie
-use Rattle.unitround.proofs.dropped.Reads as reads
-use Rattle.unitround.proofs.dropped.Lts as lts
-use Rattle.unit.proofs.asks.Reads as asks-reads
-use Rattle.unit.proofs.quiet_after.Reads as quiet-after-reads
-use Rattle.unitround.proofs.save_row.Reads as save-row-reads
-use Rattle.unitwords.proofs.load_serial.Reads as load-serial-reads
-use Rattle.words.proofs.flag.Reads as flag-reads
-use Rattle.words.proofs.number16.Reads as number16-reads
 
 -- src/lib.rt:92:9
 load-serial-requires : tie.Need-load-serial-requires

@@ -1,10 +1,6 @@
 use borrow.Author.Needs.{needs}
 use Rattle.unitround.proofs.idle.Statement.{statement}
 use Rattle.unitround.proofs.idle.Tie as tie
-use Rattle.unitround.proofs.idle.Reads as reads
-use Rattle.unitround.proofs.idle.Lts as lts
-use Rattle.unitwords.proofs.save_selecting.Reads as save-selecting-reads
-use Rattle.unitwords.proofs.save_sitting_out.Reads as save-sitting-out-reads
 
 -- src/lib.rt:161:9
 save-sitting-out-requires : tie.Need-save-sitting-out-requires

@@ -2,12 +2,6 @@ use Rattle.unitround.proofs.Laws.{pull-after, no-pull}
 use borrow.Author.Needs.{needs}
 use Rattle.unitround.proofs.lowered.Statement.{statement}
 use Rattle.unitround.proofs.lowered.Tie as tie
-use Rattle.unitround.proofs.lowered.Reads as reads
-use Rattle.unitround.proofs.lowered.Lts as lts
-use Rattle.unit.proofs.still_asks.Reads as still-asks-reads
-use Rattle.words.proofs.flag.Reads as flag-reads
-use Rattle.words.proofs.with16.Reads as with16-reads
-use Rattle.words.proofs.with_flag.Reads as with-flag-reads
 
 -- src/lib.rt:109:30
 element-copy-out-with16 : tie.Need-element-copy-out-with16

@@ -1,16 +1,7 @@
-use mathlib.Core.Path.{_≡_}
 use Rattle.unitround.proofs.Laws.{in-selecting, in-taking, in-answered, in-responding, in-sitting-out, in-idle}
 use borrow.Author.Needs.{needs}
 use Rattle.unitround.proofs.phase.Statement.{statement}
 use Rattle.unitround.proofs.phase.Tie as tie
-use Rattle.unitround.proofs.phase.Reads as reads
-use Rattle.unitround.proofs.phase.Lts as lts
-use Rattle.unitround.proofs.answered.Reads as answered-reads
-use Rattle.unitround.proofs.idle.Reads as idle-reads
-use Rattle.unitround.proofs.responding.Reads as responding-reads
-use Rattle.unitround.proofs.selecting.Reads as selecting-reads
-use Rattle.unitround.proofs.taking.Reads as taking-reads
-use Rattle.unitwords.proofs.save_sitting_out.Reads as save-sitting-out-reads
 
 -- src/lib.rt:128:15
 element-copy-out-tag : tie.Need-element-copy-out-tag

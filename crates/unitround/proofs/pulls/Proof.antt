@@ -1,11 +1,6 @@
 use borrow.Author.Needs.{needs}
 use Rattle.unitround.proofs.pulls.Statement.{statement}
 use Rattle.unitround.proofs.pulls.Tie as tie
-use Rattle.unitround.proofs.pulls.Reads as reads
-use Rattle.unitround.proofs.pulls.Lts as lts
-use Rattle.unitround.proofs.pulls_hsk.Reads as pulls-hsk-reads
-use Rattle.unitround.proofs.pulls_nibble.Reads as pulls-nibble-reads
-use Rattle.words.proofs.flag.Reads as flag-reads
 
 -- src/lib.rt:44:26
 element-copy-out-flag : tie.Need-element-copy-out-flag

@@ -1,13 +1,6 @@
 use borrow.Author.Needs.{needs}
 use Rattle.unitround.proofs.pulls_hsk.Statement.{statement}
 use Rattle.unitround.proofs.pulls_hsk.Tie as tie
-use Rattle.unitround.proofs.pulls_hsk.Reads as reads
-use Rattle.unitround.proofs.pulls_hsk.Lts as lts
-use Rattle.line.proofs.Listener.hsk.Reads as Listener-hsk-reads
-use Rattle.line.proofs.Sender.hsk.Reads as Sender-hsk-reads
-use Rattle.words.proofs.flag.Reads as flag-reads
-use Rattle.words.proofs.listener.Reads as listener-reads
-use Rattle.words.proofs.sender.Reads as sender-reads
 
 -- src/lib.rt:53:15
 element-copy-out-tag : tie.Need-element-copy-out-tag

@@ -3,10 +3,6 @@ use Rattle.unitround.proofs.Laws.{no-nibble-pulled, nibble-pulled}
 use borrow.Author.Needs.{needs}
 use Rattle.unitround.proofs.pulls_nibble.Statement.{statement}
 use Rattle.unitround.proofs.pulls_nibble.Tie as tie
-use Rattle.unitround.proofs.pulls_nibble.Reads as reads
-use Rattle.unitround.proofs.pulls_nibble.Lts as lts
-use Rattle.line.proofs.Sender.nibble.Reads as nibble-reads
-use Rattle.words.proofs.sender.Reads as sender-reads
 
 -- src/lib.rt:80:15
 element-copy-out-tag : tie.Need-element-copy-out-tag

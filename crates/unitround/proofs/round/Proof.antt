@@ -1,13 +1,8 @@
-use mathlib.Core.Path.{_≡_, _∙_}
+use mathlib.Core.Path.{_∙_}
 use Rattle.unitround.proofs.Laws.{low-round, low-buffer, low-output, high-done}
 use borrow.Author.Needs.{needs}
 use Rattle.unitround.proofs.round.Statement.{statement}
 use Rattle.unitround.proofs.round.Tie as tie
-use Rattle.unitround.proofs.round.Reads as reads
-use Rattle.unitround.proofs.round.Lts as lts
-use Rattle.unitround.proofs.dropped.Reads as dropped-reads
-use Rattle.unitround.proofs.lowered.Reads as lowered-reads
-use Rattle.unitround.proofs.phase.Reads as phase-reads
 
 -- src/lib.rt:32:9
 lowered-requires : tie.Need-lowered-requires

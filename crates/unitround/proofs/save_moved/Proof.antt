@@ -1,10 +1,6 @@
 use borrow.Author.Needs.{needs}
 use Rattle.unitround.proofs.save_moved.Statement.{statement}
 use Rattle.unitround.proofs.save_moved.Tie as tie
-use Rattle.unitround.proofs.save_moved.Reads as reads
-use Rattle.unitround.proofs.save_moved.Lts as lts
-use Rattle.unitwords.proofs.save_phase.Reads as save-phase-reads
-use Rattle.unitwords.proofs.save_serial.Reads as save-serial-reads
 
 -- src/lib.rt:270:5
 save-serial-requires : tie.Need-save-serial-requires

@@ -1,10 +1,6 @@
 use borrow.Author.Needs.{needs}
 use Rattle.unitround.proofs.save_row.Statement.{statement}
 use Rattle.unitround.proofs.save_row.Tie as tie
-use Rattle.unitround.proofs.save_row.Reads as reads
-use Rattle.unitround.proofs.save_row.Lts as lts
-use Rattle.words.proofs.with16.Reads as with16-reads
-use Rattle.words.proofs.with_flag.Reads as with-flag-reads
 
 -- src/lib.rt:111:36
 element-copy-out-with16 : tie.Need-element-copy-out-with16

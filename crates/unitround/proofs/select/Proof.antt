@@ -1,11 +1,6 @@
 use borrow.Author.Needs.{needs}
 use Rattle.unitround.proofs.select.Statement.{statement}
 use Rattle.unitround.proofs.select.Tie as tie
-use Rattle.unitround.proofs.select.Reads as reads
-use Rattle.unitround.proofs.select.Lts as lts
-use Rattle.unitround.proofs.address.Reads as address-reads
-use Rattle.unitwords.proofs.save_sitting_out.Reads as save-sitting-out-reads
-use Rattle.words.proofs.number8.Reads as number8-reads
 
 -- src/lib.rt:195:30
 element-copy-out-number8 : tie.Need-element-copy-out-number8

@@ -1,15 +1,6 @@
 use borrow.Author.Needs.{needs}
 use Rattle.unitround.proofs.selecting.Statement.{statement}
 use Rattle.unitround.proofs.selecting.Tie as tie
-use Rattle.unitround.proofs.selecting.Reads as reads
-use Rattle.unitround.proofs.selecting.Lts as lts
-use Rattle.field.proofs.byte_of.Reads as byte-of-reads
-use Rattle.unitround.proofs.select.Reads as select-reads
-use Rattle.unitwords.proofs.save_selecting.Reads as save-selecting-reads
-use Rattle.words.proofs.flag.Reads as flag-reads
-use Rattle.words.proofs.heard.Reads as heard-reads
-use Rattle.words.proofs.number8.Reads as number8-reads
-use Rattle.words.proofs.takes.Reads as takes-reads
 
 -- src/lib.rt:177:15
 element-copy-out-ear : tie.Need-element-copy-out-ear

@@ -1,18 +1,9 @@
-use mathlib.Core.Path.{_≡_, refl, _∙_}
+use mathlib.Core.Path.{refl, _∙_}
 use Rattle.phase.specs.Phase.{withByte}
 use Rattle.unitround.proofs.Laws.{last-of-all, more-to-come, next-header}
 use borrow.Author.Needs.{needs}
 use Rattle.unitround.proofs.take_any.Statement.{statement}
 use Rattle.unitround.proofs.take_any.Tie as tie
-use Rattle.unitround.proofs.take_any.Reads as reads
-use Rattle.unitround.proofs.take_any.Lts as lts
-use Rattle.header.proofs.Header.with.Reads as with-reads
-use Rattle.phase.proofs.put.Reads as put-reads
-use Rattle.phase.proofs.whole_bytes.Reads as whole-bytes-reads
-use Rattle.phase.proofs.wide.Reads as wide-reads
-use Rattle.unitround.proofs.answer.Reads as answer-reads
-use Rattle.unitwords.proofs.load_header.Reads as load-header-reads
-use Rattle.unitwords.proofs.save_partial.Reads as save-partial-reads
 
 -- src/lib.rt:244:17
 element-copy-out-place : tie.Need-element-copy-out-place

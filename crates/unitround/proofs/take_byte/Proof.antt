@@ -1,14 +1,7 @@
-use mathlib.Core.Path.{refl}
 use Rattle.unitround.proofs.Laws.{more-to-come, header-stays, next-data}
 use borrow.Author.Needs.{needs}
 use Rattle.unitround.proofs.take_byte.Statement.{statement}
 use Rattle.unitround.proofs.take_byte.Tie as tie
-use Rattle.unitround.proofs.take_byte.Reads as reads
-use Rattle.unitround.proofs.take_byte.Lts as lts
-use Rattle.phase.proofs.put.Reads as put-reads
-use Rattle.unitround.proofs.take_any.Reads as take-any-reads
-use Rattle.unitwords.proofs.save_selecting.Reads as save-selecting-reads
-use Rattle.words.proofs.number16.Reads as number16-reads
 
 -- src/lib.rt:238:17
 element-copy-out-place : tie.Need-element-copy-out-place

@@ -3,15 +3,6 @@ use Rattle.unitround.proofs.Laws.{second-half, first-half, no-nibble}
 use borrow.Author.Needs.{needs}
 use Rattle.unitround.proofs.taking.Statement.{statement}
 use Rattle.unitround.proofs.taking.Tie as tie
-use Rattle.unitround.proofs.taking.Reads as reads
-use Rattle.unitround.proofs.taking.Lts as lts
-use Rattle.field.proofs.byte_of.Reads as byte-of-reads
-use Rattle.unitround.proofs.take_byte.Reads as take-byte-reads
-use Rattle.unitwords.proofs.save_selecting.Reads as save-selecting-reads
-use Rattle.words.proofs.flag.Reads as flag-reads
-use Rattle.words.proofs.heard.Reads as heard-reads
-use Rattle.words.proofs.number8.Reads as number8-reads
-use Rattle.words.proofs.takes.Reads as takes-reads
 
 -- src/lib.rt:189:15
 element-copy-out-ear : tie.Need-element-copy-out-ear
