@@ -33,31 +33,31 @@ same-tag (suc (suc (suc n))) h = absurd (omega arith)
 pub tag-as-it-is : (ws : List ℕ) → at ws 13 ≤ 2 → ws ≡ set ws 13 (responseTag (at ws 13))
 tag-as-it-is ws h = sym (set-getD ws 13 0) ∙ ap (set ws 13) (same-tag (at ws 13) h)
 
-module _ (ws : List ℕ) (t : at ws 1 ≡ 4) where
+module _ (ws : List ℕ) where
   pub hears : {us : List ℕ} {tag : ℕ} (vs : List ℕ) (ear : Listener) (quiet : ℕ) → tag ≡ listenerTag ear → us ≡ heardIn ws tag quiet
       → vs ≡ set us 13 (responseTag (at us 13))
       → kept vs ≡ listeningIn ws ear (loadedResponse ws) quiet
   hears {us} {tag} vs ear quiet g e h = listening-kept ws vs ear (loadedResponse ws) quiet (by-tests (eqb (at ws 13) 1) refl (eqb (at ws 13) 2) refl)
     where
       by-tests : (complete : Bool) → eqb (at ws 13) 1 ≡ complete → (large : Bool) → eqb (at ws 13) 2 ≡ large → vs ≡ responseIn (earIn ws ear quiet) (loadedResponse ws)
-      by-tests true p large q = simp (written, t, h, e, g, p)
-      by-tests false p true q = simp (written, t, h, e, g, p, q)
-      by-tests false p false q = simp (written, t, h, e, g, p, q, flag-again (at ws 9) (flagOf (at ws 9)) refl)
+      by-tests true p large q = simp (written, h, e, g, p)
+      by-tests false p true q = simp (written, h, e, g, p, q)
+      by-tests false p false q = simp (written, h, e, g, p, q, flag-again (at ws 9) (flagOf (at ws 9)) refl)
 
   -- A nibble was taken.
   module _ {vs : List ℕ} (e : vs ≡ heardIn ws 1 0) where
     pub takes-low : {half low : ℕ} (nibble : ℕ) → half ≡ flagIn (at ws 9) true → low ≡ numberIn 256 (at ws 11) nibble
         → kept (set (set (set vs 9 half) 11 low) 13 0) ≡ listeningIn ws Holding (Taking (halfTaken (partialIn ws) nibble)) 0
-    takes-low {half} {low} nibble h l = listening-kept ws (set (set (set vs 9 half) 11 low) 13 0) Holding (Taking (halfTaken (partialIn ws) nibble)) 0 (simp (written, t, e, h, l))
+    takes-low {half} {low} nibble h l = listening-kept ws (set (set (set vs 9 half) 11 low) 13 0) Holding (Taking (halfTaken (partialIn ws) nibble)) 0 (simp (written, e, h, l))
 
     pub takes-byte : {half low count : ℕ} (length place : ℕ) → half ≡ flagIn (at ws 9) false → low ≡ numberIn 256 (at ws 11) 0 → count ≡ numberIn 65536 (at ws 14) length
         → kept (set (set (set (set (set vs 9 half) 11 low) 12 place) 13 0) 14 count) ≡ listeningIn ws Holding (Taking (partial length place)) 0
     takes-byte {half} {low} {count} length place h l k =
-        listening-kept ws (set (set (set (set (set vs 9 half) 11 low) 12 place) 13 0) 14 count) Holding (Taking (partial length place)) 0 (simp (written, t, e, h, l, k))
+        listening-kept ws (set (set (set (set (set vs 9 half) 11 low) 12 place) 13 0) 14 count) Holding (Taking (partial length place)) 0 (simp (written, e, h, l, k))
 
     pub completes : {word : ℕ} (status : ℕ) → word ≡ numberIn 256 (at ws 11) status
         → kept (set (set vs 11 word) 13 1) ≡ listeningIn ws Holding (Complete status (at ws 14 % 65536)) 0
-    completes {word} status h = listening-kept ws (set (set vs 11 word) 13 1) Holding (Complete status (at ws 14 % 65536)) 0 (simp (written, t, e, h))
+    completes {word} status h = listening-kept ws (set (set vs 11 word) 13 1) Holding (Complete status (at ws 14 % 65536)) 0 (simp (written, e, h))
 
     pub is-too-large : kept (set vs 13 2) ≡ listeningIn ws Holding TooLarge 0
-    is-too-large = listening-kept ws (set vs 13 2) Holding TooLarge 0 (simp (written, t, e))
+    is-too-large = listening-kept ws (set vs 13 2) Holding TooLarge 0 (simp (written, e))

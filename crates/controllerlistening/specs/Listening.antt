@@ -23,6 +23,6 @@ partialIn ws = record { length = at ws 14 % 65536; place = at ws 12; half = flag
 abbrev pub responseTag : ℕ → ℕ
 responseTag tag = cond (eqb tag 1) 1 (cond (eqb tag 2) 2 0)
 
--- The words with the listener's tag and the count of quiet rounds.
+-- The words with the stage's tag, the listener's, and the count of quiet rounds.
 abbrev pub heardIn : List ℕ → ℕ → ℕ → List ℕ
-heardIn ws tag quiet = set (set ws 10 tag) 15 (numberIn 65536 (at ws 15) quiet)
+heardIn ws tag quiet = set (set (set ws 1 4) 10 tag) 15 (numberIn 65536 (at ws 15) quiet)

@@ -15,7 +15,6 @@ use line::Listener;
 
 // A round in which no nibble is taken.
 pub fn hear(words: &mut [u32; 33], ear: Listener, quiet: u16)
-    requires { ⌜ at (now words) 1 ≡ 4 ⌝ }
     ensures { λ _. ⌜ now (words .exit) ≡ listeningIn (now (words .entry)) ear (loadedResponse (now (words .entry))) quiet ⌝ }
 {
     set_ear(words, words::listener_tag(ear), quiet);
@@ -25,7 +24,6 @@ pub fn hear(words: &mut [u32; 33], ear: Listener, quiet: u16)
 
 // A nibble is taken. A data byte that is whole goes to its place of the lent buffer.
 pub fn take(words: &mut [u32; 33], nibble: u8, response: &mut [u8])
-    requires { ⌜ at (now words) 1 ≡ 4 ⌝ }
     ensures { λ _. ⌜ (now (words .exit) ≡ listeningIn (now (words .entry)) Listener.Holding (takenWith (loadedResponse (now (words .entry))) nibble (at (now (words .entry)) 7 % 65536)) 0) × (now (response .exit) ≡ bufferWith (loadedResponse (now (words .entry))) nibble (isSubmitted (kindOf (at (now (words .entry)) 2))) (now (response .entry))) ⌝ }
 {
     let tag = words[13];
@@ -49,7 +47,6 @@ pub fn take(words: &mut [u32; 33], nibble: u8, response: &mut [u8])
 
 // The low nibble of a byte.
 fn take_low(words: &mut [u32; 33], nibble: u8)
-    requires { ⌜ at (now words) 1 ≡ 4 ⌝ }
     ensures { λ _. ⌜ now (words .exit) ≡ listeningIn (now (words .entry)) Listener.Holding (Response.Taking (halfTaken (partialIn (now (words .entry))) nibble)) 0 ⌝ }
 {
     let half = words::with_flag(words[9], true);
@@ -63,7 +60,6 @@ fn take_low(words: &mut [u32; 33], nibble: u8)
 
 // A whole byte.
 fn take_byte(words: &mut [u32; 33], b: u8, response: &mut [u8])
-    requires { ⌜ at (now words) 1 ≡ 4 ⌝ }
     ensures { λ _. ⌜ (now (words .exit) ≡ listeningIn (now (words .entry)) Listener.Holding (byteTaken (partialIn (now (words .entry))) b (at (now (words .entry)) 7 % 65536)) 0) × (now (response .exit) ≡ byteBuffer (partialIn (now (words .entry))) b (isSubmitted (kindOf (at (now (words .entry)) 2))) (now (response .entry))) ⌝ }
 {
     let in_length = words[12] < 2;
@@ -76,7 +72,6 @@ fn take_byte(words: &mut [u32; 33], b: u8, response: &mut [u8])
 
 // A byte of the data length.
 fn take_length(words: &mut [u32; 33], b: u8)
-    requires { ⌜ at (now words) 1 ≡ 4 ⌝ }
     ensures { λ _. ⌜ now (words .exit) ≡ listeningIn (now (words .entry)) Listener.Holding (lengthTaken (partialIn (now (words .entry))) b (at (now (words .entry)) 7 % 65536)) 0 ⌝ }
 {
     let place = words[12];
@@ -103,7 +98,6 @@ fn length_with(length: u16, place: u32, b: u8) -> u16
 
 // A byte of the data, or the status behind it.
 fn take_body(words: &mut [u32; 33], b: u8, response: &mut [u8])
-    requires { ⌜ at (now words) 1 ≡ 4 ⌝ }
     ensures { λ _. ⌜ (now (words .exit) ≡ listeningIn (now (words .entry)) Listener.Holding (bodyTaken (partialIn (now (words .entry))) b) 0) × (now (response .exit) ≡ bodyBuffer (partialIn (now (words .entry))) b (isSubmitted (kindOf (at (now (words .entry)) 2))) (now (response .entry))) ⌝ }
 {
     let place = words[12];
@@ -120,7 +114,6 @@ fn take_body(words: &mut [u32; 33], b: u8, response: &mut [u8])
 
 // The next byte is not begun.
 fn whole(words: &mut [u32; 33], length: u16, place: u32)
-    requires { ⌜ at (now words) 1 ≡ 4 ⌝ }
     ensures { λ _. ⌜ now (words .exit) ≡ listeningIn (now (words .entry)) Listener.Holding (Response.Taking (partial length place)) 0 ⌝ }
 {
     let half = words::with_flag(words[9], false);
@@ -136,7 +129,6 @@ fn whole(words: &mut [u32; 33], length: u16, place: u32)
 }
 
 fn complete(words: &mut [u32; 33], status: u8)
-    requires { ⌜ at (now words) 1 ≡ 4 ⌝ }
     ensures { λ _. ⌜ now (words .exit) ≡ listeningIn (now (words .entry)) Listener.Holding (Response.Complete status (at (now (words .entry)) 14 % 65536)) 0 ⌝ }
 {
     let status_word = words::with8(words[11], status);
@@ -147,7 +139,6 @@ fn complete(words: &mut [u32; 33], status: u8)
 }
 
 fn too_large(words: &mut [u32; 33])
-    requires { ⌜ at (now words) 1 ≡ 4 ⌝ }
     ensures { λ _. ⌜ now (words .exit) ≡ listeningIn (now (words .entry)) Listener.Holding Response.TooLarge 0 ⌝ }
 {
     set_ear(words, 1, 0);
@@ -155,11 +146,12 @@ fn too_large(words: &mut [u32; 33])
     controllerwords::keep_kind(words);
 }
 
-// The listener's tag and the count of quiet rounds.
+// It listens: the listener's tag and the count of quiet rounds.
 fn set_ear(words: &mut [u32; 33], tag: u32, quiet: u16)
     ensures { λ _. ⌜ now (words .exit) ≡ heardIn (now (words .entry)) tag quiet ⌝ }
 {
     let quiet_word = words::with16(words[15], quiet);
+    words[1] = 4;
     words[10] = tag;
     words[15] = quiet_word;
 }

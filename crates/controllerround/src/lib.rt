@@ -180,7 +180,6 @@ fn listening(
     response: &mut [u8],
     event: &mut [u32; 3],
 )
-    requires { ⌜ at (now words) 1 ≡ 4 ⌝ }
     ensures { λ _. ⌜ (now (words .exit) ≡ movedIn (now (words .entry)) (listened (now (words .entry)) seen busy)) × ((now (response .exit) ≡ listenedBuffer (now (words .entry)) seen (now (response .entry))) × (now (event .exit) ≡ eventWords (eventAfter (listened (now (words .entry)) seen busy .end)))) ⌝ }
 {
     let ear = words::listener(words[10]);
@@ -200,7 +199,6 @@ fn listening(
 
 // A round without a nibble, after which HSK was seen high for so many in a row.
 fn waits(words: &mut [u32; 33], ear: Listener, quiet: u32, event: &mut [u32; 3])
-    requires { ⌜ at (now words) 1 ≡ 4 ⌝ }
     ensures { λ _. ⌜ (now (words .exit) ≡ movedIn (now (words .entry)) (waitedIn (now (words .entry)) ear quiet)) × (now (event .exit) ≡ eventWords (eventAfter (waitedIn (now (words .entry)) ear quiet .end))) ⌝ }
 {
     if words[0] % 65536 <= quiet {

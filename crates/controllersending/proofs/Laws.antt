@@ -48,20 +48,21 @@ module _ (ws : List ℕ) where
   pub begins : {wait : ℕ} → wait ≡ flagIn (at ws 9) true → kept (set (set (set (set ws 1 3) 9 wait) 10 0) 12 0) ≡ stageIn ws (begun (loadedFrame ws))
   begins {wait} e = sending-kept ws (set (set (set (set ws 1 3) 9 wait) 10 0) 12 0) 0 Next true (simp (written, e))
 
-  pub waits : {wait tag : ℕ} → at ws 1 ≡ 3 → wait ≡ flagIn (at ws 9) false → tag ≡ senderTag (senderOf (at ws 10) (at ws 11))
-      → kept (set (set ws 9 wait) 10 tag) ≡ sendingIn ws (at ws 12) (senderOf (at ws 10) (at ws 11))
-  waits {wait} {tag} t e g = sending-kept ws (set (set ws 9 wait) 10 tag) (at ws 12) (senderOf (at ws 10) (at ws 11)) false (simp (written, t, e, g, sender-again (at ws 10) (at ws 11)))
+  pub waits : {wait tag : ℕ} → wait ≡ flagIn (at ws 9) false → tag ≡ senderTag (senderOf (at ws 10) (at ws 11))
+      → kept (set (set (set ws 1 3) 9 wait) 10 tag) ≡ sendingIn ws (at ws 12) (senderOf (at ws 10) (at ws 11))
+  waits {wait} {tag} e g =
+      sending-kept ws (set (set (set ws 1 3) 9 wait) 10 tag) (at ws 12) (senderOf (at ws 10) (at ws 11)) false (simp (written, e, g, sender-again (at ws 10) (at ws 11)))
 
   -- No round is to pass before the first nibble.
-  module _ (t : at ws 1 ≡ 3) (f : flagOf (at ws 9) ≡ false) where
-    pub keeps : kept (set ws 10 2) ≡ sendingIn ws (at ws 12) (Kept (at ws 11 % 256))
-    keeps = sending-kept ws (set ws 10 2) (at ws 12) (Kept (at ws 11 % 256)) false (simp (written, t, flag-again (at ws 9) false f))
+  module _ (f : flagOf (at ws 9) ≡ false) where
+    pub keeps : kept (set (set ws 1 3) 10 2) ≡ sendingIn ws (at ws 12) (Kept (at ws 11 % 256))
+    keeps = sending-kept ws (set (set ws 1 3) 10 2) (at ws 12) (Kept (at ws 11 % 256)) false (simp (written, flag-again (at ws 9) false f))
 
-    pub places : {word : ℕ} (n : ℕ) → word ≡ numberIn 256 (at ws 11) n → kept (set (set ws 10 1) 11 word) ≡ sendingIn ws (at ws 12) (Placed n)
-    places {word} n e = sending-kept ws (set (set ws 10 1) 11 word) (at ws 12) (Placed n) false (simp (written, t, e, flag-again (at ws 9) false f))
+    pub places : {word : ℕ} (n : ℕ) → word ≡ numberIn 256 (at ws 11) n → kept (set (set (set ws 1 3) 10 1) 11 word) ≡ sendingIn ws (at ws 12) (Placed n)
+    places {word} n e = sending-kept ws (set (set (set ws 1 3) 10 1) 11 word) (at ws 12) (Placed n) false (simp (written, e, flag-again (at ws 9) false f))
 
-    pub goes-on : (i : ℕ) → kept (set (set ws 10 0) 12 i) ≡ sendingIn ws i Next
-    goes-on i = sending-kept ws (set (set ws 10 0) 12 i) i Next false (simp (written, t, flag-again (at ws 9) false f))
+    pub goes-on : (i : ℕ) → kept (set (set (set ws 1 3) 10 0) 12 i) ≡ sendingIn ws i Next
+    goes-on i = sending-kept ws (set (set (set ws 1 3) 10 0) 12 i) i Next false (simp (written, flag-again (at ws 9) false f))
 
   pub listens : {quiet low count : ℕ} → flagOf (at ws 9) ≡ false → quiet ≡ numberIn 65536 (at ws 15) 0 → low ≡ numberIn 256 (at ws 11) 0
       → count ≡ numberIn 65536 (at ws 14) 0

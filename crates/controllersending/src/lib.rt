@@ -30,7 +30,6 @@ pub fn begin(words: &mut [u32; 33])
 
 // A round of sending.
 pub fn round(words: &mut [u32; 33], hsk: bool, data: &[u8])
-    requires { ⌜ at (now words) 1 ≡ 3 ⌝ }
     ensures { λ _. ⌜ now (words .exit) ≡ stageIn (now (words .entry)) (sendingStep (loadedFrame (now (words .entry))) (at (now (words .entry)) 12) (senderOf (at (now (words .entry)) 10) (at (now (words .entry)) 11)) (flagOf (at (now (words .entry)) 9)) hsk (now («data» .entry))) ⌝ }
 {
     if words::flag(words[9]) {
@@ -53,11 +52,11 @@ pub fn round(words: &mut [u32; 33], hsk: bool, data: &[u8])
 
 // The round before the first nibble has passed.
 fn waited(words: &mut [u32; 33])
-    requires { ⌜ at (now words) 1 ≡ 3 ⌝ }
     ensures { λ _. ⌜ now (words .exit) ≡ sendingIn (now (words .entry)) (at (now (words .entry)) 12) (senderOf (at (now (words .entry)) 10) (at (now (words .entry)) 11)) ⌝ }
 {
     let wait = words::with_flag(words[9], false);
     let tag = words::sender_tag(words::sender(words[10], words[11]));
+    words[1] = 3;
     words[9] = wait;
     words[10] = tag;
     controllerwords::keep_kind(words);
@@ -65,20 +64,22 @@ fn waited(words: &mut [u32; 33])
 
 // Its nibble is kept, HSK released.
 fn keep(words: &mut [u32; 33])
-    requires { ⌜ (at (now words) 1 ≡ 3) × (flagOf (at (now words) 9) ≡ false) ⌝ }
+    requires { ⌜ flagOf (at (now words) 9) ≡ false ⌝ }
     ensures { λ _. ⌜ now (words .exit) ≡ sendingIn (now (words .entry)) (at (now (words .entry)) 12) (Sender.Kept (at (now (words .entry)) 11 % 256)) ⌝ }
 {
+    words[1] = 3;
     words[10] = 2;
     controllerwords::keep_kind(words);
 }
 
 // The nibble that is next is placed.
 fn place(words: &mut [u32; 33], data: &[u8])
-    requires { ⌜ (at (now words) 1 ≡ 3) × (flagOf (at (now words) 9) ≡ false) ⌝ }
+    requires { ⌜ flagOf (at (now words) 9) ≡ false ⌝ }
     ensures { λ _. ⌜ now (words .exit) ≡ sendingIn (now (words .entry)) (at (now (words .entry)) 12) (Sender.Placed (nibbleOf (loadedFrame (now (words .entry))) (now («data» .entry)) (at (now (words .entry)) 12))) ⌝ }
 {
     let n = nibble(words, data);
     let word = words::with8(words[11], n);
+    words[1] = 3;
     words[10] = 1;
     words[11] = word;
     controllerwords::keep_kind(words);
@@ -86,7 +87,7 @@ fn place(words: &mut [u32; 33], data: &[u8])
 
 // A nibble is kept: it is done when HSK is seen high.
 fn kept_round(words: &mut [u32; 33], hsk: bool)
-    requires { ⌜ (at (now words) 1 ≡ 3) × (flagOf (at (now words) 9) ≡ false) ⌝ }
+    requires { ⌜ flagOf (at (now words) 9) ≡ false ⌝ }
     ensures { λ _. ⌜ now (words .exit) ≡ keptIn (now (words .entry)) hsk ⌝ }
 {
     if hsk {
@@ -103,9 +104,10 @@ fn kept_round(words: &mut [u32; 33], hsk: bool)
 
 // The sender is to place nibble i.
 fn next(words: &mut [u32; 33], i: u32)
-    requires { ⌜ (at (now words) 1 ≡ 3) × (flagOf (at (now words) 9) ≡ false) ⌝ }
+    requires { ⌜ flagOf (at (now words) 9) ≡ false ⌝ }
     ensures { λ _. ⌜ now (words .exit) ≡ sendingIn (now (words .entry)) i Sender.Next ⌝ }
 {
+    words[1] = 3;
     words[10] = 0;
     words[12] = i;
     controllerwords::keep_kind(words);

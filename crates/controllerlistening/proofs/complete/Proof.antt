@@ -28,7 +28,7 @@ returns c =
     let at-ear = c .before .before in
     let at-status = at-ear .before .before in
     let a = at-status .before .before in
-    c .keep-kind .ensures ∙ completes (a .args .words .now) (a .pre) (at-ear .set-ear .ensures) (a .args .status) (at-status .with8 .ensures)
+    c .keep-kind .ensures ∙ completes (a .args .words .now) (at-ear .set-ear .ensures) (a .args .status) (at-status .with8 .ensures)
 
 pub complete-spec : {M : Type 1} → statement M
 complete-spec =

@@ -22,7 +22,7 @@ returns c =
     let at-ear = c .before .before .before .before in
     let a = at-ear .before .before .before in
     c .keep-kind .ensures
-    ∙ hears (a .args .words .now) (a .pre) _ (a .args .ear) (a .args .quiet) (at-ear .before .listener-tag .ensures) (at-ear .set-ear .ensures) (c .before .before .keep-tag .ensures)
+    ∙ hears (a .args .words .now) _ (a .args .ear) (a .args .quiet) (at-ear .before .listener-tag .ensures) (at-ear .set-ear .ensures) (c .before .before .keep-tag .ensures)
 
 pub hear-spec : {M : Type 1} → statement M
 hear-spec =

@@ -18,8 +18,11 @@ element-write-words c = search needs
 element-write-words-2 : tie.Need-element-write-words-2
 element-write-words-2 c = search needs
 
+element-write-words-3 : tie.Need-element-write-words-3
+element-write-words-3 c = search needs
+
 returns : tie.Need-returns
-returns c = let a = c .before .before .args in ap (λ (n : ℕ). set (set (a .words .now) 10 (a .tag)) 15 n) (c .with16 .ensures)
+returns c = let a = c .before .before .args in ap (λ (n : ℕ). set (set (set (a .words .now) 1 4) 10 (a .tag)) 15 n) (c .with16 .ensures)
 
 pub set-ear-spec : {M : Type 1} → statement M
 set-ear-spec =
@@ -28,5 +31,5 @@ set-ear-spec =
     element-copy-out-with16
     with16-requires
     element-write-words
-    element-write-words-2
+    element-write-words-2 element-write-words-3
     returns)

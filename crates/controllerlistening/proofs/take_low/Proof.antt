@@ -38,7 +38,7 @@ returns c =
     let at-low = at-ear .before .before in
     let at-half = at-low .before .before in
     let a = at-half .before .before in
-    c .keep-kind .ensures ∙ takes-low (a .args .words .now) (a .pre) (at-ear .set-ear .ensures) (a .args .nibble) (at-half .with-flag .ensures) (at-low .with8 .ensures)
+    c .keep-kind .ensures ∙ takes-low (a .args .words .now) (at-ear .set-ear .ensures) (a .args .nibble) (at-half .with-flag .ensures) (at-low .with8 .ensures)
 
 pub take-low-spec : {M : Type 1} → statement M
 take-low-spec =

@@ -18,7 +18,7 @@ returns : tie.Need-returns
 returns c =
     let at-ear = c .before .before in
     let a = at-ear .before .before in
-    c .keep-kind .ensures ∙ is-too-large (a .args .words .now) (a .pre) (at-ear .set-ear .ensures)
+    c .keep-kind .ensures ∙ is-too-large (a .args .words .now) (at-ear .set-ear .ensures)
 
 pub too-large-spec : {M : Type 1} → statement M
 too-large-spec =

@@ -52,7 +52,7 @@ returns c =
     let at-half = at-low .before .before in
     let a = at-half .before .before in
     c .keep-kind .ensures
-    ∙ takes-byte (a .args .words .now) (a .pre) (at-ear .set-ear .ensures) (a .args .length) (a .args .place) (at-half .with-flag .ensures) (at-low .with8 .ensures) (at-length .with16 .ensures)
+    ∙ takes-byte (a .args .words .now) (at-ear .set-ear .ensures) (a .args .length) (a .args .place) (at-half .with-flag .ensures) (at-low .with8 .ensures) (at-length .with16 .ensures)
 
 pub whole-spec : {M : Type 1} → statement M
 whole-spec =

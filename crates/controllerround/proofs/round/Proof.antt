@@ -14,7 +14,7 @@ element-copy-out-tag : tie.Need-element-copy-out-tag
 element-copy-out-tag c = search needs
 
 listening-requires : tie.Need-listening-requires
-listening-requires c κs = eqb-true (at (c .before .before .before .before .before .before .before .args .words .now) 1) 4 (c .before .before .before .if1 .taken)
+listening-requires c κs = search needs
 
 same-length : tie.Need-same-length
 same-length c = search needs
@@ -26,7 +26,7 @@ returns c =
     in-words ws (a .«data» .now) (a .response .now) (a .seen) (a .busy) (is-listening ws (c .before .before .before .before .before .before .if1 .taken)) (c .before .before .listening .ensures)
 
 round-requires : tie.Need-round-requires
-round-requires c κs = eqb-true (at (c .before .before .before .before .before .before .args .words .now) 1) 3 (c .before .if2 .taken)
+round-requires c κs = search needs
 
 returns-2 : tie.Need-returns-2
 returns-2 c =

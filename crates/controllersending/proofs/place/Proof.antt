@@ -21,6 +21,9 @@ element-write-words c = search needs
 element-write-words-2 : tie.Need-element-write-words-2
 element-write-words-2 c = search needs
 
+element-write-words-3 : tie.Need-element-write-words-3
+element-write-words-3 c = search needs
+
 keep-kind-requires : tie.Need-keep-kind-requires
 keep-kind-requires c κs = search needs
 
@@ -29,7 +32,7 @@ returns c =
     let at-nibble = c .before .before .before .before in
     let a = at-nibble .before .before .before in
     let ws = a .args .words .now in
-    c .keep-kind .ensures ∙ places ws (a .pre .0) (a .pre .1) _ (c .before .before .with8 .ensures ∙ ap (numberIn 256 (at ws 11)) (at-nibble .nibble .ensures))
+    c .keep-kind .ensures ∙ places ws (a .pre) _ (c .before .before .with8 .ensures ∙ ap (numberIn 256 (at ws 11)) (at-nibble .nibble .ensures))
 
 pub place-spec : {M : Type 1} → statement M
 place-spec =
@@ -39,6 +42,6 @@ place-spec =
     element-copy-out-with8
     with8-requires
     element-write-words
-    element-write-words-2
+    element-write-words-2 element-write-words-3
     keep-kind-requires
     returns)

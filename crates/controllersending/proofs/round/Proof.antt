@@ -30,7 +30,7 @@ element-copy-out-tag c = search needs
 keep-requires : tie.Need-keep-requires
 keep-requires c κs =
     let at-flag = c .before .before .before .before in
-    (at-flag .before .before .before .pre, sym (at-flag .flag .ensures) ∙ c .before .before .before .if1 .left)
+    sym (at-flag .flag .ensures) ∙ c .before .before .before .if1 .left
 
 returns-2 : tie.Need-returns-2
 returns-2 c =
@@ -43,7 +43,7 @@ returns-2 c =
 kept-round-requires : tie.Need-kept-round-requires
 kept-round-requires c κs =
     let at-flag = c .before .before .before .before .before in
-    (at-flag .before .before .before .pre, sym (at-flag .flag .ensures) ∙ c .before .before .before .before .if1 .left)
+    sym (at-flag .flag .ensures) ∙ c .before .before .before .before .if1 .left
 
 returns-3 : tie.Need-returns-3
 returns-3 c =
@@ -56,7 +56,7 @@ returns-3 c =
 place-requires : tie.Need-place-requires
 place-requires c κs =
     let at-flag = c .before .before .before .before .before in
-    (at-flag .before .before .before .pre, sym (at-flag .flag .ensures) ∙ c .before .before .before .before .if1 .left)
+    sym (at-flag .flag .ensures) ∙ c .before .before .before .before .if1 .left
 
 returns-4 : tie.Need-returns-4
 returns-4 c =

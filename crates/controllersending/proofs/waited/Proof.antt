@@ -30,6 +30,9 @@ element-write-words c = search needs
 element-write-words-2 : tie.Need-element-write-words-2
 element-write-words-2 c = search needs
 
+element-write-words-3 : tie.Need-element-write-words-3
+element-write-words-3 c = search needs
+
 keep-kind-requires : tie.Need-keep-kind-requires
 keep-kind-requires c κs = search needs
 
@@ -38,7 +41,7 @@ returns c =
     let at-flag = c .before .before .before .before .before .before in
     let a = at-flag .before .before in
     c .keep-kind .ensures
-    ∙ waits (a .args .words .now) (a .pre) (at-flag .with-flag .ensures) (c .before .before .sender-tag .ensures ∙ ap senderTag (c .before .before .before .sender .ensures))
+    ∙ waits (a .args .words .now) (at-flag .with-flag .ensures) (c .before .before .sender-tag .ensures ∙ ap senderTag (c .before .before .before .sender .ensures))
 
 pub waited-spec : {M : Type 1} → statement M
 waited-spec =
@@ -51,6 +54,6 @@ waited-spec =
     sender-requires
     sender-tag-requires
     element-write-words
-    element-write-words-2
+    element-write-words-2 element-write-words-3
     keep-kind-requires
     returns)
