@@ -182,13 +182,13 @@ fn listening(
 )
     ensures { λ _. ⌜ (now (words .exit) ≡ movedIn (now (words .entry)) (listened (now (words .entry)) seen busy)) × ((now (response .exit) ≡ listenedBuffer (now (words .entry)) seen (now (response .entry))) × (now (event .exit) ≡ eventWords (eventAfter (listened (now (words .entry)) seen busy .end)))) ⌝ }
 {
-    let ear = words::listener(words[10]);
-    if ear.taken(seen.hsk) {
+    let tag = words[10];
+    if words::takes(tag, seen.hsk) {
         controllerlistening::take(words, seen.nibble, response);
         *event = [0, 0, 0];
         return;
     }
-    let next = ear.step(seen.hsk, busy);
+    let next = words::listener(words::heard(tag, seen.hsk, busy));
     if seen.hsk {
         waits(words, next, 0, event);
         return;
