@@ -188,7 +188,7 @@ fn listening(
         *event = [0, 0, 0];
         return;
     }
-    let next = words::listener(words::heard(tag, seen.hsk, busy));
+    let next = words::hears(tag, seen.hsk, busy);
     if seen.hsk {
         waits(words, next, 0, event);
         return;

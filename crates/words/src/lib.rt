@@ -78,7 +78,7 @@ pub fn listener_tag(ear: Listener) -> u32
     }
 }
 
-// A listener's round, on its tag: whether it takes the nibble that it sees, and its tag afterwards.
+// A listener's round, by its tag: whether it takes the nibble that it sees, and the listener and its tag afterwards.
 pub fn takes(tag: u32, low: bool) -> bool
     ensures { λ r. ⌜ r ≡ takenOf (listenerOf tag) low ⌝ }
 {
@@ -93,18 +93,36 @@ pub fn takes(tag: u32, low: bool) -> bool
     low
 }
 
-pub fn heard(tag: u32, low: bool, busy: bool) -> u32
-    ensures { λ r. ⌜ r ≡ listenerTag (hearOf (listenerOf tag) low busy) ⌝ }
+pub fn hears(tag: u32, low: bool, busy: bool) -> Listener
+    ensures { λ r. ⌜ r ≡ hearOf (listenerOf tag) low busy ⌝ }
 {
     let holds = tag == 1;
     if holds {
-        return if busy { 1 } else { 2 };
+        return if busy {
+            Listener::Holding
+        } else {
+            Listener::Waiting
+        };
     }
     let waits = tag == 2;
     if waits {
-        return if low { 2 } else { 0 };
+        return if low {
+            Listener::Waiting
+        } else {
+            Listener::Ready
+        };
     }
-    if low { 1 } else { 0 }
+    if low {
+        Listener::Holding
+    } else {
+        Listener::Ready
+    }
+}
+
+pub fn heard(tag: u32, low: bool, busy: bool) -> u32
+    ensures { λ r. ⌜ r ≡ listenerTag (hearOf (listenerOf tag) low busy) ⌝ }
+{
+    listener_tag(hears(tag, low, busy))
 }
 
 // A sender, its tag, and the word of its nibble.

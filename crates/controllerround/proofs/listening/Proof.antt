@@ -1,42 +1,29 @@
+-- `controllerround::listening` meets its contract: a nibble is taken, or none.
 use Prim.Native.Nat.{_%_}
 use mathlib.Core.Path.{refl, _∙_, ap, sym}
 use Rattle.answer.specs.Answer.{takenWith}
 use Rattle.controllerwords.specs.Controller.{loadedFrame, loadedResponse}
 use Rattle.frame.specs.Frame.{quietAfter}
 use Rattle.frame.specs.declared.Stage.the-variants.{Listening}
-use Rattle.line.specs.Line.{hearOf}
 use Rattle.line.specs.declared.Listener.the-variants.{Holding}
-use Rattle.words.specs.Words.{at, listenerOf}
-use Rattle.words.proofs.Laws.{listener-back}
+use Rattle.words.specs.Words.{at}
 use Rattle.controllerround.proofs.Heard.{moved-as, stays-as, nibble-taken, nibble-stored, nothing-taken, nothing-stored}
 use borrow.Author.Needs.{needs}
 use Rattle.controllerround.proofs.listening.Statement.{statement}
 use Rattle.controllerround.proofs.listening.Tie as tie
-use Rattle.controllerround.proofs.listening.Reads as reads
-use Rattle.controllerround.proofs.listening.Lts as lts
-use Rattle.controllerlistening.proofs.take.Reads as take-reads
-use Rattle.controllerround.proofs.waits.Reads as waits-reads
-use Rattle.words.proofs.heard.Reads as heard-reads
-use Rattle.words.proofs.listener.Reads as listener-reads
-use Rattle.words.proofs.takes.Reads as takes-reads
 
--- src/lib.rt:185:15
 element-copy-out-tag : tie.Need-element-copy-out-tag
 element-copy-out-tag c = search needs
 
--- src/lib.rt:186:8
 takes-requires : tie.Need-takes-requires
 takes-requires c κs = search needs
 
--- src/lib.rt:187:9
 take-requires : tie.Need-take-requires
 take-requires c κs = search needs
 
--- src/lib.rt:189:9
 same-length : tie.Need-same-length
 same-length c = search needs
 
--- src/lib.rt:189:9
 returns : tie.Need-returns
 returns c = let a = c .before .before .before .before .before .before .before .before .before .before .args in
     let ws = a .words .now in
@@ -45,49 +32,36 @@ returns c = let a = c .before .before .before .before .before .before .before .b
     let moved = moved-as ws (stays-as ws stage (c .before .before .before .take .ensures .0)) takes in
     (moved .0, (c .before .before .before .take .ensures .1 ∙ nibble-stored ws (a .response .now) (a .seen) (a .busy) refl (c .before .before .before .before .before .before .before .takes .ensures) (c .before .before .before .before .before .before .if1 .taken), moved .1))
 
--- src/lib.rt:191:32
-heard-requires : tie.Need-heard-requires
-heard-requires c κs = search needs
+hears-requires : tie.Need-hears-requires
+hears-requires c κs = search needs
 
--- src/lib.rt:191:9
-listener-requires : tie.Need-listener-requires
-listener-requires c κs = search needs
-
--- src/lib.rt:193:9
 waits-requires : tie.Need-waits-requires
 waits-requires c κs = search needs
 
--- src/lib.rt:194:9
 returns-2 : tie.Need-returns-2
-returns-2 c = let a = c .before .before .before .before .before .before .before .before .before .before .args in
+returns-2 c = let a = c .before .before .before .before .before .before .before .before .before .args in
     let ws = a .words .now in
-    let t = c .before .before .before .before .before .before .if1 .left in
-    let next = c .before .before .before .before .listener .ensures ∙ ap listenerOf (c .before .before .before .before .before .heard .ensures) ∙ listener-back (hearOf (listenerOf (at ws 10)) (a .seen .hsk) (a .busy)) in
-    let waits = nothing-taken ws (a .response .now) (a .seen) (a .busy) refl (c .before .before .before .before .before .before .before .takes .ensures) t next (ap (quietAfter (at ws 15 % 65536)) (sym (c .before .before .before .if2 .taken))) in
+    let t = c .before .before .before .before .before .if1 .left in
+    let waits = nothing-taken ws (a .response .now) (a .seen) (a .busy) refl (c .before .before .before .before .before .before .takes .ensures) t (c .before .before .before .before .hears .ensures) (ap (quietAfter (at ws 15 % 65536)) (sym (c .before .before .before .if2 .taken))) in
     let moved = moved-as ws (c .waits .ensures) waits in
-    (moved .0, (nothing-stored ws (a .response .now) (a .seen) (a .busy) refl (c .before .before .before .before .before .before .before .takes .ensures) t, moved .1))
+    (moved .0, (nothing-stored ws (a .response .now) (a .seen) (a .busy) refl (c .before .before .before .before .before .before .takes .ensures) t, moved .1))
 
--- src/lib.rt:196:17
 element-copy-out-quiet : tie.Need-element-copy-out-quiet
 element-copy-out-quiet c = search needs
 
--- src/lib.rt:196:17
 add-quiet : tie.Need-add-quiet
 add-quiet c = search needs
 
--- src/lib.rt:197:5
 waits-requires-2 : tie.Need-waits-requires-2
 waits-requires-2 c κs = search needs
 
--- src/lib.rt:176:1
 returns-3 : tie.Need-returns-3
-returns-3 c = let a = c .before .before .before .before .before .before .before .before .before .before .before .args in
+returns-3 c = let a = c .before .before .before .before .before .before .before .before .before .before .args in
     let ws = a .words .now in
-    let t = c .before .before .before .before .before .before .before .if1 .left in
-    let next = c .before .before .before .before .before .listener .ensures ∙ ap listenerOf (c .before .before .before .before .before .before .heard .ensures) ∙ listener-back (hearOf (listenerOf (at ws 10)) (a .seen .hsk) (a .busy)) in
-    let waits = nothing-taken ws (a .response .now) (a .seen) (a .busy) refl (c .before .before .before .before .before .before .before .before .takes .ensures) t next (ap (quietAfter (at ws 15 % 65536)) (sym (c .before .before .before .before .if2 .left))) in
+    let t = c .before .before .before .before .before .before .if1 .left in
+    let waits = nothing-taken ws (a .response .now) (a .seen) (a .busy) refl (c .before .before .before .before .before .before .before .takes .ensures) t (c .before .before .before .before .before .hears .ensures) (ap (quietAfter (at ws 15 % 65536)) (sym (c .before .before .before .before .if2 .left))) in
     let moved = moved-as ws (c .waits2 .ensures) waits in
-    (moved .0, (nothing-stored ws (a .response .now) (a .seen) (a .busy) refl (c .before .before .before .before .before .before .before .before .takes .ensures) t, moved .1))
+    (moved .0, (nothing-stored ws (a .response .now) (a .seen) (a .busy) refl (c .before .before .before .before .before .before .before .takes .ensures) t, moved .1))
 
 pub listening-spec : {M : Type 1} → statement M
 listening-spec =
@@ -98,8 +72,7 @@ listening-spec =
     take-requires
     same-length
     returns
-    heard-requires
-    listener-requires
+    hears-requires
     waits-requires
     returns-2
     element-copy-out-quiet

@@ -2,8 +2,6 @@
 use borrow.Author.Needs.{needs}
 use Rattle.frame.proofs.pulls.Statement.{statement}
 use Rattle.frame.proofs.pulls.Tie as tie
-use Rattle.line.proofs.Listener.hsk.Reads as Listener-hsk-reads
-use Rattle.line.proofs.Sender.hsk.Reads as Sender-hsk-reads
 
 enum-told : tie.Need-enum-told
 enum-told c = search needs

@@ -37,7 +37,6 @@ returns-2 c = search needs
 returns-3 : tie.Need-returns-3
 returns-3 c = search needs
 
--- refused, part 1: simp (c .before .before .before .r .given .1)
 returns-4 : tie.Need-returns-4
 returns-4 c = (
   simp (c .before .before .before .r .given .1) (simp (← (c .before .len .ensures)) (c .least .ensures)),

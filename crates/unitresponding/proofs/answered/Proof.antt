@@ -1,46 +1,37 @@
+-- `unitresponding::answered` meets its contract: the listener is ready again, or not yet.
 use Rattle.unitresponding.proofs.Laws.{all-heard, not-yet-heard}
 use borrow.Author.Needs.{needs}
 use Rattle.unitresponding.proofs.answered.Statement.{statement}
 use Rattle.unitresponding.proofs.answered.Tie as tie
 
--- src/lib.rt:291:28
 element-copy-out-heard : tie.Need-element-copy-out-heard
 element-copy-out-heard c = search needs
 
--- src/lib.rt:291:9
 heard-requires : tie.Need-heard-requires
 heard-requires c κs = search needs
 
--- src/lib.rt:292:42
 element-copy-out-reply-tag-again : tie.Need-element-copy-out-reply-tag-again
 element-copy-out-reply-tag-again c = search needs
 
--- src/lib.rt:292:9
 reply-tag-again-requires : tie.Need-reply-tag-again-requires
 reply-tag-again-requires c κs = search needs
 
--- src/lib.rt:295:9
 respond-requires : tie.Need-respond-requires
 respond-requires c κs = search needs
 
--- src/lib.rt:296:9
 returns : tie.Need-returns
 returns c = let a = c .before .before .before .before .before .before .before .args in
     all-heard (a .words .now) (a .hsk) (a .busy) (c .before .before .before .before .before .heard .ensures) (c .before .before .before .reply-tag-again .ensures) (c .before .before .if1 .taken) (c .respond .ensures)
 
--- src/lib.rt:298:5
 element-write-words : tie.Need-element-write-words
 element-write-words c = search needs
 
--- src/lib.rt:299:5
 element-write-words-2 : tie.Need-element-write-words-2
 element-write-words-2 c = search needs
 
--- src/lib.rt:300:5
 element-write-words-3 : tie.Need-element-write-words-3
 element-write-words-3 c = search needs
 
--- src/lib.rt:288:1
 returns-2 : tie.Need-returns-2
 returns-2 c = let a = c .before .before .before .before .before .args in
     not-yet-heard (a .words .now) (a .hsk) (a .busy) (c .before .before .before .heard .ensures) (c .before .reply-tag-again .ensures) (c .if1 .left)

@@ -1,57 +1,45 @@
+-- `unitresponding::begin` meets its contract: sender and reply stay as they are.
 use Rattle.unitresponding.proofs.Laws.{written-begun}
 use borrow.Author.Needs.{needs}
 use Rattle.unitresponding.proofs.begin.Statement.{statement}
 use Rattle.unitresponding.proofs.begin.Tie as tie
 
--- src/lib.rt:350:50
 element-copy-out-sender : tie.Need-element-copy-out-sender
 element-copy-out-sender c = search needs
 
--- src/lib.rt:350:61
 element-copy-out-sender-2 : tie.Need-element-copy-out-sender-2
 element-copy-out-sender-2 c = search needs
 
--- src/lib.rt:350:36
 sender-requires : tie.Need-sender-requires
 sender-requires c κs = search needs
 
--- src/lib.rt:350:9
 sender-tag-requires : tie.Need-sender-tag-requires
 sender-tag-requires c κs = search needs
 
--- src/lib.rt:351:33
 element-copy-out-with-flag : tie.Need-element-copy-out-with-flag
 element-copy-out-with-flag c = search needs
 
--- src/lib.rt:351:9
 with-flag-requires : tie.Need-with-flag-requires
 with-flag-requires c κs = search needs
 
--- src/lib.rt:352:42
 element-copy-out-reply-tag-again : tie.Need-element-copy-out-reply-tag-again
 element-copy-out-reply-tag-again c = search needs
 
--- src/lib.rt:352:9
 reply-tag-again-requires : tie.Need-reply-tag-again-requires
 reply-tag-again-requires c κs = search needs
 
--- src/lib.rt:353:5
 element-write-words : tie.Need-element-write-words
 element-write-words c = search needs
 
--- src/lib.rt:354:5
 element-write-words-2 : tie.Need-element-write-words-2
 element-write-words-2 c = search needs
 
--- src/lib.rt:355:5
 element-write-words-3 : tie.Need-element-write-words-3
 element-write-words-3 c = search needs
 
--- src/lib.rt:356:5
 element-write-words-4 : tie.Need-element-write-words-4
 element-write-words-4 c = search needs
 
--- src/lib.rt:347:1
 returns : tie.Need-returns
 returns c = written-begun (c .before .before .before .before .before .before .before .before .args .words .now) (c .before .before .before .before .before .sender .ensures) (c .before .before .before .before .sender-tag .ensures) (c .before .before .with-flag .ensures) (c .reply-tag-again .ensures)
 

@@ -1,36 +1,29 @@
+-- `unitresponding::finish` meets its contract: state and phase, one after the other.
 use borrow.Author.Needs.{needs}
 use Rattle.unitresponding.proofs.finish.Statement.{statement}
 use Rattle.unitresponding.proofs.finish.Tie as tie
 
--- src/lib.rt:407:34
 element-copy-out-reply : tie.Need-element-copy-out-reply
 element-copy-out-reply c = search needs
 
--- src/lib.rt:407:45
 element-copy-out-reply-2 : tie.Need-element-copy-out-reply-2
 element-copy-out-reply-2 c = search needs
 
--- src/lib.rt:407:9
 reply-requires : tie.Need-reply-requires
 reply-requires c κs = search needs
 
--- src/lib.rt:408:9
 load-serial-requires : tie.Need-load-serial-requires
 load-serial-requires c κs = search needs
 
--- src/lib.rt:409:35
 finish-requires : tie.Need-finish-requires
 finish-requires c κs = search needs
 
--- src/lib.rt:409:5
 save-serial-requires : tie.Need-save-serial-requires
 save-serial-requires c κs = search needs
 
--- src/lib.rt:410:5
 save-sitting-out-requires : tie.Need-save-sitting-out-requires
 save-sitting-out-requires c κs = search needs
 
--- src/lib.rt:404:1
 returns : tie.Need-returns
 returns c = simp (← (c .before .before .before .before .before .before .before .reply .ensures), ← (c .before .before .before .before .before .load-serial .ensures), ← (c .before .before .before .finish .ensures), ← (c .before .before .save-serial .ensures)) (c .save-sitting-out .ensures)
 

@@ -1,3 +1,4 @@
+-- `unitresponding::nibble` meets its contract: a reply with tag 3 is a read's.
 use mathlib.Core.Path.{sym, _∙_, ap}
 use Rattle.message.specs.Nibbles.{nibbleIn}
 use Rattle.queue.specs.Queue.{contents}
@@ -8,43 +9,33 @@ use borrow.Author.Needs.{needs}
 use Rattle.unitresponding.proofs.nibble.Statement.{statement}
 use Rattle.unitresponding.proofs.nibble.Tie as tie
 
--- src/lib.rt:364:30
 element-copy-out-queue : tie.Need-element-copy-out-queue
 element-copy-out-queue c = search needs
 
--- src/lib.rt:364:40
 element-copy-out-queue-2 : tie.Need-element-copy-out-queue-2
 element-copy-out-queue-2 c = search needs
 
--- src/lib.rt:364:9
 queue-requires : tie.Need-queue-requires
 queue-requires c κs = search needs
 
--- src/lib.rt:365:25
 element-copy-out-wide : tie.Need-element-copy-out-wide
 element-copy-out-wide c = search needs
 
--- src/lib.rt:365:9
 wide-requires : tie.Need-wide-requires
 wide-requires c κs = search needs
 
--- src/lib.rt:366:15
 element-copy-out-tag : tie.Need-element-copy-out-tag
 element-copy-out-tag c = search needs
 
--- src/lib.rt:369:44
 element-copy-out-number16 : tie.Need-element-copy-out-number16
 element-copy-out-number16 c = search needs
 
--- src/lib.rt:369:28
 number16-requires : tie.Need-number16-requires
 number16-requires c κs = search needs
 
--- src/lib.rt:369:9
 read-nibble-requires : tie.Need-read-nibble-requires
 read-nibble-requires c κs = search needs
 
--- src/lib.rt:369:9
 returns : tie.Need-returns
 returns c = let a = c .before .before .before .before .before .before .before .before .before .before .args in
     let q = c .before .before .before .before .before .before .before .queue .ensures in
@@ -52,19 +43,15 @@ returns c = let a = c .before .before .before .before .before .before .before .b
     let r = ap Bytes (c .before .number16 .ensures) ∙ sym (is-read (a .words .now) (c .before .before .before .if1 .taken)) in
     c .read-nibble .ensures ∙ (λ k. nibbleIn (responseBytes (contents (a .input .now) (q k)) (r k)) (i k))
 
--- src/lib.rt:371:41
 element-copy-out-reply : tie.Need-element-copy-out-reply
 element-copy-out-reply c = search needs
 
--- src/lib.rt:371:19
 reply-requires : tie.Need-reply-requires
 reply-requires c κs = search needs
 
--- src/lib.rt:371:5
 nibble-requires : tie.Need-nibble-requires
 nibble-requires c κs = search needs
 
--- src/lib.rt:361:1
 returns-2 : tie.Need-returns-2
 returns-2 c = let a = c .before .before .before .before .before .before .before .before .before .before .args in
     let q = c .before .before .before .before .before .before .before .queue .ensures in

@@ -1,45 +1,36 @@
+-- `unitresponding::respond` meets its contract: tag 0 is silence.
 use Rattle.unitresponding.proofs.Laws.{no-response, response-waits}
 use borrow.Author.Needs.{needs}
 use Rattle.unitresponding.proofs.respond.Statement.{statement}
 use Rattle.unitresponding.proofs.respond.Tie as tie
 
--- src/lib.rt:310:9
 save-sitting-out-requires : tie.Need-save-sitting-out-requires
 save-sitting-out-requires c κs = search needs
 
--- src/lib.rt:311:9
 returns : tie.Need-returns
 returns c = no-response (c .before .before .before .args .words .now) (c .before .before .before .pre) (c .before .before .if1 .taken) (c .save-sitting-out .ensures)
 
--- src/lib.rt:313:33
 element-copy-out-with-flag : tie.Need-element-copy-out-with-flag
 element-copy-out-with-flag c = search needs
 
--- src/lib.rt:313:9
 with-flag-requires : tie.Need-with-flag-requires
 with-flag-requires c κs = search needs
 
--- src/lib.rt:314:5
 element-write-words : tie.Need-element-write-words
 element-write-words c = search needs
 
--- src/lib.rt:315:5
 element-write-words-2 : tie.Need-element-write-words-2
 element-write-words-2 c = search needs
 
--- src/lib.rt:316:5
 element-write-words-3 : tie.Need-element-write-words-3
 element-write-words-3 c = search needs
 
--- src/lib.rt:317:5
 element-write-words-4 : tie.Need-element-write-words-4
 element-write-words-4 c = search needs
 
--- src/lib.rt:318:5
 element-write-words-5 : tie.Need-element-write-words-5
 element-write-words-5 c = search needs
 
--- src/lib.rt:304:1
 returns-2 : tie.Need-returns-2
 returns-2 c = response-waits (c .before .before .before .args .words .now) (c .before .before .before .pre) (c .before .before .if1 .left) (c .with-flag .ensures)
 

@@ -1,3 +1,4 @@
+-- `unitresponding::send_on` meets its contract: the nibble before the last is one that has a next.
 use native.Mathlib.Omega.{arith}
 use Rattle.reply.proofs.Laws.{last-below}
 use Rattle.unitwords.specs.Unit.{queueOf, replyOf}
@@ -7,52 +8,40 @@ use borrow.Author.Needs.{needs}
 use Rattle.unitresponding.proofs.send_on.Statement.{statement}
 use Rattle.unitresponding.proofs.send_on.Tie as tie
 
--- src/lib.rt:391:13
 element-copy-out-i : tie.Need-element-copy-out-i
 element-copy-out-i c = search needs
 
--- src/lib.rt:392:8
 wide-requires : tie.Need-wide-requires
 wide-requires c κs = search needs
 
--- src/lib.rt:393:46
 element-copy-out-reply-tag-again : tie.Need-element-copy-out-reply-tag-again
 element-copy-out-reply-tag-again c = search needs
 
--- src/lib.rt:393:13
 reply-tag-again-requires : tie.Need-reply-tag-again-requires
 reply-tag-again-requires c κs = search needs
 
--- src/lib.rt:394:9
 element-write-words : tie.Need-element-write-words
 element-write-words c = search needs
 
--- src/lib.rt:395:9
 element-write-words-2 : tie.Need-element-write-words-2
 element-write-words-2 c = search needs
 
--- src/lib.rt:396:21
 add-words : tie.Need-add-words
 add-words c = let ws = c .before .before .before .before .before .args .words .now in
     omega (arith, c .before .before .if1 .taken, c .before .before .before .wide .ensures, c .before .before .before .before .before .pre .1, last-below (queueOf (at ws 8) (at ws 9)) (replyOf (at ws 17) (at ws 18)))
 
--- src/lib.rt:396:9
 element-write-words-3 : tie.Need-element-write-words-3
 element-write-words-3 c = search needs
 
--- src/lib.rt:397:9
 element-write-words-4 : tie.Need-element-write-words-4
 element-write-words-4 c = search needs
 
--- src/lib.rt:398:9
 returns : tie.Need-returns
 returns c = next-nibble (c .before .before .before .before .before .args .words .now) (c .before .before .before .before .before .pre .1) (c .before .before .before .wide .ensures) (c .before .before .before .before .before .pre .0) (c .before .before .if1 .taken) (c .reply-tag-again .ensures)
 
--- src/lib.rt:400:5
 finish-requires : tie.Need-finish-requires
 finish-requires c κs = search needs
 
--- src/lib.rt:386:1
 returns-2 : tie.Need-returns-2
 returns-2 c = last-nibble (c .before .before .before .before .before .args .words .now) (c .before .before .before .before .before .pre .1) (c .before .before .before .wide .ensures) (c .before .before .if1 .left) (c .finish .ensures)
 

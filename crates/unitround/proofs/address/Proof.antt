@@ -1,3 +1,4 @@
+-- `unitround::address` meets its contract: the header is that of one byte.
 use mathlib.Core.Path.{_∙_, ap}
 use Rattle.header.specs.declared.Header.{Header}
 use Rattle.phase.specs.Phase.{partial, withByte}
@@ -8,23 +9,18 @@ use borrow.Author.Needs.{needs}
 use Rattle.unitround.proofs.address.Statement.{statement}
 use Rattle.unitround.proofs.address.Tie as tie
 
--- src/lib.rt:212:18
 new-requires : tie.Need-new-requires
 new-requires c κs = search needs
 
--- src/lib.rt:212:9
 with-requires : tie.Need-with-requires
 with-requires c κs = search needs
 
--- src/lib.rt:213:39
 whole-bytes-requires : tie.Need-whole-bytes-requires
 whole-bytes-requires c κs = search needs
 
--- src/lib.rt:213:5
 save-partial-requires : tie.Need-save-partial-requires
 save-partial-requires c κs = search needs
 
--- src/lib.rt:209:1
 returns : tie.Need-returns
 returns c = let a = c .before .before .before .before .before .args in
     c .save-partial .ensures

@@ -1,3 +1,4 @@
+-- `unitround::answer` meets its contract: the answer is fixed and its effects happen, all in words.
 use mathlib.Core.Path.{_∙_, ap}
 use Rattle.phase.specs.Phase.{answered, stored}
 use Rattle.serial.specs.declared.Serial.{Serial}
@@ -6,19 +7,15 @@ use borrow.Author.Needs.{needs}
 use Rattle.unitround.proofs.answer.Statement.{statement}
 use Rattle.unitround.proofs.answer.Tie as tie
 
--- src/lib.rt:260:9
 load-serial-requires : tie.Need-load-serial-requires
 load-serial-requires c κs = search needs
 
--- src/lib.rt:261:9
 answer-requires : tie.Need-answer-requires
 answer-requires c κs = search needs
 
--- src/lib.rt:262:5
 save-moved-requires : tie.Need-save-moved-requires
 save-moved-requires c κs = search needs
 
--- src/lib.rt:257:1
 returns : tie.Need-returns
 returns c = let a = c .before .before .before .before .before .before .before .args in
     let from = c .before .before .before .before .load-serial .ensures in (

@@ -1,50 +1,40 @@
+-- `unitround::lowered` meets its contract: the pull of BAV is written only where there is one.
 use Rattle.unitround.proofs.Laws.{pull-after, no-pull}
 use borrow.Author.Needs.{needs}
 use Rattle.unitround.proofs.lowered.Statement.{statement}
 use Rattle.unitround.proofs.lowered.Tie as tie
 
--- src/lib.rt:109:30
 element-copy-out-with16 : tie.Need-element-copy-out-with16
 element-copy-out-with16 c = search needs
 
--- src/lib.rt:109:16
 with16-requires : tie.Need-with16-requires
 with16-requires c κs = search needs
 
--- src/lib.rt:109:5
 element-write-words : tie.Need-element-write-words
 element-write-words c = search needs
 
--- src/lib.rt:110:20
 element-copy-out-flag : tie.Need-element-copy-out-flag
 element-copy-out-flag c = search needs
 
--- src/lib.rt:110:8
 flag-requires : tie.Need-flag-requires
 flag-requires c κs = search needs
 
--- src/lib.rt:111:37
 element-copy-out-with-flag : tie.Need-element-copy-out-with-flag
 element-copy-out-with-flag c = search needs
 
--- src/lib.rt:111:47
 still-asks-requires : tie.Need-still-asks-requires
 still-asks-requires c κs = search needs
 
--- src/lib.rt:111:20
 with-flag-requires : tie.Need-with-flag-requires
 with-flag-requires c κs = search needs
 
--- src/lib.rt:111:9
 element-write-words-2 : tie.Need-element-write-words-2
 element-write-words-2 c = search needs
 
--- src/lib.rt:106:1
 returns : tie.Need-returns
 returns c = let a = c .before .before .before .before .before .before .before .before .args in
     pull-after (a .words .now) (a .hsk) (c .before .before .before .before .before .before .with16 .ensures) (c .before .before .before .before .flag .ensures) (c .before .before .before .if1 .taken) (c .before .still-asks .ensures) (c .with-flag .ensures)
 
--- src/lib.rt:106:1
 returns-2 : tie.Need-returns-2
 returns-2 c = let a = c .before .before .before .before .before .args in
     no-pull (a .words .now) (a .hsk) (c .before .before .before .with16 .ensures) (c .before .flag .ensures) (c .if1 .left)

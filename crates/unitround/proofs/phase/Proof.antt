@@ -1,66 +1,53 @@
+-- `unitround::phase` meets its contract: each tag is a case of `loadedPhase`.
 use Rattle.unitround.proofs.Laws.{in-selecting, in-taking, in-answered, in-responding, in-sitting-out, in-idle}
 use borrow.Author.Needs.{needs}
 use Rattle.unitround.proofs.phase.Statement.{statement}
 use Rattle.unitround.proofs.phase.Tie as tie
 
--- src/lib.rt:128:15
 element-copy-out-tag : tie.Need-element-copy-out-tag
 element-copy-out-tag c = search needs
 
--- src/lib.rt:131:9
 selecting-requires : tie.Need-selecting-requires
 selecting-requires c κs = search needs
 
--- src/lib.rt:132:9
 returns : tie.Need-returns
 returns c = let a = c .before .before .before .before .before .args in
     in-selecting (a .words .now) (a .seen) (a .busy) (a .buffer .now) (a .input .now) (a .output .now) (c .before .before .if1 .taken) (c .selecting .ensures)
 
--- src/lib.rt:136:9
 taking-requires : tie.Need-taking-requires
 taking-requires c κs = search needs
 
--- src/lib.rt:137:9
 same-length : tie.Need-same-length
 same-length c = search needs
 
--- src/lib.rt:137:9
 returns-2 : tie.Need-returns-2
 returns-2 c = let a = c .before .before .before .before .before .before .before .before .before .before .args in
     in-taking (a .words .now) (a .seen) (a .busy) (a .buffer .now) (a .input .now) (a .output .now) (c .before .before .before .before .before .before .before .if1 .left) (c .before .before .before .before .before .before .if2 .taken) (c .before .before .taking .ensures)
 
--- src/lib.rt:141:9
 answered-requires : tie.Need-answered-requires
 answered-requires c κs = search needs
 
--- src/lib.rt:142:9
 returns-3 : tie.Need-returns-3
 returns-3 c = let a = c .before .before .before .before .before .before .before .args in
     in-answered (a .words .now) (a .seen) (a .busy) (a .buffer .now) (a .input .now) (a .output .now) (c .before .before .before .before .if1 .left) (c .before .before .before .if2 .left) (c .before .before .if3 .taken) (c .answered .ensures)
 
--- src/lib.rt:146:9
 responding-requires : tie.Need-responding-requires
 responding-requires c κs = search needs
 
--- src/lib.rt:147:9
 returns-4 : tie.Need-returns-4
 returns-4 c = let a = c .before .before .before .before .before .before .before .before .args in
     in-responding (a .words .now) (a .seen) (a .busy) (a .buffer .now) (a .input .now) (a .output .now) (c .before .before .before .before .before .if1 .left) (c .before .before .before .before .if2 .left) (c .before .before .before .if3 .left) (c .before .before .if4 .taken) (c .responding .ensures)
 
--- src/lib.rt:151:9
 save-sitting-out-requires : tie.Need-save-sitting-out-requires
 save-sitting-out-requires c κs = search needs
 
--- src/lib.rt:152:9
 returns-5 : tie.Need-returns-5
 returns-5 c = let a = c .before .before .before .before .before .before .before .before .before .args in
     in-sitting-out (a .words .now) (a .seen) (a .busy) (a .buffer .now) (a .input .now) (a .output .now) (c .before .before .before .before .before .before .if1 .left) (c .before .before .before .before .before .if2 .left) (c .before .before .before .before .if3 .left) (c .before .before .before .if4 .left) (c .before .before .if5 .taken) (c .save-sitting-out .ensures)
 
--- src/lib.rt:154:5
 idle-requires : tie.Need-idle-requires
 idle-requires c κs = search needs
 
--- src/lib.rt:118:1
 returns-6 : tie.Need-returns-6
 returns-6 c = let a = c .before .before .before .before .before .before .before .before .before .args in
     in-idle (a .words .now) (a .seen) (a .busy) (a .buffer .now) (a .input .now) (a .output .now) (c .before .before .before .before .before .before .if1 .left) (c .before .before .before .before .before .if2 .left) (c .before .before .before .before .if3 .left) (c .before .before .before .if4 .left) (c .before .before .if5 .left) (c .idle .ensures)

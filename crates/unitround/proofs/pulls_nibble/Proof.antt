@@ -1,34 +1,28 @@
+-- `unitround::pulls_nibble` meets its contract: only a unit that responds places a nibble.
 use mathlib.Core.Path.{sym}
 use Rattle.unitround.proofs.Laws.{no-nibble-pulled, nibble-pulled}
 use borrow.Author.Needs.{needs}
 use Rattle.unitround.proofs.pulls_nibble.Statement.{statement}
 use Rattle.unitround.proofs.pulls_nibble.Tie as tie
 
--- src/lib.rt:80:15
 element-copy-out-tag : tie.Need-element-copy-out-tag
 element-copy-out-tag c = search needs
 
--- src/lib.rt:83:30
 element-copy-out-sender : tie.Need-element-copy-out-sender
 element-copy-out-sender c = search needs
 
--- src/lib.rt:83:41
 element-copy-out-sender-2 : tie.Need-element-copy-out-sender-2
 element-copy-out-sender-2 c = search needs
 
--- src/lib.rt:83:16
 sender-requires : tie.Need-sender-requires
 sender-requires c κs = search needs
 
--- src/lib.rt:83:9
 nibble-requires : tie.Need-nibble-requires
 nibble-requires c κs = search needs
 
--- src/lib.rt:83:9
 returns : tie.Need-returns
 returns c = nibble-pulled (c .before .before .before .before .before .before .args .words .now) (c .before .before .before .before .if1 .taken) (c .before .sender .ensures) (c .nibble .ensures)
 
--- src/lib.rt:77:1
 returns-2 : tie.Need-returns-2
 returns-2 c = sym (no-nibble-pulled (c .before .before .args .words .now) (c .if1 .left))
 

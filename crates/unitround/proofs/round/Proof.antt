@@ -1,22 +1,19 @@
+-- `unitround::round` meets its contract: BAV seen low: the row, then the phase; BAV seen high: the message is dropped.
 use mathlib.Core.Path.{_∙_}
 use Rattle.unitround.proofs.Laws.{low-round, low-buffer, low-output, high-done}
 use borrow.Author.Needs.{needs}
 use Rattle.unitround.proofs.round.Statement.{statement}
 use Rattle.unitround.proofs.round.Tie as tie
 
--- src/lib.rt:32:9
 lowered-requires : tie.Need-lowered-requires
 lowered-requires c κs = search needs
 
--- src/lib.rt:33:9
 phase-requires : tie.Need-phase-requires
 phase-requires c κs = search needs
 
--- src/lib.rt:34:9
 same-length : tie.Need-same-length
 same-length c = search needs
 
--- src/lib.rt:34:9
 returns : tie.Need-returns
 returns c = let a = c .before .before .before .before .before .before .before .before .before .before .args in
     let e = c .before .before .before .before .before .before .lowered .ensures in
@@ -29,11 +26,9 @@ returns c = let a = c .before .before .before .before .before .before .before .b
       ),
     )
 
--- src/lib.rt:36:5
 dropped-requires : tie.Need-dropped-requires
 dropped-requires c κs = search needs
 
--- src/lib.rt:21:1
 returns-2 : tie.Need-returns-2
 returns-2 c = let a = c .before .before .before .before .args in
     high-done (a .words .now) (a .seen) (a .busy) (a .buffer .now) (a .input .now) (a .output .now) (c .before .before .if1 .left) (c .dropped .ensures)

@@ -1,32 +1,26 @@
+-- `unitround::save_row` meets its contract: both words are read before one is written.
 use borrow.Author.Needs.{needs}
 use Rattle.unitround.proofs.save_row.Statement.{statement}
 use Rattle.unitround.proofs.save_row.Tie as tie
 
--- src/lib.rt:111:36
 element-copy-out-with16 : tie.Need-element-copy-out-with16
 element-copy-out-with16 c = search needs
 
--- src/lib.rt:111:9
 with16-requires : tie.Need-with16-requires
 with16-requires c κs = search needs
 
--- src/lib.rt:112:40
 element-copy-out-with-flag : tie.Need-element-copy-out-with-flag
 element-copy-out-with-flag c = search needs
 
--- src/lib.rt:112:9
 with-flag-requires : tie.Need-with-flag-requires
 with-flag-requires c κs = search needs
 
--- src/lib.rt:113:5
 element-write-words : tie.Need-element-write-words
 element-write-words c = search needs
 
--- src/lib.rt:114:5
 element-write-words-2 : tie.Need-element-write-words-2
 element-write-words-2 c = search needs
 
--- src/lib.rt:108:1
 returns : tie.Need-returns
 returns c = simp (← (c .before .before .with16 .ensures)) (simp (c .with-flag .ensures))
 

@@ -1,60 +1,47 @@
+-- `unitround::selecting` meets its contract: the tests are those of `selectingStep`.
 use borrow.Author.Needs.{needs}
 use Rattle.unitround.proofs.selecting.Statement.{statement}
 use Rattle.unitround.proofs.selecting.Tie as tie
 
--- src/lib.rt:177:15
 element-copy-out-ear : tie.Need-element-copy-out-ear
 element-copy-out-ear c = search needs
 
--- src/lib.rt:178:28
 element-copy-out-flag : tie.Need-element-copy-out-flag
 element-copy-out-flag c = search needs
 
--- src/lib.rt:178:9
 flag-requires : tie.Need-flag-requires
 flag-requires c κs = search needs
 
--- src/lib.rt:179:30
 element-copy-out-number8 : tie.Need-element-copy-out-number8
 element-copy-out-number8 c = search needs
 
--- src/lib.rt:179:9
 number8-requires : tie.Need-number8-requires
 number8-requires c κs = search needs
 
--- src/lib.rt:180:8
 takes-requires : tie.Need-takes-requires
 takes-requires c κs = search needs
 
--- src/lib.rt:182:27
 byte-of-requires : tie.Need-byte-of-requires
 byte-of-requires c κs = search needs
 
--- src/lib.rt:182:13
 select-requires : tie.Need-select-requires
 select-requires c κs = search needs
 
--- src/lib.rt:183:13
 returns : tie.Need-returns
 returns c = simp (← (c .before .before .before .before .before .before .before .before .flag .ensures), ← (c .before .before .before .before .before .before .number8 .ensures), ← (c .before .before .before .before .before .takes .ensures)) (simp (c .before .before .before .before .if1 .taken, c .before .before .before .if2 .taken) (simp (← (c .before .byte-of .ensures)) (c .select .ensures)))
 
--- src/lib.rt:185:9
 save-selecting-requires : tie.Need-save-selecting-requires
 save-selecting-requires c κs = search needs
 
--- src/lib.rt:186:9
 returns-2 : tie.Need-returns-2
 returns-2 c = simp (← (c .before .before .before .before .before .before .before .flag .ensures), ← (c .before .before .before .before .before .number8 .ensures), ← (c .before .before .before .before .takes .ensures)) (simp (c .before .before .before .if1 .taken, c .before .before .if2 .left) (c .save-selecting .ensures))
 
--- src/lib.rt:188:41
 heard-requires : tie.Need-heard-requires
 heard-requires c κs = search needs
 
--- src/lib.rt:188:5
 save-selecting-requires-2 : tie.Need-save-selecting-requires-2
 save-selecting-requires-2 c κs = search needs
 
--- src/lib.rt:174:1
 returns-3 : tie.Need-returns-3
 returns-3 c = simp (← (c .before .before .before .before .before .before .before .flag .ensures), ← (c .before .before .before .before .before .number8 .ensures), ← (c .before .before .before .before .takes .ensures)) (simp (c .before .before .before .if1 .left) (simp (← (c .before .heard .ensures)) (c .save-selecting2 .ensures)))
 

@@ -1,74 +1,58 @@
+-- `unitround::take_byte` meets its contract: a data byte before the last leaves the header as it is.
 use Rattle.unitround.proofs.Laws.{more-to-come, header-stays, next-data}
 use borrow.Author.Needs.{needs}
 use Rattle.unitround.proofs.take_byte.Statement.{statement}
 use Rattle.unitround.proofs.take_byte.Tie as tie
 
--- src/lib.rt:238:17
 element-copy-out-place : tie.Need-element-copy-out-place
 element-copy-out-place c = search needs
 
--- src/lib.rt:239:29
 element-copy-out-number16 : tie.Need-element-copy-out-number16
 element-copy-out-number16 c = search needs
 
--- src/lib.rt:239:9
 number16-requires : tie.Need-number16-requires
 number16-requires c κs = search needs
 
--- src/lib.rt:241:24
 cast-if2 : tie.Need-cast-if2
 cast-if2 c = search needs
 
--- src/lib.rt:241:20
 add-if2 : tie.Need-add-if2
 add-if2 c = search needs
 
--- src/lib.rt:242:13
 put-requires : tie.Need-put-requires
 put-requires c κs = search needs
 
--- src/lib.rt:243:13
 save-selecting-requires : tie.Need-save-selecting-requires
 save-selecting-requires c κs = search needs
 
--- src/lib.rt:244:25
 add-words : tie.Need-add-words
 add-words c = search needs
 
--- src/lib.rt:244:13
 element-write-words : tie.Need-element-write-words
 element-write-words c = search needs
 
--- src/lib.rt:245:13
 same-length : tie.Need-same-length
 same-length c = search needs
 
--- src/lib.rt:245:13
 returns : tie.Need-returns
 returns c = let a = c .before .before .before .before .before .before .before .before .before .before .before .before .args in
     more-to-come (a .words .now) (a .buffer .now) (a .output .now) (a .b) (header-stays (a .words .now) (a .b) (c .before .before .before .before .before .before .before .if1 .taken)) (c .before .before .before .before .before .before .before .before .number16 .ensures) (c .before .before .before .before .put .ensures) (c .before .before .before .before .before .before .if2 .taken) (next-data (a .words .now) (c .save-selecting .ensures))
 
--- src/lib.rt:247:9
 take-any-requires : tie.Need-take-any-requires
 take-any-requires c κs = search needs
 
--- src/lib.rt:248:9
 same-length-2 : tie.Need-same-length-2
 same-length-2 c = search needs
 
--- src/lib.rt:248:9
 returns-2 : tie.Need-returns-2
 returns-2 c = search needs
 
--- src/lib.rt:250:5
 take-any-requires-2 : tie.Need-take-any-requires-2
 take-any-requires-2 c κs = search needs
 
--- src/lib.rt:235:1
 same-length-3 : tie.Need-same-length-3
 same-length-3 c = search needs
 
--- src/lib.rt:235:1
 returns-3 : tie.Need-returns-3
 returns-3 c = search needs
 

@@ -1,72 +1,57 @@
+-- `unitround::taking` meets its contract: the tests are those of `takingStep`.
 use mathlib.Core.List.{[]}
 use Rattle.unitround.proofs.Laws.{second-half, first-half, no-nibble}
 use borrow.Author.Needs.{needs}
 use Rattle.unitround.proofs.taking.Statement.{statement}
 use Rattle.unitround.proofs.taking.Tie as tie
 
--- src/lib.rt:189:15
 element-copy-out-ear : tie.Need-element-copy-out-ear
 element-copy-out-ear c = search needs
 
--- src/lib.rt:190:8
 takes-requires : tie.Need-takes-requires
 takes-requires c κs = search needs
 
--- src/lib.rt:191:24
 element-copy-out-flag : tie.Need-element-copy-out-flag
 element-copy-out-flag c = search needs
 
--- src/lib.rt:191:12
 flag-requires : tie.Need-flag-requires
 flag-requires c κs = search needs
 
--- src/lib.rt:192:51
 element-copy-out-number8 : tie.Need-element-copy-out-number8
 element-copy-out-number8 c = search needs
 
--- src/lib.rt:192:36
 number8-requires : tie.Need-number8-requires
 number8-requires c κs = search needs
 
--- src/lib.rt:192:17
 byte-of-requires : tie.Need-byte-of-requires
 byte-of-requires c κs = search needs
 
--- src/lib.rt:193:13
 take-byte-requires : tie.Need-take-byte-requires
 take-byte-requires c κs = search needs
 
--- src/lib.rt:194:13
 same-length : tie.Need-same-length
 same-length c = search needs
 
--- src/lib.rt:194:13
 returns : tie.Need-returns
 returns c = let a = c .before .before .before .before .before .before .before .before .before .before .before .before .before .before .before .before .args in
     second-half (a .words .now) (a .seen) (a .busy) (a .buffer .now) [] (a .output .now) (c .before .before .before .before .before .before .before .before .before .before .before .before .before .takes .ensures) (c .before .before .before .before .before .before .before .before .before .before .before .before .if1 .taken) (c .before .before .before .before .before .before .before .before .before .before .flag .ensures) (c .before .before .before .before .before .before .before .before .before .if2 .taken) (c .before .before .before .before .before .before .before .number8 .ensures) (c .before .before .before .before .before .before .byte-of .ensures) (c .before .before .take-byte .ensures)
 
--- src/lib.rt:196:9
 save-selecting-requires : tie.Need-save-selecting-requires
 save-selecting-requires c κs = search needs
 
--- src/lib.rt:197:9
 returns-2 : tie.Need-returns-2
 returns-2 c = let a = c .before .before .before .before .before .before .before .before .before .args in
     first-half (a .words .now) (a .seen) (a .busy) (a .buffer .now) [] (a .output .now) (c .before .before .before .before .before .before .takes .ensures) (c .before .before .before .before .before .if1 .taken) (c .before .before .before .flag .ensures) (c .before .before .if2 .left) (c .save-selecting .ensures)
 
--- src/lib.rt:199:5
 element-write-words : tie.Need-element-write-words
 element-write-words c = search needs
 
--- src/lib.rt:200:17
 heard-requires : tie.Need-heard-requires
 heard-requires c κs = search needs
 
--- src/lib.rt:200:5
 element-write-words-2 : tie.Need-element-write-words-2
 element-write-words-2 c = search needs
 
--- src/lib.rt:186:1
 returns-3 : tie.Need-returns-3
 returns-3 c = let a = c .before .before .before .before .before .args in
     no-nibble (a .words .now) (a .seen) (a .busy) (a .buffer .now) [] (a .output .now) (c .before .before .takes .ensures) (c .before .if1 .left) (c .heard .ensures)

@@ -1,17 +1,13 @@
+-- `words::takes` meets its contract: each tag is a listener.
 use Rattle.words.proofs.takes.Statement.{statement}
 use Rattle.words.proofs.takes.Tie as tie
-use Rattle.words.proofs.takes.Reads as reads
-use Rattle.words.proofs.takes.Lts as lts
 
--- src/lib.rt:87:9
 returns : tie.Need-returns
 returns c = simp (c .if1 .taken)
 
--- src/lib.rt:91:9
 returns-2 : tie.Need-returns-2
 returns-2 c = simp (c .before .if1 .left, c .if2 .taken)
 
--- src/lib.rt:82:1
 returns-3 : tie.Need-returns-3
 returns-3 c = simp (c .before .if1 .left, c .if2 .left)
 

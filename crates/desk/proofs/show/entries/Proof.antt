@@ -3,7 +3,6 @@ use borrow.Author.Needs.{needs}
 use Prim.Native.Nat.{_-_}
 use Rattle.desk.proofs.show.entries.Statement.{statement}
 use Rattle.desk.proofs.show.entries.Tie as tie
-use Rattle.ring.proofs.Ring.entry.Reads as Ring-entry-reads
 
 abbrev Inv-loop : tie.InvT-loop
 Inv-loop r i₀ t3 i = Unit {0}

@@ -1,31 +1,24 @@
+-- `hexbus_unit_step` meets its contract: 5 before 11, and nothing is written where one of them comes.
 use Rattle.gateway.specs.Unit.{linesOf}
 use Rattle.gateway.proofs.Laws.{level-refused, buffer-refused, steps}
 use borrow.Author.Needs.{needs}
 use Rattle.gateway.proofs.unit_calls.hexbus_unit_step.Statement.{statement}
 use Rattle.gateway.proofs.unit_calls.hexbus_unit_step.Tie as tie
-use Rattle.gateway.proofs.unit_calls.hexbus_unit_step.Reads as reads
-use Rattle.gateway.proofs.unit_calls.hexbus_unit_step.Lts as lts
-use Rattle.unitround.proofs.round.Reads as round-reads
 
--- src/unit_calls.rt:45:9
 returns : tie.Need-returns
 returns c = let a = c .before .before .args in
     level-refused (a .unit .now) (linesOf (a .bav) (a .hsk) (a .nibble)) (a .busy) (a .command .now) (a .input .now) (a .output .now) (c .if1 .taken)
 
--- src/unit_calls.rt:48:9
 returns-2 : tie.Need-returns-2
 returns-2 c = let a = c .before .before .before .args in
     buffer-refused (a .unit .now) (linesOf (a .bav) (a .hsk) (a .nibble)) (a .busy) (a .command .now) (a .input .now) (a .output .now) (c .before .if1 .left) (c .if2 .taken)
 
--- src/unit_calls.rt:51:5
 round-requires : tie.Need-round-requires
 round-requires c κs = search needs
 
--- src/unit_calls.rt:31:1
 same-length : tie.Need-same-length
 same-length c = search needs
 
--- src/unit_calls.rt:31:1
 returns-3 : tie.Need-returns-3
 returns-3 c = let a = c .before .before .before .before .before .before .before .before .before .args in
     steps (a .unit .now) (linesOf (a .bav) (a .hsk) (a .nibble)) (a .busy) (a .command .now) (a .input .now) (a .output .now) (c .before .before .before .before .before .before .before .if1 .left) (c .before .before .before .before .before .before .if2 .left) (c .before .before .round .ensures)

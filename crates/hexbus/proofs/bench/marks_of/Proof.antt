@@ -3,7 +3,6 @@ use borrow.Author.Needs.{needs}
 use Prim.Native.Nat.{_-_}
 use Rattle.hexbus.proofs.bench.marks_of.Statement.{statement}
 use Rattle.hexbus.proofs.bench.marks_of.Tie as tie
-use Rattle.unit.proofs.pulls.Reads as pulls-reads′
 
 abbrev Inv-loop : tie.InvT-loop
 Inv-loop count bus marks₀ i₀ marks i = Unit {0}

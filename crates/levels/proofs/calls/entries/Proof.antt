@@ -3,7 +3,6 @@ use borrow.Author.Needs.{needs}
 use Prim.Native.Nat.{_-_}
 use Rattle.levels.proofs.calls.entries.Statement.{statement}
 use Rattle.levels.proofs.calls.entries.Tie as tie
-use Rattle.ring.proofs.Ring.entry.Reads as Ring-entry-reads
 
 abbrev Inv-loop : tie.InvT-loop
 Inv-loop ring i₀ i = Unit {0}
