@@ -1,6 +1,4 @@
 // Runs a bus on a desk: a controller and up to sixteen units, played by a script (docs/SCRIPTS.md).
-mod bench;
-mod calls;
 mod help;
 mod play;
 

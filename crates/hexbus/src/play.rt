@@ -1,7 +1,7 @@
 // A script without faults, played line by line.
-use crate::bench;
-use crate::bench::Bench;
-use crate::calls;
+
+use bench::Bench;
+use bench::calls;
 use desk::Desk;
 use desk::judge;
 use desk::reading;

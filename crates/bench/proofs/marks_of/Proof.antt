@@ -1,8 +1,8 @@
 -- Lent memory keeps its length; what is left to go through grows less.
 use borrow.Author.Needs.{needs}
 use Prim.Native.Nat.{_-_}
-use Rattle.hexbus.proofs.bench.marks_of.Statement.{statement}
-use Rattle.hexbus.proofs.bench.marks_of.Tie as tie
+use Rattle.bench.proofs.marks_of.Statement.{statement}
+use Rattle.bench.proofs.marks_of.Tie as tie
 
 abbrev Inv-loop : tie.InvT-loop
 Inv-loop count bus marks₀ i₀ marks i = Unit {0}

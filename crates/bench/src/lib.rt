@@ -1,5 +1,6 @@
 // The bus and what a run keeps beside it; its rounds.
-use crate::calls;
+pub mod calls;
+
 use bus::Bus;
 use bus::Rounded;
 use bus::Station;

@@ -2,8 +2,8 @@
 use borrow.Author.Needs.{needs}
 use lib.ListN.{length}
 use Prim.Native.Nat.{_-_}
-use Rattle.hexbus.proofs.calls.keep.Statement.{statement}
-use Rattle.hexbus.proofs.calls.keep.Tie as tie
+use Rattle.bench.proofs.calls.keep.Statement.{statement}
+use Rattle.bench.proofs.calls.keep.Tie as tie
 
 abbrev Inv-loop : tie.InvT-loop
 Inv-loop bytes₀ length n i₀ bytes i = Unit {0}

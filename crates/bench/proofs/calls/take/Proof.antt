@@ -1,8 +1,8 @@
 -- Lent memory keeps its length; what is left to go through grows less.
 use borrow.Author.Needs.{needs}
 use Prim.Native.Nat.{_-_}
-use Rattle.hexbus.proofs.calls.take.Statement.{statement}
-use Rattle.hexbus.proofs.calls.take.Tie as tie
+use Rattle.bench.proofs.calls.take.Statement.{statement}
+use Rattle.bench.proofs.calls.take.Tie as tie
 
 abbrev Inv-loop : tie.InvT-loop
 Inv-loop s i bench₀ k₀ bench k = Unit {0}

@@ -1,6 +1,5 @@
 // The calls of the application and of the hosts that a script makes. What came of a call stands on the desk.
-use crate::bench;
-use crate::bench::Bench;
+use crate::Bench;
 use application::Acknowledging;
 use application::Making;
 use application::Submitting;
@@ -245,7 +244,7 @@ pub fn raised(b: Bench, i: usize) -> Bench {
 // The desk with a request that is waited for.
 fn waiting(d: Desk, i: usize, bus: Bus) -> Desk {
     let codes = d.codes;
-    d.raised(i, tell::place_of(bench::ring_of(bus), codes[i % 16]))
+    d.raised(i, tell::place_of(crate::ring_of(bus), codes[i % 16]))
 }
 
 fn raise_one(s: Station) -> Given {

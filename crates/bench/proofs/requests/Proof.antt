@@ -1,8 +1,8 @@
 -- Lent memory keeps its length; what is left to go through grows less.
 use borrow.Author.Needs.{needs}
 use Prim.Native.Nat.{_-_}
-use Rattle.hexbus.proofs.bench.requests.Statement.{statement}
-use Rattle.hexbus.proofs.bench.requests.Tie as tie
+use Rattle.bench.proofs.requests.Statement.{statement}
+use Rattle.bench.proofs.requests.Tie as tie
 
 abbrev Inv-loop : tie.InvT-loop
 Inv-loop count bus n₀ i₀ n i = Unit {0}
