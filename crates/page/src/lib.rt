@@ -1,46 +1,41 @@
-// Text that programs write. What is said goes to the standard output at once. What is put together piece by piece stands on a page, which
-// is lent memory: each call takes how many letters stand on it and returns how many do then. What would go past its end is left out.
-pub mod names;
-
-use libc::STDERR_FILENO;
-use libc::STDOUT_FILENO;
+// Text that programs write. What is said goes to a descriptor at once; to descriptor 0 nothing is written. What is put together piece by
+// piece stands on a page, which is lent memory: each call takes how many letters stand on it and returns how many do then. What would go
+// past its end is left out.
+mod names;
 
 // Words as they are.
-pub fn say(words: &[u8]) {
-    io::write_all(STDOUT_FILENO, words);
+pub fn say(out: i32, words: &[u8]) {
+    if 0 < out {
+        io::write_all(out, words);
+    }
 }
 
 // Words with numbers among them: # stands for the next of the numbers, % for the next as a byte in hexadecimal, $ as a status and & as a
 // command, each with its name, and @ as a round, to the right in eight letters. Numbers for which no sign stands are passed over.
-pub fn tell(words: &[u8], first: u64, second: u64, third: u64, fourth: u64) {
-    let numbers = [first, second, third, fourth];
-    told(STDOUT_FILENO, words, &numbers);
-}
-
-// The same to the standard error.
-pub fn warn(words: &[u8], first: u64, second: u64) {
-    let numbers = [first, second, 0, 0];
-    told(STDERR_FILENO, words, &numbers);
-}
-
-fn told(descriptor: i32, words: &[u8], numbers: &[u64; 4]) {
-    let mut page = [0u8; 256];
-    let n = fill(&mut page, words, numbers);
-    write(descriptor, &page, n);
+pub fn tell(out: i32, words: &[u8], first: u64, second: u64, third: u64, fourth: u64) {
+    if 0 < out {
+        let numbers = [first, second, third, fourth];
+        let mut page = [0u8; 256];
+        let n = fill(&mut page, 0, words, &numbers);
+        write(out, &page, n);
+    }
 }
 
 // Each byte in hexadecimal, with a space before it; up to 256 of them.
-pub fn bytes(s: &[u8]) {
-    let mut page = [0u8; 768];
-    let n = put_bytes(&mut page, s);
-    write(STDOUT_FILENO, &page, n);
+pub fn bytes(out: i32, s: &[u8]) {
+    if 0 < out {
+        let mut page = [0u8; 768];
+        let n = put_bytes(&mut page, 0, s);
+        write(out, &page, n);
+    }
 }
 
-// Writes the letters that stand on a page.
-pub fn write(descriptor: i32, page: &[u8], n: usize) {
+// Writes the letters that stand on a page, and answers whether they were taken.
+pub fn write(out: i32, page: &[u8], n: usize) -> bool {
     if n <= page.len() {
-        io::write_all(descriptor, &page[0..n]);
+        return io::write_all(out, &page[0..n]);
     }
+    false
 }
 
 pub fn letter(page: &mut [u8], n: usize, b: u8) -> usize {
@@ -61,81 +56,65 @@ pub fn words(page: &mut [u8], n: usize, s: &[u8]) -> usize {
     at
 }
 
+// Words that a person wrote, up to 4,096 letters of them: a control byte is shown as a dot.
+pub fn show(out: i32, words: &[u8]) {
+    if 0 < out {
+        let mut page = [0u8; 4096];
+        let n = shown(&mut page, 0, words);
+        write(out, &page, n);
+    }
+}
+
+// The same behind n letters of a page.
+pub fn shown(page: &mut [u8], n: usize, s: &[u8]) -> usize {
+    let mut at = n;
+    let mut i = 0;
+    while i < s.len() {
+        let b = s[i];
+        let is_control = (b < b' ') | (b == 127);
+        at = letter(page, at, if is_control { b'.' } else { b });
+        i += 1;
+    }
+    at
+}
+
 pub fn decimal(page: &mut [u8], n: usize, number: u64) -> usize {
     let mut digits = [0u8; 20];
     let k = io::decimal(number, &mut digits);
     words(page, n, &digits[..k])
 }
 
-fn fill(page: &mut [u8], words: &[u8], numbers: &[u64; 4]) -> usize {
-    let mut n = 0;
+// Words with numbers among them, behind n letters of a page.
+pub fn fill(page: &mut [u8], n: usize, words: &[u8], numbers: &[u64; 4]) -> usize {
+    let mut at = n;
     let mut k = 0;
     let mut i = 0;
     while i < words.len() {
         let b = words[i];
-        n = sign(page, n, b, numbers[k % 4]);
-        k = k % 4 + signs(b) % 2;
-        i += 1;
-    }
-    n
-}
-
-// A letter, or the number that it stands for.
-fn sign(page: &mut [u8], n: usize, b: u8, number: u64) -> usize {
-    match b {
-        b'#' => decimal(page, n, number),
-        b'%' => hex(page, n, (number % 256) as u8),
-        b'$' => names::status(page, n, (number % 256) as u8),
-        b'&' => names::command(page, n, (number % 256) as u8),
-        b'@' => round(page, n, number),
-        _ => letter(page, n, b),
-    }
-}
-
-// How many numbers a letter stands for.
-fn signs(b: u8) -> usize {
-    match b {
-        b'#' => 1,
-        b'%' => 1,
-        b'$' => 1,
-        b'&' => 1,
-        b'@' => 1,
-        _ => 0,
-    }
-}
-
-fn round(page: &mut [u8], n: usize, number: u64) -> usize {
-    let mut digits = [0u8; 20];
-    let k = io::decimal(number, &mut digits);
-    let at = blanks(page, n, k);
-    let end = words(page, at, &digits[..k]);
-    words(page, end, b"  ")
-}
-
-// Blanks for what k letters leave of eight.
-fn blanks(page: &mut [u8], n: usize, k: usize) -> usize {
-    let mut at = n;
-    let mut i = k;
-    while i < 8 {
-        at = letter(page, at, b' ');
+        let end = names::sign(page, at, b, numbers[k % 4]);
+        if names::is_sign(b) {
+            k = k % 4 + 1;
+        }
+        at = end;
         i += 1;
     }
     at
 }
 
-fn put_bytes(page: &mut [u8], s: &[u8]) -> usize {
-    let mut n = 0;
+// Each byte in hexadecimal behind n letters of a page, with a space before it.
+pub fn put_bytes(page: &mut [u8], n: usize, s: &[u8]) -> usize {
+    let mut at = n;
     let mut i = 0;
     while i < s.len() {
-        let at = letter(page, n, b' ');
-        n = hex(page, at, s[i]);
+        at = letter(page, at, b' ');
+        at = hex(page, at, s[i]);
         i += 1;
     }
-    n
+    at
 }
 
 // A byte as two digits, upper case as in the papers.
-fn hex(page: &mut [u8], n: usize, b: u8) -> usize {
+pub fn hex(page: &mut [u8], n: usize, b: u8) -> usize {
     let at = letter(page, n, digit(b / 16));
     letter(page, at, digit(b))
 }

@@ -1,612 +1,643 @@
-// The statements of a script, one to a line. A line is read without any knowledge of a bus; what it comes to is a statement by value,
-// and its bytes stand in lent memory.
+// The statements of a script, one to a line. A line is read by the forms alone, without any knowledge of a bus; what it comes to is a
+// statement by value, and its bytes stand in lent memory. The forms are a table that is also the page of help.
 pub mod fault;
-pub mod plan;
 pub mod word;
 
-use header::Command;
-use word::Number;
+use word::NONE;
 use word::Word;
 
-pub enum Verb {
-    Blank,
-    Controller,
-    Unit,
-    Submit,
-    Feed,
-    Take,
-    Raise,
-    Acknowledge,
-    Busy,
-    Run,
-    Show,
-    Expect,
-    Say,
-    // No statement: word and expected say why.
-    Wrong,
-}
+// The place of each form in the table.
+pub const CONTROLLER: u32 = 0;
 
-// What a statement is about, beside its verb.
-pub enum Topic {
-    None,
-    // run
-    Rounds,
-    Ended,
-    Quiet,
-    // show
-    Units,
-    Ring,
-    Buffer,
-    Picture,
-    // expect
-    Status,
-    Received,
-    Taken,
-    Request,
-    Refusal,
-    Turns,
-    Waited,
-    Queued,
-    // acknowledge
-    Each,
-    Hand,
-}
+pub const UNIT: u32 = 1;
 
-// What should have been read.
-pub enum Expected {
-    Nothing,
-    Statement,
-    Code,
-    CommandCode,
-    Decimal,
-    Byte,
-    Bytes,
-    Room,
-    Option,
-    RunTopic,
-    ShowTopic,
-    ExpectTopic,
-    End,
-}
+pub const STAND_IN: u32 = 2;
 
-pub struct Statement {
-    pub verb: Verb,
-    pub topic: Topic,
-    // A device code; 0 where the controller is meant.
-    pub code: u8,
-    // The numbers of a statement, by its verb.
-    pub first: u32,
-    pub second: u32,
-    pub command: Command,
-    // How many bytes of the response buffer are lent, and how many bytes were read.
-    pub lent: u32,
-    pub length: usize,
-    // Where the last word ended; for a wrong statement, the word that was read, and what was expected.
-    pub at: usize,
-    pub word: Word,
-    pub expected: Expected,
-}
+pub const ANSWER: u32 = 3;
 
-// The statement of a line, its bytes at the front of the lent memory.
-pub fn read(line: &[u8], bytes: &mut [u8]) -> Statement {
-    let w = word::next(line, 0);
-    let k = word::place(
-        b"controller unit submit feed take raise acknowledge busy run show expect say",
-        word::part(line, w),
-    );
-    let s = Statement::new(k, w);
-    if k == 10 {
-        return s.expect(line, bytes);
-    }
-    // What follows each of these verbs, a letter for a part.
-    s.parts(
-        word::nth(b"o do dco dbs dme do ae dne re he - -", k),
-        line,
-        bytes,
+pub const SUBMIT: u32 = 4;
+
+pub const FORCE: u32 = 5;
+
+pub const DO: u32 = 6;
+
+pub const EACH: u32 = 7;
+
+pub const BY_HAND: u32 = 8;
+
+pub const ACKNOWLEDGE: u32 = 9;
+
+pub const FEED: u32 = 10;
+
+pub const TAKE: u32 = 11;
+
+pub const RAISE: u32 = 12;
+
+pub const BUSY: u32 = 13;
+
+pub const FREE: u32 = 14;
+
+pub const HOLD: u32 = 15;
+
+pub const RESTART: u32 = 16;
+
+pub const ENDED: u32 = 17;
+
+pub const QUIET: u32 = 18;
+
+pub const UNTIL_FREE: u32 = 19;
+
+pub const RUN: u32 = 20;
+
+pub const STEP: u32 = 21;
+
+pub const REPEAT: u32 = 22;
+
+pub const END: u32 = 23;
+
+pub const SHOW_UNITS: u32 = 24;
+
+pub const SHOW_RING: u32 = 25;
+
+pub const SHOW_DATA: u32 = 26;
+
+pub const SHOW_LINES: u32 = 27;
+
+pub const SAY: u32 = 28;
+
+pub const STATUS: u32 = 29;
+
+pub const RECEIVED: u32 = 30;
+
+pub const TAKEN: u32 = 31;
+
+pub const RING: u32 = 32;
+
+pub const REQUEST: u32 = 33;
+
+pub const REFUSAL: u32 = 34;
+
+pub const UNREACHED: u32 = 35;
+
+pub const TURNS: u32 = 36;
+
+pub const WAITED: u32 = 37;
+
+pub const QUEUED: u32 = 38;
+
+pub const IS_QUIET: u32 = 39;
+
+pub const ROUND: u32 = 40;
+
+pub const ROUNDS: u32 = 41;
+
+pub const LOOKS: u32 = 42;
+
+pub const PHASE: u32 = 43;
+
+pub const PULLS: u32 = 44;
+
+pub const LINES: u32 = 45;
+
+pub const BUFFER: u32 = 46;
+
+pub const RESPONSE: u32 = 47;
+
+pub const HEARD: u32 = 48;
+
+pub const STANDS: u32 = 49;
+
+// A line without a statement.
+pub const BLANK: u32 = 50;
+
+// The forms, at the front of a page; how many letters they have. A word in capitals is a kind of value, a bar stands between words one
+// of which is meant, and what stands in brackets may be left out.
+pub fn forms(page: &mut [u8; 4096]) -> usize {
+    page::words(
+        page,
+        0,
+        b"controller [timeout N]
+unit CODE [retry N]
+stand-in CODE|any
+answer CODE|any [after N] [cut N] [slow N] [at N] [bytes BYTES]
+submit CODE COMMAND [unit 0-255] [record 0-65535] [buffer 0-65535] [lent 0-65535] [input] [output] [update] [append] [relative] [length 0-65535] [data BYTES]
+force CODE COMMAND [unit 0-255] [record 0-65535] [buffer 0-65535] [lent 0-65535] [input] [output] [update] [append] [relative] [length 0-65535] [data BYTES]
+do CODE COMMAND [unit 0-255] [record 0-65535] [buffer 0-65535] [lent 0-65535] [input] [output] [update] [append] [relative] [length 0-65535] [data BYTES]
+acknowledge each
+acknowledge by-hand
+acknowledge CODE
+feed CODE BYTES
+take CODE [0-256]
+raise CODE [every N]
+busy CODE|controller N
+free CODE|controller every N
+hold N [bav] [hsk] [nibble 0-15]
+restart CODE|controller
+run until ended [N]
+run until quiet [N]
+run until free [N]
+run N
+step CODE|controller [bav] [hsk] [nibble 0-255] [busy] [times N] [lent 0-65535] [data BYTES]
+repeat 1-65535 [from N]
+end
+show units
+show ring
+show data
+show lines
+say WORDS
+expect status BYTE|none
+expect data [BYTES]
+expect taken [BYTES]
+expect ring [ENTRIES]
+expect request CODE|none
+expect refusal 1-16|none
+expect unreached
+expect turns CODE N
+expect waited CODE N
+expect queued CODE N N
+expect quiet
+expect round N
+expect rounds N
+expect unit CODE closed|input|output|update [length N] [input N] [output N] [enabled] [requesting]
+expect phase CODE idle|selecting|receiving|responding|sitting-out
+expect pulls CODE|controller [bav] [hsk] [nibble 0-15]
+expect lines [bav] [hsk] [nibble 0-15]
+expect buffer CODE [BYTES]
+expect response [BYTES]
+expect heard CODE|any [BYTES]
+expect controller [free] [submitted]
+",
     )
 }
 
-// The verb at a place of the list; behind its end there is none.
-fn verb_of(k: usize, blank: bool) -> Verb {
-    match k {
-        0 => Verb::Controller,
-        1 => Verb::Unit,
-        2 => Verb::Submit,
-        3 => Verb::Feed,
-        4 => Verb::Take,
-        5 => Verb::Raise,
-        6 => Verb::Acknowledge,
-        7 => Verb::Busy,
-        8 => Verb::Run,
-        9 => Verb::Show,
-        10 => Verb::Expect,
-        11 => Verb::Say,
-        _ => if blank { Verb::Blank } else { Verb::Wrong },
-    }
+// The value of the second of two words between which a bar stands; a kind before it has the values of a number.
+pub const OTHER: u32 = 257;
+
+// The most bytes of a statement.
+pub const MOST: usize = 65536;
+
+pub struct Statement {
+    // Its form, by its place; BLANK for none.
+    pub form: u32,
+    // The values in the order of the form, NONE for what was not given, 1 for a name without a value.
+    pub values: [u32; 16],
+    // How many bytes were read.
+    pub length: usize,
+    // Where the last word ended.
+    pub at: usize,
+    // For a line that is no statement: the word that was read, and the part of the forms that says what was expected.
+    pub is_wrong: bool,
+    pub word: Word,
+    pub want: Word,
 }
 
-// What is wrong with the first word: it is no verb.
-fn missing(verb: Verb) -> Expected {
-    match verb {
-        Verb::Wrong => Expected::Statement,
-        _ => Expected::Nothing,
-    }
+// What the first words of a line and of a form have in common.
+struct Lead {
+    fits: bool,
+    words: u32,
+    // Where the form goes on, and where the last word of the line ended.
+    form: usize,
+    at: usize,
 }
 
-// What is expected, by its place in the list.
-fn expected_of(k: usize) -> Topic {
-    match k {
-        0 => Topic::Status,
-        1 => Topic::Received,
-        2 => Topic::Taken,
-        3 => Topic::Ring,
-        4 => Topic::Quiet,
-        5 => Topic::Request,
-        6 => Topic::Refusal,
-        7 => Topic::Turns,
-        8 => Topic::Waited,
-        _ => Topic::Queued,
+// The statement of a line, its bytes at the front of the lent memory. `$` stands for the number of the pass.
+pub fn read(forms: &[u8], line: &[u8], pass: u32, bytes: &mut [u8; 135168]) -> Statement {
+    let first = word::next(line, 0);
+    if first.is_none() {
+        return Statement::new(BLANK, first, 0);
     }
+    let mut best = Lead {
+        fits: false,
+        words: 0,
+        form: 0,
+        at: 0,
+    };
+    let mut at = 0;
+    let mut k = 0u32;
+    while k < BLANK {
+        let end = word::find(forms, at, b'\n');
+        let lead = lead_of(word::part(forms, 0, end), at, line);
+        if lead.fits {
+            let s = Statement::new(k, first, lead.at);
+            return s.values(word::part(forms, 0, end), lead.form, line, pass, bytes);
+        }
+        best = better(best, lead);
+        at = end % 65536 + 1;
+        k += 1;
+    }
+    no_form(line, best)
+}
+
+fn better(a: Lead, b: Lead) -> Lead {
+    if (a.form == 0) | (a.words < b.words) {
+        return b;
+    }
+    a
+}
+
+// No form begins as the line does: the first word that none has.
+fn no_form(line: &[u8], best: Lead) -> Statement {
+    let w = word::next(line, best.at);
+    let mut s = Statement::new(BLANK, w, best.at);
+    s.values[0] = best.words;
+    s.wrong(w, w)
+}
+
+// The words of a form up to its first value, which the line must have too. The form begins at a place and ends with the slice.
+fn lead_of(form: &[u8], from: usize, line: &[u8]) -> Lead {
+    let mut lead = Lead {
+        fits: true,
+        words: 0,
+        form: from,
+        at: 0,
+    };
+    while lead.words < 4 {
+        let f = word::next(form, lead.form);
+        let name = word::letters(form, f);
+        let w = word::next(line, lead.at);
+        if is_name(name) {
+            if word::is(word::letters(line, w), name) {
+                lead.form = f.end;
+                lead.at = w.end;
+                lead.words += 1;
+            } else {
+                lead.fits = false;
+                lead.form = f.start;
+                return lead;
+            }
+        } else {
+            return lead;
+        }
+    }
+    lead
+}
+
+// Whether a word of a form stands for itself.
+fn is_name(word: &[u8]) -> bool {
+    let b = word::letter(word, 0);
+    (b'a' <= b) & (b <= b'z') & (word::find(word, 0, b'|') == word.len())
 }
 
 impl Statement {
-    // The statement of a verb, by its place, before what follows it.
-    fn new(k: usize, w: Word) -> Statement {
-        let verb = verb_of(k, w.is_none());
-        let command = Command {
-            device: 0,
-            command: 0,
-            logical_unit: 0,
-            record_number: 0,
-            buffer_length: 0,
-        };
+    fn new(form: u32, word: Word, at: usize) -> Statement {
         Statement {
-            verb,
-            topic: Topic::None,
-            code: 0,
-            first: 0,
-            second: 0,
-            command,
-            lent: 65535,
+            form,
+            values: [NONE; 16],
             length: 0,
-            at: w.end,
-            word: w,
-            expected: missing(verb),
+            at,
+            is_wrong: false,
+            word,
+            want: word,
         }
     }
 
-    // With the parts that a form has a letter for each.
-    fn parts(self, form: &[u8], line: &[u8], bytes: &mut [u8]) -> Statement {
+    fn wrong(self, word: Word, want: Word) -> Statement {
         let mut s = self;
-        let mut i = 0;
-        while i < form.len() {
-            s = s.part(form[i], line, bytes);
-            i += 1;
+        s.is_wrong = true;
+        s.word = word;
+        s.want = want;
+        s
+    }
+
+    pub fn value(self, i: usize) -> u32 {
+        let values = self.values;
+        values[i % 16]
+    }
+
+    // A value, or a number where it was not given.
+    pub fn value_or(self, i: usize, other: u32) -> u32 {
+        let v = self.value(i);
+        if v == NONE { other } else { v }
+    }
+
+    pub fn has(self, i: usize) -> bool {
+        self.value(i) != NONE
+    }
+
+    // With the values that a form has from a place on.
+    fn values(
+        self,
+        form: &[u8],
+        from: usize,
+        line: &[u8],
+        pass: u32,
+        bytes: &mut [u8; 135168],
+    ) -> Statement {
+        let mut s = self;
+        let mut at = from;
+        let mut k = 0;
+        while k < 16 {
+            let f = word::next(form, at);
+            let b = word::letter(form, f.start);
+            if f.is_none() {
+                return s.ended(line, f);
+            }
+            if b == b'[' {
+                return s.options(form, f.start, k, line, pass, bytes);
+            }
+            s = s.with_value(form, f, k, line, pass, bytes);
+            if s.is_wrong {
+                return s;
+            }
+            at = f.end;
+            k += 1;
         }
         s
     }
 
-    fn part(self, letter: u8, line: &[u8], bytes: &mut [u8]) -> Statement {
-        match letter {
-            b'b' => self.data(line, bytes),
-            b'g' => self.entries(line, bytes),
-            b'o' => self.options(line, bytes),
-            _ => self.one_word(letter, line),
+    // Nothing more stands on the line.
+    fn ended(self, line: &[u8], want: Word) -> Statement {
+        let w = word::next(line, self.at);
+        if w.is_none() {
+            return self;
         }
+        self.wrong(w, want)
     }
 
-    // A part without bytes.
-    fn one_word(self, letter: u8, line: &[u8]) -> Statement {
-        match letter {
-            b'd' => self.device(line),
-            b'c' => self.command_code(line),
-            b'n' => self.count(line),
-            b'm' => self.count_if_any(line),
-            b's' => self.some_bytes(line),
-            b'e' => self.end(line),
-            _ => self.about_word(letter, line),
-        }
-    }
-
-    // A part that says what a statement is about.
-    fn about_word(self, letter: u8, line: &[u8]) -> Statement {
-        match letter {
-            b'a' => self.acknowledged(line),
-            b'r' => self.run(line),
-            b'h' => self.show(line),
-            b'y' => self.byte(line),
-            b'q' => self.number_or_none(line, 256),
-            b'f' => self.number_or_none(line, 0),
-            _ => self,
-        }
-    }
-
-    // Whether it has been found wrong.
-    pub fn is_wrong(self) -> bool {
-        let verb = self.verb;
-        match verb {
-            Verb::Wrong => true,
-            _ => false,
-        }
-    }
-
-    fn wrong(self, w: Word, expected: Expected) -> Statement {
-        if self.is_wrong() {
-            let known = self.expected;
-            return match known {
-                Expected::Nothing => self.found_wrong(w, expected),
-                _ => self,
-            };
-        }
-        self.found_wrong(w, expected)
-    }
-
-    fn found_wrong(self, w: Word, expected: Expected) -> Statement {
-        let command = self.command;
-        Statement {
-            verb: Verb::Wrong,
-            topic: Topic::None,
-            code: self.code,
-            first: self.first,
-            second: self.second,
-            command,
-            lent: self.lent,
-            length: self.length,
-            at: self.at,
-            word: w,
-            expected,
-        }
-    }
-
-    fn about(self, topic: Topic, w: Word) -> Statement {
-        let verb = self.verb;
-        let command = self.command;
-        let word = self.word;
-        let expected = self.expected;
-        Statement {
-            verb,
-            topic,
-            code: self.code,
-            first: self.first,
-            second: self.second,
-            command,
-            lent: self.lent,
-            length: self.length,
-            at: w.end,
-            word,
-            expected,
-        }
-    }
-
-    // Past a word.
-    fn past(self, w: Word) -> Statement {
+    // With the value that a word of the form asks for.
+    fn with_value(
+        self,
+        form: &[u8],
+        f: Word,
+        k: usize,
+        line: &[u8],
+        pass: u32,
+        bytes: &mut [u8; 135168],
+    ) -> Statement {
+        let kind = word::letters(form, f);
         let mut s = self;
+        if word::letter(kind, 1) == b'Y' {
+            if word::letter(kind, 4) == b'S' {
+                s.values[k % 16] = 1;
+                return s.bytes(f, line, bytes);
+            }
+        }
+        if word::letter(kind, 0) == b'E' {
+            return s.entries(f, line, pass, bytes);
+        }
+        if word::letter(kind, 0) == b'W' {
+            return s;
+        }
+        let w = word::next(line, self.at);
+        let v = value_of(kind, word::letters(line, w), pass);
+        if v == NONE {
+            return self.wrong(w, f);
+        }
+        s.values[k % 16] = v;
         s.at = w.end;
         s
     }
 
-    // A device code; the word `controller` stands for code 0.
-    fn device(self, line: &[u8]) -> Statement {
-        let w = word::next(line, self.at);
-        let mut s = self.past(w);
-        if word::is(word::part(line, w), b"controller") {
-            return s;
+    // With what may be left out, in any order.
+    fn options(
+        self,
+        form: &[u8],
+        from: usize,
+        k: usize,
+        line: &[u8],
+        pass: u32,
+        bytes: &mut [u8; 135168],
+    ) -> Statement {
+        let mut s = self;
+        let mut i = 0u32;
+        while i < 64 {
+            let w = word::next(line, s.at);
+            if w.is_none() {
+                return s;
+            }
+            s = s.option(form, from, k, line, w, pass, bytes);
+            if s.is_wrong {
+                return s;
+            }
+            i += 1;
         }
-        let n = word::decimal(word::part(line, w));
-        if n.is_up_to(255) {
-            s.code = (n.value % 256) as u8;
-            let mut command = s.command;
-            command.device = (n.value % 256) as u8;
-            s.command = command;
-            return s;
-        }
-        self.wrong(w, Expected::Code)
+        s
     }
 
-    // A command's code in hexadecimal, or its name.
-    fn command_code(self, line: &[u8]) -> Statement {
-        let w = word::next(line, self.at);
-        let n = word::command(word::part(line, w));
-        if n.ok {
-            let mut s = self.past(w);
-            let mut command = s.command;
-            command.command = (n.value % 256) as u8;
-            s.command = command;
-            return s;
+    // With the option that a word names. An option without a name is its value.
+    fn option(
+        self,
+        form: &[u8],
+        from: usize,
+        first: usize,
+        line: &[u8],
+        w: Word,
+        pass: u32,
+        bytes: &mut [u8; 135168],
+    ) -> Statement {
+        let name = word::letters(line, w);
+        let mut s = self;
+        let mut at = from;
+        let mut k = first;
+        while k < 16 {
+            let f = inner(form, word::next(form, at));
+            let close = word::find(form, f.start, b']');
+            let known = word::letters(form, f);
+            let alone = f.end == close;
+            if f.is_none() {
+                break;
+            }
+            if alone & !is_name(known) {
+                return s.with_value(form, f, k, line, pass, bytes);
+            }
+            if word::is(name, known) {
+                s.at = w.end;
+                if alone {
+                    s.values[k] = 1;
+                    return s;
+                }
+                return s.with_value(
+                    form,
+                    inner(form, word::next(form, f.end)),
+                    k,
+                    line,
+                    pass,
+                    bytes,
+                );
+            }
+            at = close % 65536 + 1;
+            k += 1;
         }
-        self.wrong(w, Expected::CommandCode)
-    }
-
-    // A decimal number.
-    fn count(self, line: &[u8]) -> Statement {
-        let w = word::next(line, self.at);
-        let n = word::decimal(word::part(line, w));
-        if n.ok {
-            let mut s = self.past(w);
-            s.second = self.first;
-            s.first = n.value;
-            return s;
-        }
-        self.wrong(w, Expected::Decimal)
-    }
-
-    fn count_if_any(self, line: &[u8]) -> Statement {
-        let w = word::next(line, self.at);
-        if w.is_none() {
-            let mut s = self;
-            s.first = 256;
-            return s;
-        }
-        self.count(line)
-    }
-
-    // Nothing more.
-    fn end(self, line: &[u8]) -> Statement {
-        let w = word::next(line, self.at);
-        if w.is_none() {
-            return self;
-        }
-        self.wrong(w, Expected::End)
-    }
-
-    fn acknowledged(self, line: &[u8]) -> Statement {
-        let w = word::next(line, self.at);
-        match word::place(b"each by-hand", word::part(line, w)) {
-            0 => self.about(Topic::Each, w),
-            1 => self.about(Topic::Hand, w),
-            _ => self.device(line),
-        }
-    }
-
-    fn run(self, line: &[u8]) -> Statement {
-        let w = word::next(line, self.at);
-        if word::is(word::part(line, w), b"until") {
-            return self.until(line, word::next(line, w.end));
-        }
-        self.about(
-                Topic::Rounds,
-                Word {
-                    start: w.start,
-                    end: self.at,
-                },
-            )
-            .count(line)
-    }
-
-    // How far a run goes at most, where its end is another.
-    fn until(self, line: &[u8], w: Word) -> Statement {
-        match word::place(b"ended quiet", word::part(line, w)) {
-            0 => self.about(Topic::Ended, w).limit(line),
-            1 => self.about(Topic::Quiet, w).limit(line),
-            _ => self.wrong(w, Expected::RunTopic),
-        }
-    }
-
-    fn limit(self, line: &[u8]) -> Statement {
-        let w = word::next(line, self.at);
-        if w.is_none() {
-            let mut s = self;
-            s.first = 100000;
-            return s;
-        }
-        self.count(line)
-    }
-
-    fn show(self, line: &[u8]) -> Statement {
-        let w = word::next(line, self.at);
-        match word::place(b"units ring data lines", word::part(line, w)) {
-            0 => self.about(Topic::Units, w),
-            1 => self.about(Topic::Ring, w),
-            2 => self.about(Topic::Buffer, w),
-            3 => self.about(Topic::Picture, w),
-            _ => self.wrong(w, Expected::ShowTopic),
-        }
-    }
-
-    fn expect(self, line: &[u8], bytes: &mut [u8]) -> Statement {
-        let w = word::next(line, self.at);
-        let k = word::place(
-            b"status data taken ring quiet request refusal turns waited queued",
-            word::part(line, w),
-        );
-        if 9 < k {
-            return self.wrong(w, Expected::ExpectTopic);
-        }
-        self.about(expected_of(k), w).parts(
-            word::nth(b"ye b b g e qe fe dne dne dnne", k),
-            line,
-            bytes,
+        self.wrong(
+            w,
+            Word {
+                start: from,
+                end: form.len(),
+            },
         )
     }
 
-    fn number_or_none(self, line: &[u8], none: u32) -> Statement {
-        let w = word::next(line, self.at);
-        if word::is(word::part(line, w), b"none") {
-            let mut s = self.past(w);
-            s.first = none;
-            return s;
-        }
-        self.count(line)
-    }
-
-    // A byte in hexadecimal.
-    fn byte(self, line: &[u8]) -> Statement {
-        let w = word::next(line, self.at);
-        let n = word::byte(word::part(line, w));
-        if n.ok {
-            let mut s = self.past(w);
-            s.first = n.value;
-            return s;
-        }
-        self.wrong(w, Expected::Byte)
-    }
-
-    // Bytes in hexadecimal to the end of the line, each perhaps with a star and how often it stands.
-    fn data(self, line: &[u8], bytes: &mut [u8]) -> Statement {
+    // Bytes to the end of the line: in hexadecimal, each perhaps with a star and how often it stands, or a plus and how many count up
+    // from it; or text in quotes.
+    fn bytes(self, f: Word, line: &[u8], bytes: &mut [u8; 135168]) -> Statement {
         let mut s = self;
         let mut i = 0;
         while i < line.len() {
-            i += 1;
             let w = word::next(line, s.at);
             if w.is_none() {
+                break;
+            }
+            s = s.more(f, word::letters(line, w), w, bytes);
+            if s.is_wrong {
                 return s;
             }
-            s = s.more(line, w, bytes);
+            i += 1;
+        }
+        if i == 0 {
+            return s.wrong(word::next(line, s.at), f);
         }
         s
     }
 
-    fn some_bytes(self, line: &[u8]) -> Statement {
-        if self.length == 0 {
-            return self.wrong(word::next(line, self.at), Expected::Bytes);
-        }
-        self
-    }
-
-    fn more(self, line: &[u8], w: Word, bytes: &mut [u8]) -> Statement {
-        let one = word::before_star(line, w);
-        let b = word::byte(word::part(line, one));
-        let times = word::times(line, w);
-        let mut s = self.past(w);
-        if b.ok {
-            if times.ok {
-                if word::has_room(self.length, times.value) {
-                    s.length = word::fill(bytes, self.length, (b.value % 256) as u8, times.value);
-                    return s;
-                }
-                return s.wrong(w, Expected::Room);
+    fn more(self, f: Word, letters: &[u8], w: Word, bytes: &mut [u8; 135168]) -> Statement {
+        let mut s = self;
+        let n = letters.len();
+        let star = word::find(letters, 0, b'*');
+        let plus = word::find(letters, 0, b'+');
+        let sign = if plus < n { plus } else { star };
+        let many = if sign < n {
+            word::decimal(&letters[sign + 1..])
+        } else {
+            1
+        };
+        let b = word::byte(word::part(letters, 0, sign));
+        s.at = w.end;
+        let is_text = word::letter(letters, 0) == b'"';
+        if is_text {
+            s.length = text(bytes, self.length, letters);
+        } else {
+            if (b == NONE) | (65536 < many) {
+                return s.wrong(w, f);
             }
+            s.length = run(bytes, self.length, b, many, plus < n);
         }
-        s.wrong(w, Expected::Bytes)
+        if MOST < s.length {
+            return s.wrong(w, f);
+        }
+        s
     }
 
     // The entries of a ring to the end of the line: codes, marked ones with a star. Each comes to two bytes, its code and its mark.
-    fn entries(self, line: &[u8], bytes: &mut [u8]) -> Statement {
+    fn entries(self, f: Word, line: &[u8], pass: u32, bytes: &mut [u8; 135168]) -> Statement {
         let mut s = self;
-        let mut i = 0;
-        while i < line.len() {
-            i += 1;
+        let mut i = 0u32;
+        while i < 17 {
             let w = word::next(line, s.at);
             if w.is_none() {
                 return s;
             }
-            s = s.entry(line, w, bytes);
-        }
-        s
-    }
-
-    fn entry(self, line: &[u8], w: Word, bytes: &mut [u8]) -> Statement {
-        let one = word::before_star(line, w);
-        let n = word::decimal(word::part(line, one));
-        let mut s = self.past(w);
-        if n.is_up_to(255) {
-            let k = word::fill(bytes, self.length, (n.value % 256) as u8, 1);
-            let mark = if one.end < w.end { 1 } else { 0 };
-            s.length = word::fill(bytes, k, mark, 1);
-            return s;
-        }
-        s.wrong(w, Expected::Code)
-    }
-
-    // Options to the end of the line, each a name and a number; `data` and its bytes are the last.
-    fn options(self, line: &[u8], bytes: &mut [u8]) -> Statement {
-        self.numbered(line).option_data(line, bytes)
-    }
-
-    // Options up to `data`.
-    fn numbered(self, line: &[u8]) -> Statement {
-        let mut s = self;
-        let mut i = 0;
-        while i < line.len() {
+            let letters = word::letters(line, w);
+            let star = word::find(letters, 0, b'*');
+            let code = value_of(b"CODE", word::part(letters, 0, star), pass);
+            let marked = star < letters.len();
+            if code == NONE {
+                return s.wrong(w, f);
+            }
+            s.at = w.end;
+            s.length = run(bytes, s.length, code, 1, false);
+            s.length = run(bytes, s.length, if marked { 1 } else { 0 }, 1, false);
             i += 1;
-            let w = word::next(line, s.at);
-            if is_last(line, w) {
-                return s;
-            }
-            if s.is_wrong() {
-                return s;
-            }
-            s = s.option(line, w);
         }
-        s
+        s.wrong(word::next(line, s.at), f)
     }
+}
 
-    fn option_data(self, line: &[u8], bytes: &mut [u8]) -> Statement {
-        let w = word::next(line, self.at);
-        if w.is_none() {
-            return self;
-        }
-        let verb = self.verb;
-        match verb {
-            Verb::Submit => self.past(w).data(line, bytes),
-            _ => self.wrong(w, Expected::Option),
-        }
+// A word without the brackets around it.
+fn inner(form: &[u8], f: Word) -> Word {
+    let start = if word::letter(form, f.start) == b'[' {
+        f.start % 65536 + 1
+    } else {
+        f.start
+    };
+    let close = word::find(form, start, b']');
+    Word {
+        start,
+        end: if close < f.end { close } else { f.end },
     }
+}
 
-    fn option(self, line: &[u8], w: Word) -> Statement {
-        let name = word::part(line, w);
-        let value = word::next(line, w.end);
-        let n = word::decimal(word::part(line, value));
-        let verb = self.verb;
-        let most = match verb {
-            Verb::Controller => setting(word::is(name, b"timeout")),
-            Verb::Unit => setting(word::is(name, b"retry")),
-            Verb::Raise => setting(word::is(name, b"every")),
-            Verb::Submit => largest(name),
-            _ => 0,
+// The value of a word by a kind: that of a number, or 256 and the place of the word among those between which bars stand.
+fn value_of(kind: &[u8], w: &[u8], pass: u32) -> u32 {
+    let mut at = 0;
+    let mut j = 0u32;
+    while j < 8 {
+        let end = word::find(kind, at, b'|');
+        let one = word::part(kind, at, end);
+        let v = if is_name(one) {
+            if word::is(w, one) { 256 + j } else { NONE }
+        } else {
+            number(one, w, pass)
         };
-        if most == 0 {
-            return self.wrong(w, Expected::Option);
+        if v != NONE {
+            return v;
         }
-        if n.is_up_to(most) {
-            return self.past(value).with_option(name, n);
+        at = end % 65536 + 1;
+        j += 1;
+    }
+    NONE
+}
+
+// The number that a word stands for, in the range of its kind.
+fn number(kind: &[u8], w: &[u8], pass: u32) -> u32 {
+    let first = word::letter(kind, 0);
+    if first == b'B' {
+        return word::byte(w);
+    }
+    if word::letter(kind, 2) == b'M' {
+        return word::command(w);
+    }
+    let n = if word::is(w, b"$") {
+        pass
+    } else {
+        word::decimal(w)
+    };
+    let dash = word::find(kind, 0, b'-');
+    let most = match first {
+        b'C' => 255,
+        b'N' => 999999999,
+        _ => word::decimal(word::part(kind, dash % 65536 + 1, kind.len())),
+    };
+    let least = match first {
+        b'C' => 0,
+        b'N' => 0,
+        _ => word::decimal(word::part(kind, 0, dash)),
+    };
+    if kind.len() == 0 {
+        return NONE;
+    }
+    if (n < least) | (most < n) { NONE } else { n }
+}
+
+// A byte so often behind n others, or so many that count up from it, FA followed by 00; how many there are then.
+fn run(bytes: &mut [u8; 135168], n: usize, first: u32, many: u32, counts: bool) -> usize {
+    let mut b = first;
+    let mut k = n;
+    let mut i = 0u32;
+    while i < many {
+        if k < MOST {
+            bytes[k] = (b % 256) as u8;
         }
-        self.wrong(value, Expected::Decimal)
+        k = k % 131072 + 1;
+        b = if counts { (b % 256 + 1) % 251 } else { b };
+        i += 1;
     }
+    k
+}
 
-    // With a field of the command to submit, or how much of the response buffer is lent; or with the one option of another verb.
-    fn with_option(self, name: &[u8], n: Number) -> Statement {
-        let mut s = self;
-        let mut command = s.command;
-        s.first = n.value;
-        s.second = 1;
-        match field(name) {
-            0 => command.logical_unit = (n.value % 256) as u8,
-            1 => command.record_number = (n.value % 65536) as u16,
-            2 => command.buffer_length = (n.value % 65536) as u16,
-            3 => s.lent = n.value,
-            _ => {}
+// The letters between quotes, behind n bytes; too many where no quote closes them.
+fn text(bytes: &mut [u8; 135168], n: usize, letters: &[u8]) -> usize {
+    let mut k = n;
+    let mut i = 1;
+    while i < letters.len() {
+        let b = letters[i];
+        if b == b'"' {
+            return k;
         }
-        s.command = command;
-        s
+        if k < MOST {
+            bytes[k] = b;
+        }
+        k = k % 131072 + 1;
+        i += 1;
     }
-}
-
-// Which option of submit a name is.
-fn field(name: &[u8]) -> usize {
-    word::place(b"unit record buffer lent", name)
-}
-
-// Whether no option with a number comes: the line ends, or its data begins.
-fn is_last(line: &[u8], w: Word) -> bool {
-    if w.is_none() {
-        return true;
-    }
-    word::is(word::part(line, w), b"data")
-}
-
-// The largest number of a setting. Those that a party refuses are read too.
-fn setting(known: bool) -> u32 {
-    if known { 999999999 } else { 0 }
-}
-
-// The largest number of an option of submit; 0 where there is no such option.
-fn largest(name: &[u8]) -> u32 {
-    match field(name) {
-        0 => 255,
-        1 => 65535,
-        2 => 65535,
-        3 => 65535,
-        _ => 0,
-    }
+    131072
 }

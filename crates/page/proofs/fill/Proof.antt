@@ -1,16 +1,21 @@
 -- Lent memory keeps its length; what is left to go through grows less.
 use borrow.Author.Needs.{needs}
-use lib.ListN.{length}
 use Prim.Native.Nat.{_-_}
+use lib.ListN.{length}
 use mathlib.Core.Path.{_≡_}
+use native.Mathlib.Omega.{arith}
 use Rattle.page.proofs.fill.Statement.{statement}
 use Rattle.page.proofs.fill.Tie as tie
+use Rattle.page.proofs.fill.Reads as reads
+use Rattle.page.proofs.fill.Lts as lts
+use Rattle.page.proofs.names.is_sign.Reads as is-sign-reads
+use Rattle.page.proofs.names.sign.Reads as sign-reads
 
 abbrev Inv-loop : tie.InvT-loop
-Inv-loop page₀ words numbers n₀ k₀ i₀ page n k i = length page ≡ length page₀
+Inv-loop page₀ n words numbers at₀ k₀ i₀ page at k i = (length page ≡ length page₀)
 
 abbrev μ-loop : tie.MeasureT-loop
-μ-loop page₀ words numbers n₀ k₀ i₀ page n k i = length words - i
+μ-loop page₀ n words numbers at₀ k₀ i₀ page at k i = length words - i
 
 loop-holds : tie.Need-loop-holds Inv-loop μ-loop
 loop-holds c = search needs
@@ -27,8 +32,8 @@ element-copy-out-sign c = search needs
 sign-requires : tie.Need-sign-requires Inv-loop μ-loop
 sign-requires c κs = search needs
 
-signs-requires : tie.Need-signs-requires Inv-loop μ-loop
-signs-requires c κs = search needs
+is-sign-requires : tie.Need-is-sign-requires Inv-loop μ-loop
+is-sign-requires c κs = search needs
 
 add-k : tie.Need-add-k Inv-loop μ-loop
 add-k c = search needs
@@ -59,7 +64,7 @@ fill-spec =
     mul-sign
     element-copy-out-sign
     sign-requires
-    signs-requires
+    is-sign-requires
     add-k
     add-i
     loop-less

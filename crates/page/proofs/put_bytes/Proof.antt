@@ -1,16 +1,21 @@
 -- Lent memory keeps its length; what is left to go through grows less.
 use borrow.Author.Needs.{needs}
-use lib.ListN.{length}
 use Prim.Native.Nat.{_-_}
+use lib.ListN.{length}
 use mathlib.Core.Path.{_≡_}
+use native.Mathlib.Omega.{arith}
 use Rattle.page.proofs.put_bytes.Statement.{statement}
 use Rattle.page.proofs.put_bytes.Tie as tie
+use Rattle.page.proofs.put_bytes.Reads as reads
+use Rattle.page.proofs.put_bytes.Lts as lts
+use Rattle.page.proofs.hex.Reads as hex-reads
+use Rattle.page.proofs.letter.Reads as letter-reads
 
 abbrev Inv-loop : tie.InvT-loop
-Inv-loop page₀ s n₀ i₀ page n i = length page ≡ length page₀
+Inv-loop page₀ n s at₀ i₀ page at i = (length page ≡ length page₀)
 
 abbrev μ-loop : tie.MeasureT-loop
-μ-loop page₀ s n₀ i₀ page n i = length s - i
+μ-loop page₀ n s at₀ i₀ page at i = length s - i
 
 loop-holds : tie.Need-loop-holds Inv-loop μ-loop
 loop-holds c = search needs

@@ -1,31 +1,40 @@
 -- Lent memory keeps its length; what is left to go through grows less.
 use borrow.Author.Needs.{needs}
-use lib.ListN.{length}
 use Prim.Native.Nat.{_-_}
+use lib.ListN.{length}
 use mathlib.Core.Path.{_≡_}
+use native.Mathlib.Omega.{arith}
 use Rattle.page.proofs.names.named.Statement.{statement}
 use Rattle.page.proofs.names.named.Tie as tie
+use Rattle.page.proofs.names.named.Reads as reads
+use Rattle.page.proofs.names.named.Lts as lts
+use Rattle.page.proofs.digit.Reads as digit-reads
+use Rattle.page.proofs.hex.Reads as hex-reads
+use Rattle.page.proofs.names.letter_if.Reads as letter-if-reads
 
 abbrev Inv-loop : tie.InvT-loop
-Inv-loop page₀ n b list at₀ here₀ i₀ page at here i = length page ≡ length page₀
+Inv-loop page₀ n b list at₀ high low here₀ first₀ second₀ i₀ page at here first second i = (length page ≡ length page₀)
 
 abbrev μ-loop : tie.MeasureT-loop
-μ-loop page₀ n b list at₀ here₀ i₀ page at here i = length list - i
+μ-loop page₀ n b list at₀ high low here₀ first₀ second₀ i₀ page at here first second i = length list - i
 
 hex-requires : tie.Need-hex-requires Inv-loop μ-loop
 hex-requires c κs = search needs
 
+digit-requires : tie.Need-digit-requires Inv-loop μ-loop
+digit-requires c κs = search needs
+
+digit-requires-2 : tie.Need-digit-requires-2 Inv-loop μ-loop
+digit-requires-2 c κs = search needs
+
 loop-holds : tie.Need-loop-holds Inv-loop μ-loop
 loop-holds c = search needs
 
-is-name-requires : tie.Need-is-name-requires Inv-loop μ-loop
-is-name-requires c κs = search needs
+shared-slice-read-next : tie.Need-shared-slice-read-next Inv-loop μ-loop
+shared-slice-read-next c = search needs
 
-shared-slice-read-if-so : tie.Need-shared-slice-read-if-so Inv-loop μ-loop
-shared-slice-read-if-so c = search needs
-
-if-so-requires : tie.Need-if-so-requires Inv-loop μ-loop
-if-so-requires c κs = search needs
+letter-if-requires : tie.Need-letter-if-requires Inv-loop μ-loop
+letter-if-requires c κs = search needs
 
 add-i : tie.Need-add-i Inv-loop μ-loop
 add-i c = search needs
@@ -49,10 +58,11 @@ named-spec =
     Inv-loop
     μ-loop
     hex-requires
+    digit-requires
+    digit-requires-2
     loop-holds
-    is-name-requires
-    shared-slice-read-if-so
-    if-so-requires
+    shared-slice-read-next
+    letter-if-requires
     add-i
     loop-less
     loop-again

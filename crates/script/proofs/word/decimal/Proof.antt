@@ -1,27 +1,19 @@
--- Lent memory keeps its length; what is left to go through grows less.
+-- What is left to go through grows less.
 use borrow.Author.Needs.{needs}
-use lib.ListN.{length}
 use Prim.Native.Nat.{_-_}
+use lib.ListN.{length}
+use native.Mathlib.Omega.{arith}
 use Rattle.script.proofs.word.decimal.Statement.{statement}
 use Rattle.script.proofs.word.decimal.Tie as tie
+use Rattle.script.proofs.word.decimal.Reads as reads
+use Rattle.script.proofs.word.decimal.Lts as lts
+use Rattle.script.proofs.word.digit.Reads as digit-reads
 
 abbrev Inv-loop : tie.InvT-loop
 Inv-loop w value₀ i₀ value i = Unit {0}
 
 abbrev μ-loop : tie.MeasureT-loop
 μ-loop w value₀ i₀ value i = length w - i
-
-none-requires : tie.Need-none-requires Inv-loop μ-loop
-none-requires c κs = search needs
-
-returns : tie.Need-returns Inv-loop μ-loop
-returns c = search needs
-
-none-requires-2 : tie.Need-none-requires-2 Inv-loop μ-loop
-none-requires-2 c κs = search needs
-
-returns-2 : tie.Need-returns-2 Inv-loop μ-loop
-returns-2 c = search needs
 
 loop-holds : tie.Need-loop-holds Inv-loop μ-loop
 loop-holds c = search needs
@@ -32,17 +24,11 @@ shared-slice-read-digit c = search needs
 digit-requires : tie.Need-digit-requires Inv-loop μ-loop
 digit-requires c κs = search needs
 
-none-requires-3 : tie.Need-none-requires-3 Inv-loop μ-loop
-none-requires-3 c κs = search needs
-
-returns-3 : tie.Need-returns-3 Inv-loop μ-loop
-returns-3 c = search needs
+returns : tie.Need-returns Inv-loop μ-loop
+returns c = search needs
 
 mul-value : tie.Need-mul-value Inv-loop μ-loop
 mul-value c = search needs
-
-wide-requires : tie.Need-wide-requires Inv-loop μ-loop
-wide-requires c κs = search needs
 
 add-value : tie.Need-add-value Inv-loop μ-loop
 add-value c = search needs
@@ -56,11 +42,11 @@ loop-less c = search needs
 loop-again : tie.Need-loop-again Inv-loop μ-loop
 loop-again c = search needs
 
-some-requires : tie.Need-some-requires Inv-loop μ-loop
-some-requires c κs = search needs
+returns-2 : tie.Need-returns-2 Inv-loop μ-loop
+returns-2 c = search needs
 
-returns-4 : tie.Need-returns-4 Inv-loop μ-loop
-returns-4 c = search needs
+returns-3 : tie.Need-returns-3 Inv-loop μ-loop
+returns-3 c = search needs
 
 pub decimal-spec : {M : Type 1} → statement M
 decimal-spec =
@@ -68,20 +54,14 @@ decimal-spec =
     (tie.spec
     Inv-loop
     μ-loop
-    none-requires
-    returns
-    none-requires-2
-    returns-2
     loop-holds
     shared-slice-read-digit
     digit-requires
-    none-requires-3
-    returns-3
+    returns
     mul-value
-    wide-requires
     add-value
     add-i
     loop-less
     loop-again
-    some-requires
-    returns-4)
+    returns-2
+    returns-3)

@@ -1,27 +1,37 @@
--- Lent memory keeps its length; what is left to go through grows less.
+-- What is left to go through grows less.
 use borrow.Author.Needs.{needs}
-use lib.ListN.{length}
 use Prim.Native.Nat.{_-_}
+use lib.ListN.{length}
+use native.Mathlib.Omega.{arith}
 use Rattle.script.proofs.word.past.Statement.{statement}
 use Rattle.script.proofs.word.past.Tie as tie
+use Rattle.script.proofs.word.past.Reads as reads
+use Rattle.script.proofs.word.past.Lts as lts
+use Rattle.script.proofs.word.is_end.Reads as is-end-reads
 
 abbrev Inv-loop : tie.InvT-loop
-Inv-loop line from blanks i₀ i = Unit {0}
+Inv-loop line from what i₀ i = Unit {0}
 
 abbrev μ-loop : tie.MeasureT-loop
-μ-loop line from blanks i₀ i = length line - i
+μ-loop line from what i₀ i = length line - i
 
 loop-holds : tie.Need-loop-holds Inv-loop μ-loop
 loop-holds c = search needs
 
-shared-slice-read-is-end : tie.Need-shared-slice-read-is-end Inv-loop μ-loop
-shared-slice-read-is-end c = search needs
+shared-slice-read-b : tie.Need-shared-slice-read-b Inv-loop μ-loop
+shared-slice-read-b c = search needs
 
 is-end-requires : tie.Need-is-end-requires Inv-loop μ-loop
 is-end-requires c κs = search needs
 
+add-result : tie.Need-add-result Inv-loop μ-loop
+add-result c = search needs
+
 returns : tie.Need-returns Inv-loop μ-loop
 returns c = search needs
+
+returns-2 : tie.Need-returns-2 Inv-loop μ-loop
+returns-2 c = search needs
 
 add-i : tie.Need-add-i Inv-loop μ-loop
 add-i c = search needs
@@ -32,8 +42,8 @@ loop-less c = search needs
 loop-again : tie.Need-loop-again Inv-loop μ-loop
 loop-again c = search needs
 
-returns-2 : tie.Need-returns-2 Inv-loop μ-loop
-returns-2 c = search needs
+returns-3 : tie.Need-returns-3 Inv-loop μ-loop
+returns-3 c = search needs
 
 pub past-spec : {M : Type 1} → statement M
 past-spec =
@@ -42,10 +52,12 @@ past-spec =
     Inv-loop
     μ-loop
     loop-holds
-    shared-slice-read-is-end
+    shared-slice-read-b
     is-end-requires
+    add-result
     returns
+    returns-2
     add-i
     loop-less
     loop-again
-    returns-2)
+    returns-3)

@@ -1,8 +1,15 @@
 -- What is left to go through grows less.
 use borrow.Author.Needs.{needs}
 use Prim.Native.Nat.{_-_}
+use native.Mathlib.Omega.{arith}
 use Rattle.script.proofs.word.place.Statement.{statement}
 use Rattle.script.proofs.word.place.Tie as tie
+use Rattle.script.proofs.word.place.Reads as reads
+use Rattle.script.proofs.word.place.Lts as lts
+use Rattle.script.proofs.word.Word.is_none.Reads as is-none-reads
+use Rattle.script.proofs.word.is.Reads as is-reads
+use Rattle.script.proofs.word.letters.Reads as letters-reads
+use Rattle.script.proofs.word.next.Reads as next-reads
 
 abbrev Inv-loop : tie.InvT-loop
 Inv-loop list w at₀ i₀ at i = Unit {0}
@@ -16,8 +23,8 @@ loop-holds c = search needs
 next-requires : tie.Need-next-requires Inv-loop μ-loop
 next-requires c κs = search needs
 
-part-requires : tie.Need-part-requires Inv-loop μ-loop
-part-requires c κs = search needs
+letters-requires : tie.Need-letters-requires Inv-loop μ-loop
+letters-requires c κs = search needs
 
 is-requires : tie.Need-is-requires Inv-loop μ-loop
 is-requires c κs = search needs
@@ -51,7 +58,7 @@ place-spec =
     μ-loop
     loop-holds
     next-requires
-    part-requires
+    letters-requires
     is-requires
     is-none-requires
     returns

@@ -1,9 +1,13 @@
--- Lent memory keeps its length; what is left to go through grows less.
+-- What is left to go through grows less.
 use borrow.Author.Needs.{needs}
-use lib.ListN.{length}
 use Prim.Native.Nat.{_-_}
-use Rattle.script.proofs.word.begins.Statement.{statement}
-use Rattle.script.proofs.word.begins.Tie as tie
+use lib.ListN.{length}
+use native.Mathlib.Omega.{arith}
+use Rattle.script.proofs.word.is.Statement.{statement}
+use Rattle.script.proofs.word.is.Tie as tie
+use Rattle.script.proofs.word.is.Reads as reads
+use Rattle.script.proofs.word.is.Lts as lts
+use Rattle.script.proofs.word.letter.Reads as letter-reads
 
 abbrev Inv-loop : tie.InvT-loop
 Inv-loop w name i₀ i = Unit {0}
@@ -17,8 +21,8 @@ loop-holds c = search needs
 letter-requires : tie.Need-letter-requires Inv-loop μ-loop
 letter-requires c κs = search needs
 
-shared-slice-read-if1 : tie.Need-shared-slice-read-if1 Inv-loop μ-loop
-shared-slice-read-if1 c = search needs
+shared-slice-read-if2 : tie.Need-shared-slice-read-if2 Inv-loop μ-loop
+shared-slice-read-if2 c = search needs
 
 add-i : tie.Need-add-i Inv-loop μ-loop
 add-i c = search needs
@@ -35,17 +39,21 @@ returns c = search needs
 returns-2 : tie.Need-returns-2 Inv-loop μ-loop
 returns-2 c = search needs
 
-pub begins-spec : {M : Type 1} → statement M
-begins-spec =
+returns-3 : tie.Need-returns-3 Inv-loop μ-loop
+returns-3 c = search needs
+
+pub is-spec : {M : Type 1} → statement M
+is-spec =
     tie.close
     (tie.spec
     Inv-loop
     μ-loop
     loop-holds
     letter-requires
-    shared-slice-read-if1
+    shared-slice-read-if2
     add-i
     loop-less
     loop-again
     returns
-    returns-2)
+    returns-2
+    returns-3)

@@ -1,20 +1,24 @@
--- Lent memory keeps its length; what is left to go through grows less.
+-- What is left to go through grows less.
 use borrow.Author.Needs.{needs}
 use Prim.Native.Nat.{_-_}
-use Rattle.script.proofs.word.before_star.Statement.{statement}
-use Rattle.script.proofs.word.before_star.Tie as tie
+use lib.ListN.{length}
+use native.Mathlib.Omega.{arith}
+use Rattle.script.proofs.word.find.Statement.{statement}
+use Rattle.script.proofs.word.find.Tie as tie
+use Rattle.script.proofs.word.find.Reads as reads
+use Rattle.script.proofs.word.find.Lts as lts
 
 abbrev Inv-loop : tie.InvT-loop
-Inv-loop line w i₀ i = Unit {0}
+Inv-loop line from b i₀ i = Unit {0}
 
 abbrev μ-loop : tie.MeasureT-loop
-μ-loop line w i₀ i = w .end - i
+μ-loop line from b i₀ i = length line - i
 
 loop-holds : tie.Need-loop-holds Inv-loop μ-loop
 loop-holds c = search needs
 
-letter-requires : tie.Need-letter-requires Inv-loop μ-loop
-letter-requires c κs = search needs
+shared-slice-read-if1 : tie.Need-shared-slice-read-if1 Inv-loop μ-loop
+shared-slice-read-if1 c = search needs
 
 returns : tie.Need-returns Inv-loop μ-loop
 returns c = search needs
@@ -31,14 +35,14 @@ loop-again c = search needs
 returns-2 : tie.Need-returns-2 Inv-loop μ-loop
 returns-2 c = search needs
 
-pub before-star-spec : {M : Type 1} → statement M
-before-star-spec =
+pub find-spec : {M : Type 1} → statement M
+find-spec =
     tie.close
     (tie.spec
     Inv-loop
     μ-loop
     loop-holds
-    letter-requires
+    shared-slice-read-if1
     returns
     add-i
     loop-less

@@ -1,19 +1,26 @@
 -- Lent memory keeps its length; what is left to go through grows less.
 use borrow.Author.Needs.{needs}
-use lib.ListN.{length}
 use Prim.Native.Nat.{_-_}
+use lib.ListN.{length}
 use mathlib.Core.Path.{_≡_}
-use Rattle.page.proofs.blanks.Statement.{statement}
-use Rattle.page.proofs.blanks.Tie as tie
+use native.Mathlib.Omega.{arith}
+use Rattle.page.proofs.shown.Statement.{statement}
+use Rattle.page.proofs.shown.Tie as tie
+use Rattle.page.proofs.shown.Reads as reads
+use Rattle.page.proofs.shown.Lts as lts
+use Rattle.page.proofs.letter.Reads as letter-reads
 
 abbrev Inv-loop : tie.InvT-loop
-Inv-loop page₀ n k at₀ i₀ page at i = length page ≡ length page₀
+Inv-loop page₀ n s at₀ i₀ page at i = (length page ≡ length page₀)
 
 abbrev μ-loop : tie.MeasureT-loop
-μ-loop page₀ n k at₀ i₀ page at i = 8 - i
+μ-loop page₀ n s at₀ i₀ page at i = length s - i
 
 loop-holds : tie.Need-loop-holds Inv-loop μ-loop
 loop-holds c = search needs
+
+shared-slice-read-b : tie.Need-shared-slice-read-b Inv-loop μ-loop
+shared-slice-read-b c = search needs
 
 letter-requires : tie.Need-letter-requires Inv-loop μ-loop
 letter-requires c κs = search needs
@@ -33,13 +40,14 @@ same-length c = search needs
 returns : tie.Need-returns Inv-loop μ-loop
 returns c = search needs
 
-pub blanks-spec : {M : Type 1} → statement M
-blanks-spec =
+pub shown-spec : {M : Type 1} → statement M
+shown-spec =
     tie.close
     (tie.spec
     Inv-loop
     μ-loop
     loop-holds
+    shared-slice-read-b
     letter-requires
     add-i
     loop-less

@@ -1,0 +1,65 @@
+-- What is left to go through grows less.
+use borrow.Author.Needs.{needs}
+use Prim.Native.Nat.{_-_}
+use native.Mathlib.Omega.{arith}
+use Rattle.script.proofs.Statement.options.Statement.{statement}
+use Rattle.script.proofs.Statement.options.Tie as tie
+use Rattle.script.proofs.Statement.options.Reads as reads
+use Rattle.script.proofs.Statement.options.Lts as lts
+use Rattle.script.proofs.Statement.option.Reads as option-reads
+use Rattle.script.proofs.word.Word.is_none.Reads as is-none-reads
+use Rattle.script.proofs.word.next.Reads as next-reads
+
+abbrev Inv-loop : tie.InvT-loop
+Inv-loop form from k line pass bytes₀ s₀ i₀ bytes s i = Unit {0}
+
+abbrev μ-loop : tie.MeasureT-loop
+μ-loop form from k line pass bytes₀ s₀ i₀ bytes s i = 64 - i
+
+loop-holds : tie.Need-loop-holds Inv-loop μ-loop
+loop-holds c = search needs
+
+next-requires : tie.Need-next-requires Inv-loop μ-loop
+next-requires c κs = search needs
+
+is-none-requires : tie.Need-is-none-requires Inv-loop μ-loop
+is-none-requires c κs = search needs
+
+returns : tie.Need-returns Inv-loop μ-loop
+returns c = search needs
+
+option-requires : tie.Need-option-requires Inv-loop μ-loop
+option-requires c κs = search needs
+
+returns-2 : tie.Need-returns-2 Inv-loop μ-loop
+returns-2 c = search needs
+
+add-i : tie.Need-add-i Inv-loop μ-loop
+add-i c = search needs
+
+loop-less : tie.Need-loop-less Inv-loop μ-loop
+loop-less c = search needs
+
+loop-again : tie.Need-loop-again Inv-loop μ-loop
+loop-again c = search needs
+
+returns-3 : tie.Need-returns-3 Inv-loop μ-loop
+returns-3 c = search needs
+
+pub options-spec : {M : Type 1} → statement M
+options-spec =
+    tie.close
+    (tie.spec
+    Inv-loop
+    μ-loop
+    loop-holds
+    next-requires
+    is-none-requires
+    returns
+    option-requires
+    returns-2
+    add-i
+    loop-less
+    loop-again
+    returns-3)
+

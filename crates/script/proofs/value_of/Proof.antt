@@ -1,0 +1,78 @@
+-- What is left to go through grows less.
+use borrow.Author.Needs.{needs}
+use Prim.Native.Nat.{_-_}
+use native.Mathlib.Omega.{arith}
+use Rattle.script.proofs.value_of.Statement.{statement}
+use Rattle.script.proofs.value_of.Tie as tie
+use Rattle.script.proofs.value_of.Reads as reads
+use Rattle.script.proofs.value_of.Lts as lts
+use Rattle.script.proofs.is_name.Reads as is-name-reads
+use Rattle.script.proofs.number.Reads as number-reads
+use Rattle.script.proofs.word.find.Reads as find-reads
+use Rattle.script.proofs.word.is.Reads as is-reads
+use Rattle.script.proofs.word.part.Reads as part-reads
+
+abbrev Inv-loop : tie.InvT-loop
+Inv-loop kind w pass at₀ j₀ at j = Unit {0}
+
+abbrev μ-loop : tie.MeasureT-loop
+μ-loop kind w pass at₀ j₀ at j = 8 - j
+
+loop-holds : tie.Need-loop-holds Inv-loop μ-loop
+loop-holds c = search needs
+
+find-requires : tie.Need-find-requires Inv-loop μ-loop
+find-requires c κs = search needs
+
+part-requires : tie.Need-part-requires Inv-loop μ-loop
+part-requires c κs = search needs
+
+is-name-requires : tie.Need-is-name-requires Inv-loop μ-loop
+is-name-requires c κs = search needs
+
+is-requires : tie.Need-is-requires Inv-loop μ-loop
+is-requires c κs = search needs
+
+add-v : tie.Need-add-v Inv-loop μ-loop
+add-v c = search needs
+
+number-requires : tie.Need-number-requires Inv-loop μ-loop
+number-requires c κs = search needs
+
+returns : tie.Need-returns Inv-loop μ-loop
+returns c = search needs
+
+add-at : tie.Need-add-at Inv-loop μ-loop
+add-at c = search needs
+
+add-j : tie.Need-add-j Inv-loop μ-loop
+add-j c = search needs
+
+loop-less : tie.Need-loop-less Inv-loop μ-loop
+loop-less c = search needs
+
+loop-again : tie.Need-loop-again Inv-loop μ-loop
+loop-again c = search needs
+
+returns-2 : tie.Need-returns-2 Inv-loop μ-loop
+returns-2 c = search needs
+
+pub value-of-spec : {M : Type 1} → statement M
+value-of-spec =
+    tie.close
+    (tie.spec
+    Inv-loop
+    μ-loop
+    loop-holds
+    find-requires
+    part-requires
+    is-name-requires
+    is-requires
+    add-v
+    number-requires
+    returns
+    add-at
+    add-j
+    loop-less
+    loop-again
+    returns-2)
