@@ -1,152 +1,138 @@
-// The bus and what a run keeps beside it; its rounds.
+// The bus of a script with its stand-ins, and its rounds. The units' memory, the bytes of statements and answers, the response buffer and
+// what is noted of a run are lent: they stay where they are.
 pub mod calls;
+pub mod hand;
+pub mod look;
 
 use bus::Bus;
 use bus::Rounded;
-use bus::Station;
+use controller::Controller;
 use controller::Stepping;
-use desk::Desk;
-use desk::reading;
 use desk::tell;
 use frame::Stage;
-use ring::Ring;
-use script::Verb;
-use turn::Event;
+use line::Lines;
+use standin::StandIn;
 use unit::Unit;
 
+// One controller, its units and the stand-ins for units.
 pub struct Bench {
     pub bus: Bus,
-    pub desk: Desk,
+    pub others: [StandIn; 4],
 }
 
-impl Bench {
-    pub fn with_desk(self, d: Desk) -> Bench {
-        let mut b = self;
-        b.desk = d;
-        b
-    }
+// Where the answers of stand-ins begin among the bytes, behind those of a statement and those of the command that was submitted last.
+pub const ANSWERS: usize = 131072;
 
-    // The line of the script that ends at a place, and the desk past it.
-    pub fn line(self, text: &[u8], end: usize) -> &[u8] {
-        let d = self.desk;
-        reading::part(text, d.start, end)
-    }
+pub const SUBMITTED: usize = 65536;
 
-    pub fn past(self, end: usize) -> Bench {
-        let mut d = self.desk;
-        d.start = end % 16777216 + 1;
-        self.with_desk(d)
-    }
+// Where the strip and the bytes that were taken begin among the notes, behind what stand-ins have heard.
+pub const STRIP: usize = 4096;
 
-    // The unit at a place under 16, with its memory.
-    pub fn station(self, i: usize) -> Station {
-        let bus = self.bus;
-        bus.stations[i % 16]
-    }
+pub const TAKEN: usize = 4608;
 
-    // With a unit as its host's call has left it.
-    pub fn with_station(self, i: usize, s: Station, desk: Desk) -> Bench {
-        let mut bus = self.bus;
-        bus.stations[i % 16] = s;
-        Bench { bus, desk }
-    }
+// Where the entries of a ring that is looked at begin.
+pub const ENTRIES: usize = 4864;
 
-    // A round of every party, after what hosts do by themselves.
-    pub fn round(self, bytes: &[u8; 131072], response: &mut [u8; 65536]) -> Bench {
-        self.by_itself().all_step(bytes, response)
+// A round of every party, after what hosts do by themselves.
+pub fn round(
+    b: Bench,
+    d: &mut [u64; 280],
+    bytes: &[u8; 135168],
+    response: &mut [u8; 65536],
+    memory: &mut [u8; 12288],
+    notes: &mut [u8; 8192],
+) -> Bench {
+    let host = desk::due_host(d);
+    if host < 16 {
+        let raised = calls::raised(b, d, host);
+        tell::refusal(d, script::RAISE);
+        return stepped(raised, d, bytes, response, memory, notes);
     }
-
-    fn by_itself(self) -> Bench {
-        let d = self.desk;
-        let i = d.is_due();
-        if i < 16 {
-            return asked(calls::raised(self.with_desk(d.put_off(i)), i));
-        }
-        self
-    }
-
-    fn all_step(self, bytes: &[u8; 131072], response: &mut [u8; 65536]) -> Bench {
-        let d = self.desk;
-        let before = stage_of(self.bus);
-        let rounded = stepped(self.bus, d, bytes, response);
-        told(response, rounded, d, before)
-    }
-
-    // A request that was handed over is acknowledged at once, where the script says so.
-    fn handed(self, outcome: Stepping) -> Bench {
-        let d = self.desk;
-        let code = handed_code(outcome);
-        if d.acknowledges {
-            if 0 < code {
-                return calls::acknowledged(self, code);
-            }
-        }
-        self
-    }
-
-    // Whether no party has anything to do: no line is pulled, no frame or rest runs, nothing is submitted, no unit holds a request.
-    pub fn is_quiet(self) -> bool {
-        let d = self.desk;
-        if d.is_released() {
-            if is_free(stage_of(self.bus)) {
-                return requests(self.bus, d.count) == 0;
-            }
-        }
-        false
-    }
+    stepped(b, d, bytes, response, memory, notes)
 }
 
-// What a raise has come to.
-fn asked(b: Bench) -> Bench {
-    tell::call(b.desk, Verb::Raise, 0);
-    b
+fn stepped(
+    b: Bench,
+    d: &mut [u64; 280],
+    bytes: &[u8; 135168],
+    response: &mut [u8; 65536],
+    memory: &mut [u8; 12288],
+    notes: &mut [u8; 8192],
+) -> Bench {
+    let hosts = desk::busy_hosts(d);
+    let seen = levels(b, d);
+    let before = stage_of(b.bus);
+    let rounded = bus_round(b.bus, seen, hosts, d, bytes, response, memory);
+    let others = stand_ins(b.others, d[desk::STAND_INS], seen, notes, bytes);
+    d[desk::ROUND] = d[desk::ROUND] % desk::FOR_EVER + 1;
+    if 0 < d[desk::HOLD] {
+        d[desk::HOLD] = d[desk::HOLD] - 1;
+    }
+    let outcome = rounded.outcome;
+    let bus = concluded(rounded.bus, d, before, outcome, response);
+    let next = Bench { bus, others };
+    look::asking(bus, d);
+    if 0 < d[desk::DUMP] % 65536 + d[desk::PICTURED] % 2 {
+        look::pictured(next, d, notes);
+    }
+    next
 }
 
-pub fn stage_of(bus: Bus) -> Stage {
+// What the controller's step has come to is told. A request that is handed over is acknowledged at once, where the script says so.
+pub fn concluded(
+    bus: Bus,
+    d: &mut [u64; 280],
+    before: Stage,
+    outcome: Stepping,
+    response: &[u8],
+) -> Bus {
     let c = bus.controller;
-    c.stage
+    let after = c.stage;
+    let code = tell::stepped(d, before, after, c.ring, outcome, response);
+    if (0 < code) & (d[desk::ACKNOWLEDGES] == 1) {
+        return calls::acknowledged(bus, d, code);
+    }
+    bus
 }
 
-pub fn ring_of(bus: Bus) -> Ring {
-    let c = bus.controller;
-    c.ring
-}
-
-// How many units hold a request.
-fn requests(bus: Bus, count: usize) -> u32 {
-    let mut n = 0u32;
-    let mut i = 0;
-    while i < 16 {
-        if i < count {
-            let s = bus.stations[i];
-            if is_requesting(s.unit) {
-                n = n % 16 + 1;
-            }
+// The levels left by all pulls, those from outside among them.
+pub fn levels(b: Bench, d: &[u64; 280]) -> Lines {
+    let bus = b.bus;
+    let held = Lines {
+        bav: d[desk::HOLD_BAV] == 1,
+        hsk: d[desk::HOLD_HSK] == 1,
+        nibble: (d[desk::HOLD_NIBBLE] % 16) as u8,
+    };
+    let mut l = bus.levels();
+    let mut i = 0usize;
+    while i < 4 {
+        if (i as u64) < d[desk::STAND_INS] {
+            let s = b.others[i];
+            l = line::wired(l, s.pulls());
         }
         i += 1;
     }
-    n
-}
-
-fn is_requesting(u: Unit) -> bool {
-    let looks = host::look(u);
-    looks.requesting
-}
-
-fn is_free(stage: Stage) -> bool {
-    match stage {
-        Stage::Free => true,
-        _ => false,
+    if 0 < d[desk::HOLD] {
+        return line::wired(l, held);
     }
+    l
 }
 
-// A round of the bus, with what was lent for its command: bytes of the second half, and the front of the response buffer.
-fn stepped(bus: Bus, d: Desk, bytes: &[u8], response: &mut [u8]) -> Rounded {
-    let lent = d.lent;
-    let hosts = d.busy_hosts();
-    let data = reading::part(bytes, 65536, 65536 + d.length % 65536);
+// A round of the bus, with what was lent for its command.
+fn bus_round(
+    bus: Bus,
+    seen: Lines,
+    hosts: u32,
+    d: &[u64; 280],
+    bytes: &[u8],
+    response: &mut [u8],
+    memory: &mut [u8; 12288],
+) -> Rounded {
+    let lent = (d[desk::LENT] % 65536) as usize;
+    let end = SUBMITTED + (d[desk::LENGTH] % 65536) as usize;
+    let data = script::word::part(bytes, SUBMITTED, end);
     if lent <= response.len() {
-        return bus.round(hosts, data, &mut response[0..lent]);
+        return bus.round(seen, hosts, data, &mut response[0..lent], memory);
     }
     // No script lends more than there is.
     Rounded {
@@ -155,59 +141,99 @@ fn stepped(bus: Bus, d: Desk, bytes: &[u8], response: &mut [u8]) -> Rounded {
     }
 }
 
-// The bus after a round, with the round told and what is handed over dealt with.
-fn told(response: &[u8], rounded: Rounded, d: Desk, before: Stage) -> Bench {
-    let outcome = rounded.outcome;
-    let old = d.marks;
-    let bus = rounded.bus;
-    let desk = tell::all(
-        later(d, bus),
-        &old,
-        before,
-        stage_of(bus),
-        ring_of(bus),
-        outcome,
-        response,
-    );
-    let b = Bench { bus, desk };
-    b.handed(outcome)
-}
-
-// The desk in the next round.
-fn later(d: Desk, bus: Bus) -> Desk {
-    let mut next = d.later();
-    let marks = marks_of(bus, d.count);
-    next.marks = marks;
-    next
-}
-
-// The code that a step hands over; 0 for none.
-fn handed_code(outcome: Stepping) -> u8 {
-    match outcome {
-        Stepping::On(event) => code_of(event),
-        _ => 0,
-    }
-}
-
-fn code_of(event: Event) -> u8 {
-    match event {
-        Event::Handed(code) => code,
-        _ => 0,
-    }
-}
-
-// What each party and all together leave on the lines.
-fn marks_of(bus: Bus, count: usize) -> [u8; 18] {
-    let mut marks = [picture::RELEASED; 18];
-    let mut i = 0;
-    while i < 16 {
-        if i < count {
-            let s = bus.stations[i];
-            marks[i] = picture::mark(unit::pulls(s.unit));
+fn stand_ins(
+    others: [StandIn; 4],
+    count: u64,
+    seen: Lines,
+    notes: &mut [u8; 8192],
+    bytes: &[u8; 135168],
+) -> [StandIn; 4] {
+    let mut next = others;
+    let mut i = 0usize;
+    while i < 4 {
+        if (i as u64) < count {
+            let s = next[i];
+            next[i] = s.step(i, seen, notes, bytes);
         }
         i += 1;
     }
-    marks[16] = picture::mark(controller::pulls(bus.controller));
-    marks[17] = picture::mark(bus.levels());
-    marks
+    next
+}
+
+pub fn stage_of(bus: Bus) -> Stage {
+    let c = bus.controller;
+    c.stage
+}
+
+// The unit at a place under 16.
+pub fn unit_of(b: Bench, i: usize) -> Unit {
+    let bus = b.bus;
+    bus.units[i % 16]
+}
+
+pub fn with_unit(b: Bench, i: usize, u: Unit) -> Bench {
+    let mut bus = b.bus;
+    bus.units[i % 16] = u;
+    with_bus(b, bus)
+}
+
+pub fn with_controller(b: Bench, c: Controller) -> Bench {
+    let mut bus = b.bus;
+    bus.controller = c;
+    with_bus(b, bus)
+}
+
+pub fn with_bus(b: Bench, bus: Bus) -> Bench {
+    let mut next = b;
+    next.bus = bus;
+    next
+}
+
+// Whether the controller may start and nothing is submitted.
+pub fn is_free(bus: Bus) -> bool {
+    controller::is_idle(stage_of(bus))
+}
+
+// Whether no party has anything to do: no line is pulled, no frame or rest runs, nothing is submitted, no unit holds a request.
+pub fn is_quiet(b: Bench, d: &[u64; 280]) -> bool {
+    if is_free(b.bus) {
+        let l = levels(b, d);
+        let pulled = l.bav | l.hsk | (l.nibble != 15);
+        return !pulled & (requests(b.bus, d[desk::COUNT]) == 0);
+    }
+    false
+}
+
+// How many units hold a request.
+fn requests(bus: Bus, count: u64) -> u32 {
+    let mut n = 0u32;
+    let mut i = 0usize;
+    while i < 16 {
+        let u = bus.units[i];
+        let s = u.serial;
+        if s.requesting & ((i as u64) < count) {
+            n = n % 16 + 1;
+        }
+        i += 1;
+    }
+    n
+}
+
+// The 256 bytes of a unit's memory from a place on, and back.
+pub fn load(memory: &[u8; 12288], at: usize) -> [u8; 256] {
+    let mut part = [0u8; 256];
+    let mut i = 0usize;
+    while i < 256 {
+        part[i] = memory[at % 12033 + i];
+        i += 1;
+    }
+    part
+}
+
+pub fn store(memory: &mut [u8; 12288], at: usize, part: &[u8; 256]) {
+    let mut i = 0usize;
+    while i < 256 {
+        memory[at % 12033 + i] = part[i];
+        i += 1;
+    }
 }

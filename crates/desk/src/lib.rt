@@ -1,342 +1,274 @@
-// What a run of a script keeps beside the bus: the round, what the application and the hosts do by themselves, what came of the last
-// calls, and what is counted; and what is said of it.
+// What a run of a script keeps beside the bus, as numbers in lent memory, each with a name: the round, what application and hosts do by
+// themselves, what came of the last calls, and what is counted.
 pub mod judge;
-pub mod look;
-pub mod reading;
-pub mod show;
+pub mod plan;
 pub mod tell;
 
-use picture::RELEASED;
-use script::Topic;
+use script::OTHER;
 
-// No number of a statement is above this: no request yet, no status yet.
-pub const NONE: u32 = 256;
+// The rounds so far, and those of the last run.
+pub const ROUND: usize = 0;
 
-pub struct Desk {
-    pub round: u64,
-    // The codes of the units, in the order in which they were made.
-    pub codes: [u8; 16],
-    pub count: usize,
-    // For how many rounds more each host is busy; the controller's is the last.
-    pub busy: [u32; 17],
-    // Every how many rounds a host raises a request, 0 for never, and the round in which it is next.
-    pub every: [u32; 16],
-    pub due: [u64; 16],
-    // Whether a request is waited for, in how many service frames since it was raised, and how many units were ahead of it.
-    pub waiting: [bool; 16],
-    pub waited: [u32; 16],
-    pub ahead: [u32; 16],
-    // How many turns of the ring each unit had.
-    pub turns: [u32; 16],
-    // The marks of the round.
-    pub marks: [u8; 18],
-    // Whether requests are acknowledged as they are handed over.
-    pub acknowledges: bool,
-    // Whether a submitted command has not ended; the length of its data, and how much of the response buffer is lent.
-    pub submitted: bool,
-    pub length: usize,
-    pub lent: usize,
-    // The status of the last command that ended and how many data bytes it brought, the last request, the last refusal, and the bytes
-    // that were last taken, at the front, with how many there are.
-    pub status: u32,
-    pub received: usize,
-    pub request: u32,
-    pub refusal: u8,
-    pub bytes: [u8; 256],
-    pub taken: usize,
-    // The unit whose request the last call has raised, by its place; 16 for none.
-    pub news: usize,
-    // Expectations.
-    pub held: u32,
-    pub failed: u32,
-    // Where the present line of the script begins.
-    pub start: usize,
-    // The descriptor that the dump goes to, 0 for none; whether frames are pictured; the strip, and how many columns stand on it.
-    pub dump: u8,
-    pub pictured: bool,
-    pub strip: [u8; 384],
-    pub columns: usize,
+pub const RAN: usize = 1;
+
+// How many units and stand-ins there are, and whether a round has been run.
+pub const COUNT: usize = 2;
+
+pub const STAND_INS: usize = 3;
+
+pub const BEGUN: usize = 4;
+
+// 1 where requests are acknowledged as they are handed over.
+pub const ACKNOWLEDGES: usize = 5;
+
+// 1 while a submitted command has not ended; the length of its data, and how much of the response buffer is lent.
+pub const SUBMITTED: usize = 6;
+
+pub const LENGTH: usize = 7;
+
+pub const LENT: usize = 8;
+
+// The status of the last command that ended and how many data bytes it brought, the last request and how many there were, the last
+// refusal. OTHER where there is none; 0 for no refusal.
+pub const STATUS: usize = 9;
+
+pub const RECEIVED: usize = 10;
+
+pub const REQUEST: usize = 11;
+
+pub const REQUESTS: usize = 12;
+
+pub const REFUSAL: usize = 13;
+
+// How many bytes were last taken.
+pub const TAKEN: usize = 14;
+
+// Expectations that held, and failures.
+pub const HELD: usize = 15;
+
+pub const FAILED: usize = 16;
+
+// The present line: where it begins, where the next one begins, its number.
+pub const START: usize = 17;
+
+pub const NEXT: usize = 18;
+
+pub const LINE: usize = 19;
+
+// The repeat that is under way: where its first line begins, 0 for none, and that line's number; how many passes follow the present one,
+// and the number of that one.
+pub const LOOP: usize = 20;
+
+pub const LOOP_LINE: usize = 21;
+
+pub const PASSES: usize = 22;
+
+pub const PASS: usize = 23;
+
+// What the next statement must expect: a refusal's number, or UNREACHED; 0 for nothing. The line that it came of.
+pub const PENDING: usize = 24;
+
+pub const PENDING_LINE: usize = 25;
+
+pub const PENDING_START: usize = 26;
+
+// Lines that are held low from outside, and for how many rounds more.
+pub const HOLD: usize = 27;
+
+pub const HOLD_BAV: usize = 28;
+
+pub const HOLD_HSK: usize = 29;
+
+pub const HOLD_NIBBLE: usize = 30;
+
+// The descriptor that is written to, 0 for none; that of the dump, 0 for none, and 1 if it could not be written.
+pub const OUT: usize = 31;
+
+pub const DUMP: usize = 32;
+
+pub const DUMP_LOST: usize = 33;
+
+// 1 while frames are pictured, and how many columns stand on the strip.
+pub const PICTURED: usize = 34;
+
+pub const COLUMNS: usize = 35;
+
+// How many letters of failures are kept.
+pub const LOGGED: usize = 36;
+
+// How many hosts are ever busy, and raise requests by themselves.
+pub const BUSY_HOSTS: usize = 37;
+
+pub const RAISING_HOSTS: usize = 38;
+
+// Lines that cannot be played.
+pub const FAULTS: usize = 39;
+
+// 1 where the last run came to the end that it was to come to.
+pub const REACHED: usize = 40;
+
+// Sixteen words each, by the place of a unit: its code; every how many rounds its host raises a request, 0 for never, and the round in
+// which that is next; whether a request is waited for, in how many service frames since it was raised, how many units were ahead of it;
+// how many turns of the ring it had.
+pub const CODES: usize = 48;
+
+pub const EVERY: usize = 64;
+
+pub const DUE: usize = 80;
+
+pub const WAITING: usize = 96;
+
+pub const WAITED: usize = 112;
+
+pub const AHEAD: usize = 128;
+
+pub const TURNS: usize = 144;
+
+// The codes of stand-ins, 0 for one of every code.
+pub const STAND_IN_CODES: usize = 160;
+
+// Seventeen words each, the controller's last: for how many rounds more a host is busy; of how many rounds it is free in the last, 0 for
+// every round, and in how many it was busy since. A host that is never free is busy for ever.
+pub const BUSY: usize = 168;
+
+pub const FREE: usize = 192;
+
+pub const SINCE: usize = 216;
+
+// Twenty-two words: the marks of the last round, less than those of released lines by so much.
+pub const MARKS: usize = 240;
+
+// Sixteen words: 1 for a unit that pulls BAV for a request.
+pub const ASKING: usize = 264;
+
+// How many words there are.
+pub const SIZE: usize = 280;
+
+// Not a refusal: a run did not come to the end that it was to come to.
+pub const UNREACHED: u64 = 99;
+
+// A host that is busy for so many rounds is busy for ever.
+pub const FOR_EVER: u64 = 1000000000000;
+
+// The numbers before the first statement.
+pub fn start(d: &mut [u64; 280], out: u64, dump: u64, pictured: u64) {
+    d[STATUS] = OTHER as u64;
+    d[REQUEST] = OTHER as u64;
+    d[LENT] = 65535;
+    d[LINE] = 1;
+    d[PASS] = script::word::NONE as u64;
+    d[OUT] = out;
+    d[DUMP] = dump;
+    d[PICTURED] = pictured;
 }
 
-impl Desk {
-    pub fn new(dump: u8, pictured: bool) -> Desk {
-        Desk {
-            round: 0,
-            codes: [0; 16],
-            count: 0,
-            busy: [0; 17],
-            every: [0; 16],
-            due: [0; 16],
-            waiting: [false; 16],
-            waited: [0; 16],
-            ahead: [0; 16],
-            turns: [0; 16],
-            marks: [RELEASED; 18],
-            acknowledges: false,
-            submitted: false,
-            length: 0,
-            lent: 65535,
-            status: NONE,
-            received: 0,
-            request: NONE,
-            refusal: 0,
-            bytes: [0; 256],
-            taken: 0,
-            news: 16,
-            held: 0,
-            failed: 0,
-            start: 0,
-            dump,
-            pictured,
-            strip: [b' '; 384],
-            columns: 0,
-        }
-    }
+// The descriptor that is written to.
+pub fn out(d: &[u64; 280]) -> i32 {
+    (d[OUT] % 65536) as i32
+}
 
-    // Where the unit with a code stands; 16 where there is none.
-    pub fn find(self, code: u8) -> usize {
-        let codes = self.codes;
-        let mut i = 0;
-        while i < 16 {
-            if i < self.count {
-                if codes[i] == code {
-                    return i;
-                }
+// Where the unit with a code stands; 16 where there is none.
+pub fn find(d: &[u64; 280], code: u32) -> usize {
+    let mut i = 0;
+    while i < 16 {
+        if (i as u64) < d[COUNT] {
+            if d[CODES + i] == code as u64 {
+                return i;
             }
-            i += 1;
         }
-        16
+        i += 1;
     }
+    16
+}
 
-    // With the unit that was made last.
-    pub fn with_unit(self, code: u8) -> Desk {
-        let mut d = self;
-        let n = self.count;
-        if n < 16 {
-            d.codes[n] = code;
-            d.count = n + 1;
-        }
-        d
-    }
-
-    // With what a host, and the application, are said to do from now on. Code 0 is the controller's.
-    pub fn with_acknowledging(self, each: bool) -> Desk {
-        let mut d = self.refused(0);
-        d.acknowledges = each;
-        d
-    }
-
-    pub fn with_busy(self, code: u8, rounds: u32) -> Desk {
-        let mut d = self;
-        let i = self.find(code);
-        if code == 0 {
-            d.busy[16] = rounds;
-        } else if i < 16 {
-            d.busy[i] = rounds;
-        }
-        d
-    }
-
-    pub fn with_every(self, code: u8, rounds: u32) -> Desk {
-        let mut d = self.refused(0);
-        let i = self.find(code);
-        if i < 16 {
-            d.every[i] = rounds;
-            d.due[i] = self.round;
-        }
-        d
-    }
-
-    // With the lengths of what was lent for a command that was accepted.
-    pub fn with_command(self, length: usize, lent: usize) -> Desk {
-        let mut d = self.refused(0);
-        d.submitted = true;
-        d.length = length;
-        d.lent = lent;
-        d
-    }
-
-    // The busy hosts, a bit for each.
-    pub fn busy_hosts(self) -> u32 {
-        let busy = self.busy;
-        let mut hosts = 0u32;
-        let mut i = 0;
-        while i < 17 {
-            hosts = hosts % 65536 * 2 + bit(busy[16 - i]) % 2;
-            i += 1;
-        }
-        hosts
-    }
-
-    // In the next round, with each host busy for one less.
-    pub fn later(self) -> Desk {
-        let mut d = self;
-        let busy = self.busy;
-        d.round = self.round % 1000000000000 + 1;
-        let mut i = 0;
-        while i < 17 {
-            if 0 < busy[i] {
-                d.busy[i] = busy[i] - 1;
+// Where the stand-in with a code stands, OTHER being every code; 4 where there is none.
+pub fn find_stand_in(d: &[u64; 280], code: u32) -> usize {
+    let own = if code == OTHER { 0 } else { code };
+    let mut i = 0;
+    while i < 4 {
+        if (i as u64) < d[STAND_INS] {
+            if d[STAND_IN_CODES + i] == own as u64 {
+                return i;
             }
-            i += 1;
         }
-        d
+        i += 1;
     }
+    4
+}
 
-    // A host that is to raise a request by itself in this round; 16 for none.
-    pub fn is_due(self) -> usize {
-        let every = self.every;
-        let due = self.due;
-        let mut i = 0;
-        while i < 16 {
-            if 0 < every[i] {
-                if due[i] <= self.round {
-                    return i;
-                }
-            }
-            i += 1;
-        }
-        16
+// The place of a party's host: that of a unit, 16 for the controller.
+pub fn host(d: &[u64; 280], code: u32) -> usize {
+    if code == OTHER {
+        return 16;
     }
+    find(d, code)
+}
 
-    // With the next time at which it is.
-    pub fn put_off(self, i: usize) -> Desk {
-        let mut d = self;
-        if i < 16 {
-            d.due[i] = self.round % 1000000000000 + wide(d.every[i]) % 1000000000;
-        }
-        d
+// A call was refused with a number, which the next statement must expect; 0 for one that was not.
+pub fn refused(d: &mut [u64; 280], number: u8) {
+    d[REFUSAL] = number as u64;
+    if 0 < number {
+        awaited(d, number as u64);
     }
+}
 
-    // A request is waited for from now on, with so many units ahead of it.
-    pub fn raised(self, i: usize, ahead: u32) -> Desk {
-        let mut d = self;
-        if i < 16 {
-            d.waiting[i] = true;
-            d.waited[i] = 0;
-            d.ahead[i] = ahead;
-            d.news = i;
-        }
-        d
+// The next statement must expect this.
+pub fn awaited(d: &mut [u64; 280], what: u64) {
+    d[PENDING] = what;
+    d[PENDING_LINE] = d[LINE];
+    d[PENDING_START] = d[START];
+}
+
+// The hosts that are busy in the next round, a bit for each; then each is busy for one round less.
+pub fn busy_hosts(d: &mut [u64; 280]) -> u32 {
+    if d[BUSY_HOSTS] == 0 {
+        return 0;
     }
-
-    // A service frame begins: the turn of the unit at a place.
-    pub fn turn(self, at: usize) -> Desk {
-        let mut d = self;
-        let waiting = self.waiting;
-        let waited = self.waited;
-        let mut i = 0;
-        while i < 16 {
-            if waiting[i] {
-                d.waited[i] = waited[i] % 1000000000 + 1;
-            }
-            i += 1;
-        }
-        if at < 16 {
-            d.turns[at] = self.turns[at] % 1000000000 + 1;
-        }
-        d
-    }
-
-    // A request was handed over.
-    pub fn handed(self, at: usize, code: u8) -> Desk {
-        let mut d = self;
-        d.request = code as u32;
-        if at < 16 {
-            d.waiting[at] = false;
-        }
-        d
-    }
-
-    // A command has ended.
-    pub fn ended(self, status: u8, n: u16) -> Desk {
-        let mut d = self;
-        d.submitted = false;
-        d.status = status as u32;
-        d.received = n as usize;
-        d
-    }
-
-    // A call was refused with a number; 0 for one that was not.
-    pub fn refused(self, number: u8) -> Desk {
-        let mut d = self;
-        d.refusal = number;
-        d.news = 16;
-        d
-    }
-
-    // With one more byte taken.
-    pub fn took(self, byte: u8) -> Desk {
-        let mut d = self;
-        let n = self.taken;
-        if n < 256 {
-            d.bytes[n] = byte;
-            d.taken = n + 1;
-        }
-        d
-    }
-
-    // An expectation has held or failed.
-    pub fn judged(self, holds: bool) -> Desk {
-        let mut d = self;
-        if holds {
-            d.held = self.held % 1000000000 + 1;
+    let mut hosts = 0u32;
+    let mut i = 17usize;
+    while 0 < i {
+        i -= 1;
+        let k = i % 17;
+        let free = d[FREE + k];
+        let since = d[SINCE + k] % 1000000000 + 1;
+        let busy = d[BUSY + k];
+        let is_busy = (0 < busy) | ((0 < free) & (since < free));
+        hosts = hosts % 65536 * 2 + if is_busy { 1 } else { 0 };
+        d[SINCE + k] = if since < free { since } else { 0 };
+        d[BUSY + k] = if (0 < busy) & (busy < FOR_EVER) {
+            busy - 1
         } else {
-            d.failed = self.failed % 1000000000 + 1;
-        }
-        d
+            busy
+        };
     }
-
-    // With frames pictured, or no longer.
-    pub fn with_picture(self) -> Desk {
-        let mut d = self;
-        d.pictured = if self.pictured { false } else { true };
-        d
-    }
-
-    // With the strip shown when it is full, and in the first round with no line low.
-    pub fn shown(self) -> Desk {
-        let least = self.least();
-        if least == 0 {
-            return self;
-        }
-        look::strip(self, least);
-        let mut d = self;
-        d.columns = 0;
-        d
-    }
-
-    // How many columns are shown now at the least; 0 where the strip is not full yet.
-    fn least(self) -> usize {
-        if self.is_released() {
-            return 2;
-        }
-        if picture::strip::WIDTH <= self.columns {
-            return 1;
-        }
-        0
-    }
-
-    // Whether a run that is until this topic has come to its end; one of so many rounds never does.
-    pub fn is_over(self, topic: Topic, quiet: bool) -> bool {
-        match topic {
-            Topic::Ended => if self.submitted { false } else { true },
-            Topic::Quiet => quiet,
-            _ => false,
-        }
-    }
-
-    // Whether no line is pulled.
-    pub fn is_released(self) -> bool {
-        let marks = self.marks;
-        marks[17] == RELEASED
-    }
+    hosts
 }
 
-fn bit(rounds: u32) -> u32 {
-    if rounds == 0 { 0 } else { 1 }
+// The place of a host that is to raise a request by itself in this round, 16 for none. It is next due so many rounds later.
+pub fn due_host(d: &mut [u64; 280]) -> usize {
+    if d[RAISING_HOSTS] == 0 {
+        return 16;
+    }
+    let mut i = 0usize;
+    while i < 16 {
+        let every = d[EVERY + i];
+        if (0 < every) & (d[DUE + i] <= d[ROUND]) {
+            d[DUE + i] = d[ROUND] % FOR_EVER + every % 1000000000;
+            return i;
+        }
+        i += 1;
+    }
+    16
 }
 
-fn wide(n: u32) -> u64 {
-    n as u64
+// A service frame begins: the turn of the unit at a place.
+pub fn turned(d: &mut [u64; 280], at: usize) {
+    let mut i = 0usize;
+    while i < 16 {
+        d[WAITED + i] = d[WAITED + i] % 1000000000 + d[WAITING + i] % 2;
+        i += 1;
+    }
+    if at < 16 {
+        d[TURNS + at] = d[TURNS + at] % 1000000000 + 1;
+    }
 }

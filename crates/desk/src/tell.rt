@@ -1,195 +1,193 @@
-// The events of a round in words.
-use crate::Desk;
-use crate::look;
+// The events of a round in words, and what a call has come to.
+use crate::AHEAD;
+use crate::CODES;
+use crate::RECEIVED;
+use crate::REFUSAL;
+use crate::REQUEST;
+use crate::REQUESTS;
+use crate::ROUND;
+use crate::STATUS;
+use crate::SUBMITTED;
+use crate::TURNS;
+use crate::WAITED;
+use crate::WAITING;
 use controller::Stepping;
 use frame::Frame;
 use frame::Kind;
 use frame::Stage;
 use ring::Ring;
-use script::Topic;
-use script::Verb;
 use turn::Event;
 
-// All that a round says and shows; `old` are the marks before it.
-pub fn all(
-    desk: Desk,
-    old: &[u8; 18],
+// What a step of the controller has come to: the stage before and after it, the ring after it, and the response buffer. The code that
+// was handed over, 0 for none.
+pub fn stepped(
+    d: &mut [u64; 280],
     before: Stage,
     after: Stage,
     ring: Ring,
     outcome: Stepping,
     response: &[u8],
-) -> Desk {
-    asked(desk, old);
-    let d = round(desk, before, after, ring, outcome, response);
-    look::pictured(d, old)
-}
-
-// What a round has begun and ended: the stage before and after it, the ring after it, what the controller says, the response buffer.
-fn round(
-    desk: Desk,
-    before: Stage,
-    after: Stage,
-    ring: Ring,
-    outcome: Stepping,
-    response: &[u8],
-) -> Desk {
-    ended(desk.round, before, after);
-    let d = happened(desk, outcome, response);
-    begun(d, before, after, ring)
-}
-
-// A frame has begun where the controller sends and did not before.
-fn begun(d: Desk, before: Stage, after: Stage, ring: Ring) -> Desk {
+) -> u8 {
     match before {
         Stage::Free => service(d, after, ring),
-        Stage::Waiting(f) => {
-            submitted(d.round, f);
-            d
-        }
-        Stage::Resting(_) => d,
-        Stage::Sending(_, _, _, _) => d,
-        Stage::Listening(_, _, _, _) => d,
-    }
-}
-
-// The application's frame.
-fn submitted(round: u64, f: Frame) {
-    let k = f.command;
-    page::tell(
-        b"@frame of the application: & to #",
-        round,
-        k.command as u64,
-        k.device as u64,
-        0,
-    );
-    sizes(k.buffer_length, f.data_length);
-}
-
-fn sizes(buffer: u16, length: u16) {
-    page::tell(
-        b", buffer #, data bytes #\n",
-        buffer as u64,
-        length as u64,
-        0,
-        0,
-    );
-}
-
-// A service frame: the entry whose turn it is has moved to the back.
-fn service(d: Desk, after: Stage, ring: Ring) -> Desk {
-    match after {
-        Stage::Sending(f, _, _, _) => turn_of(d, f, last_of(ring)),
-        _ => d,
-    }
-}
-
-fn last_of(ring: Ring) -> u8 {
-    let n = ring.len();
-    if 0 < n {
-        let e = ring.entry(n - 1);
-        return e.code;
-    }
-    0
-}
-
-fn turn_of(desk: Desk, f: Frame, code: u8) -> Desk {
-    let i = desk.find(code);
-    let d = desk.turn(i);
-    let turns = d.turns;
-    let kind = f.kind;
-    how(d.round, turns[i % 16], code, kind);
-    d
-}
-
-fn how(round: u64, turns: u32, code: u8, kind: Kind) {
-    page::tell(b"@turn # of #: ", round, turns as u64, code as u64, 0);
-    match kind {
-        Kind::Null => page::say(b"null message FE, for its last request is not acknowledged\n"),
-        _ => page::say(b"it is polled, 0A\n"),
-    }
-}
-
-// A service frame has ended where the controller listened and now rests.
-fn ended(round: u64, before: Stage, after: Stage) {
-    match after {
-        Stage::Resting(first) => if first {
-            ended_with(round, before);
-        },
+        Stage::Waiting(f) => submitted(crate::out(d), d[ROUND], f),
+        Stage::Listening(f, _, r, _) => ended(crate::out(d), d[ROUND], after, f, r.status()),
         _ => {}
     }
-}
-
-fn ended_with(round: u64, before: Stage) {
-    match before {
-        Stage::Listening(f, _, response, _) => service_ended(round, f, response.status()),
-        _ => {}
-    }
-}
-
-fn service_ended(round: u64, f: Frame, status: u8) {
-    let kind = f.kind;
-    let k = f.command;
-    let code = k.device;
-    match kind {
-        Kind::Submitted => {}
-        Kind::Poll => page::tell(
-            b"@the poll of # ended: $\n",
-            round,
-            code as u64,
-            status as u64,
-            0,
-        ),
-        Kind::Null => page::tell(b"@the null message ended: $\n", round, status as u64, 0, 0),
-    }
-}
-
-// What the application is told.
-fn happened(d: Desk, outcome: Stepping, response: &[u8]) -> Desk {
     match outcome {
-        Stepping::On(event) => event_of(d, event, response),
+        Stepping::On(event) => happened(d, event, response),
         Stepping::Level => refused(d, 5),
         Stepping::Data => refused(d, 10),
         Stepping::Buffer => refused(d, 11),
     }
 }
 
-fn event_of(d: Desk, event: Event, response: &[u8]) -> Desk {
+fn happened(d: &mut [u64; 280], event: Event, response: &[u8]) -> u8 {
     match event {
-        Event::Nothing => d,
+        Event::Nothing => 0,
         Event::Ended(status, n) => {
-            command_ended(d.round, status, n, response);
-            d.ended(status, n)
+            d[SUBMITTED] = 0;
+            d[STATUS] = status as u64;
+            d[RECEIVED] = n as u64;
+            let out = crate::out(d);
+            page::tell(
+                out,
+                b"@ended: $, data bytes #\n",
+                d[ROUND],
+                status as u64,
+                n as u64,
+                0,
+            );
+            if 0 < n {
+                received(out, front(response, n as usize));
+            }
+            0
         }
         Event::Handed(code) => handed(d, code),
     }
 }
 
-fn command_ended(round: u64, status: u8, n: u16, response: &[u8]) {
-    page::tell(
-        b"@ended: $, data bytes #\n",
-        round,
-        status as u64,
-        n as u64,
-        0,
-    );
-    data_if_any(front(response, n as usize));
+fn refused(d: &mut [u64; 280], number: u8) -> u8 {
+    crate::refused(d, number);
+    refusal(d, script::RUN);
+    0
 }
 
-fn data_if_any(s: &[u8]) {
-    if 0 < s.len() {
-        data(s);
+// The application's frame begins.
+fn submitted(out: i32, round: u64, f: Frame) {
+    let k = f.command;
+    page::tell(
+        out,
+        b"@frame of the application: & to #",
+        round,
+        k.command as u64,
+        k.device as u64,
+        0,
+    );
+    page::tell(
+        out,
+        b", buffer #, data bytes #\n",
+        k.buffer_length as u64,
+        f.data_length as u64,
+        0,
+        0,
+    );
+}
+
+// A service frame begins: the entry whose turn it is has moved to the back.
+fn service(d: &mut [u64; 280], after: Stage, ring: Ring) {
+    let Stage::Sending(f, _, _, _) = after else {
+        return;
+    };
+    let n = ring.len();
+    let e = ring.entry(if 0 < n { n - 1 } else { 0 });
+    let code = e.code;
+    let at = crate::find(d, code as u32);
+    crate::turned(d, at);
+    let out = crate::out(d);
+    page::tell(
+        out,
+        b"@turn # of #: ",
+        d[ROUND],
+        d[TURNS + at % 16],
+        code as u64,
+        0,
+    );
+    let kind = f.kind;
+    match kind {
+        Kind::Null => page::say(
+            out,
+            b"null message FE, for its last request is not acknowledged\n",
+        ),
+        _ => page::say(out, b"it is polled, 0A\n"),
     }
+}
+
+// A service frame has ended where the controller listened and now rests.
+fn ended(out: i32, round: u64, after: Stage, f: Frame, status: u8) {
+    let Stage::Resting(_) = after else {
+        return;
+    };
+    let k = f.command;
+    let kind = f.kind;
+    match kind {
+        Kind::Submitted => {}
+        Kind::Poll => page::tell(
+            out,
+            b"@the poll of # ended: $\n",
+            round,
+            k.device as u64,
+            status as u64,
+            0,
+        ),
+        Kind::Null => page::tell(
+            out,
+            b"@the null message ended: $\n",
+            round,
+            status as u64,
+            0,
+            0,
+        ),
+    }
+}
+
+// A request is handed over.
+fn handed(d: &mut [u64; 280], code: u8) -> u8 {
+    let at = crate::find(d, code as u32) % 16;
+    d[REQUEST] = code as u64;
+    d[REQUESTS] = d[REQUESTS] % 1000000000 + 1;
+    d[WAITING + at] = 0;
+    let out = crate::out(d);
+    page::tell(
+        out,
+        b"@the request of # is handed over: service frame # since it was raised, units ahead of it then #\n",
+        d[ROUND],
+        code as u64,
+        d[WAITED + at],
+        d[AHEAD + at],
+    );
+    code
 }
 
 // Received bytes, the first of them.
-pub fn data(s: &[u8]) {
-    page::say(b"          data");
-    page::bytes(front(s, 64));
+pub fn received(out: i32, s: &[u8]) {
+    page::say(out, b"          data");
+    page::bytes(out, front(s, 64));
     if 64 < s.len() {
-        page::say(b" ..");
+        page::say(out, b" ..");
     }
-    page::say(b"\n");
+    page::say(out, b"\n");
+}
+
+// The bytes that a unit gives its host.
+pub fn given(d: &[u64; 280], code: u32, s: &[u8]) {
+    let out = crate::out(d);
+    page::tell(out, b"@# gives its host", d[ROUND], code as u64, 0, 0);
+    if s.len() == 0 {
+        page::say(out, b" nothing");
+    }
+    page::bytes(out, s);
+    page::say(out, b"\n");
 }
 
 pub fn front(s: &[u8], n: usize) -> &[u8] {
@@ -199,156 +197,75 @@ pub fn front(s: &[u8], n: usize) -> &[u8] {
     s
 }
 
-fn handed(d: Desk, code: u8) -> Desk {
-    let i = d.find(code);
-    let waited = d.waited;
-    let ahead = d.ahead;
-    handed_over(d.round, code, waited[i % 16], ahead[i % 16]);
-    d.handed(i, code)
-}
-
-fn handed_over(round: u64, code: u8, waited: u32, ahead: u32) {
-    page::tell(
-        b"@the request of # is handed over: service frame # since it was raised, units ahead of it then #\n",
-        round,
-        code as u64,
-        waited as u64,
-        ahead as u64,
-    );
-}
-
-// Units that begin to pull BAV for a request.
-fn asked(d: Desk, before: &[u8; 18]) {
-    let codes = d.codes;
-    let after = d.marks;
-    let mut i = 0;
-    while i < 16 {
-        asks(d.round, codes[i], before[i], after[i]);
-        i += 1;
+// A unit begins to pull BAV, or holds a request.
+pub fn asks(d: &[u64; 280], place: usize, pulls: bool) {
+    let out = crate::out(d);
+    let code = d[CODES + place % 16];
+    if pulls {
+        page::tell(out, b"@# pulls BAV for its request\n", d[ROUND], code, 0, 0);
+    } else {
+        page::tell(out, b"@# holds a request\n", d[ROUND], code, 0, 0);
     }
 }
 
-fn asks(round: u64, code: u8, before: u8, after: u8) {
-    if picture::bav(after) < picture::bav(before) {
-        page::tell(b"@# pulls BAV for its request\n", round, code as u64, 0, 0);
-    }
-}
-
-// How many entries stand before a code.
-pub fn place_of(ring: Ring, code: u8) -> u32 {
-    let mut n = 0u32;
-    let mut i = 0;
-    while i < 16 {
-        let e = ring.entry(i);
-        if e.code == code {
-            return n;
-        }
-        n = n % 16 + 1;
-        i += 1;
-    }
-    n
-}
-
-// What a host has taken.
-fn taken_by(d: Desk, code: u8) {
-    page::tell(b"@# gives its host", d.round, code as u64, 0, 0);
-    let bytes = d.bytes;
-    given(&bytes, d.taken);
-}
-
-fn given(bytes: &[u8], n: usize) {
-    if n == 0 {
-        page::say(b" nothing");
-    }
-    page::bytes(front(bytes, n));
-    page::say(b"\n");
-}
-
-// A statement as it was written.
-pub fn echo(line: &[u8]) {
-    page::say(b"> ");
-    page::say(front(line, 100));
-    page::say(b"\n");
-}
-
-// A step of the controller that was refused.
-fn refused(d: Desk, number: u8) -> Desk {
-    refusal(d.round, Verb::Run, number);
-    d.refused(number)
-}
-
-// What came of a call.
-pub fn call(d: Desk, verb: Verb, code: u8) {
-    match verb {
-        Verb::Blank => {}
-        Verb::Say => {}
-        Verb::Busy => {}
-        Verb::Take => taken_by(d, code),
-        _ => answer(d, verb),
-    }
-}
-
-fn answer(d: Desk, verb: Verb) {
-    if 0 < d.refusal {
-        refusal(d.round, verb, d.refusal);
+// The last refusal's number and its meaning for the call of a form.
+pub fn refusal(d: &[u64; 280], form: u32) {
+    let out = crate::out(d);
+    let number = d[REFUSAL];
+    if number == 0 {
         return;
     }
-    if d.news < 16 {
-        let codes = d.codes;
-        request(d.round, codes[d.news % 16]);
+    page::tell(out, b"@refusal #: ", d[ROUND], number, 0, 0);
+    match form {
+        script::CONTROLLER => page::say(out, b"the time-out is 8 to 65,535\n"),
+        script::UNIT => page::say(
+            out,
+            b"the own code is 1 to 255, the retry count 4 to 65,535\n",
+        ),
+        script::RAISE => page::say(out, b"not enabled\n"),
+        script::STEP => lent(out, number),
+        script::RUN => lent(out, number),
+        _ => meaning(out, number),
     }
 }
 
-fn request(round: u64, code: u8) {
-    page::tell(b"@# holds a request\n", round, code as u64, 0, 0);
-}
-
-// A refusal's number and its meaning for the call that met it.
-fn refusal(round: u64, verb: Verb, number: u8) {
-    page::tell(b"@refusal #: ", round, number as u64, 0, 0);
-    match verb {
-        Verb::Controller => page::say(b"the time-out is 8 to 65,535\n"),
-        Verb::Unit => page::say(b"the own code is 1 to 255, the retry count 4 to 65,535\n"),
-        Verb::Raise => page::say(b"not enabled\n"),
-        Verb::Feed => fed(number),
-        Verb::Acknowledge => page::say(b"the code is not in the ring or not marked\n"),
-        _ => submitted_wrong(number),
-    }
-}
-
-fn fed(number: u8) {
+fn lent(out: i32, number: u64) {
     match number {
-        6 => page::say(b"the input queue is full\n"),
-        _ => page::say(b"not open for input or update\n"),
+        5 => page::say(out, b"a nibble level over 15\n"),
+        10 => page::say(out, b"data of another length than submitted\n"),
+        _ => page::say(out, b"the lent buffer is too short\n"),
     }
 }
 
-fn submitted_wrong(number: u8) {
+fn meaning(out: i32, number: u64) {
     match number {
-        1 => page::say(b"a command is submitted, or a frame or its rest runs\n"),
-        2 => page::say(b"data over 65,535 bytes\n"),
-        3 => page::say(b"0A is not submitted; polls are the ring's\n"),
-        4 => page::say(b"the ring is full\n"),
-        5 => page::say(b"a nibble level over 15\n"),
-        10 => page::say(b"data of another length than submitted\n"),
-        _ => page::say(b"the response buffer is under the buffer length\n"),
+        1 => page::say(
+            out,
+            b"a command is submitted, or a frame or its rest runs\n",
+        ),
+        2 => page::say(out, b"data over 65,535 bytes\n"),
+        3 => page::say(out, b"0A is not submitted; polls are the ring's\n"),
+        4 => page::say(out, b"the ring is full\n"),
+        6 => page::say(out, b"the input queue is full\n"),
+        7 => page::say(out, b"not open for input or update\n"),
+        8 => page::say(out, b"the code is not in the ring or not marked\n"),
+        _ => page::say(out, b"the response buffer is under the buffer length\n"),
     }
 }
 
-// How long a run was, and whether it came to its end.
-pub fn ran(round: u64, topic: Topic, over: bool, rounds: u32) {
-    page::tell(b"@# rounds", round, rounds as u64, 0, 0);
-    if over {
-        page::say(b"\n");
-    } else {
-        not_over(topic);
+// The ring in order, the front first, marked entries with a star.
+pub fn ring(out: i32, r: Ring) {
+    let mut i = 0;
+    while i < 16 {
+        if i < r.len() {
+            let e = r.entry(i);
+            let code = e.code;
+            page::tell(out, b" #", code as u64, 0, 0, 0);
+            if e.marked {
+                page::say(out, b"*");
+            }
+        }
+        i += 1;
     }
-}
-
-fn not_over(topic: Topic) {
-    match topic {
-        Topic::Ended => page::say(b", and the command has not ended\n"),
-        Topic::Quiet => page::say(b", and the bus is not quiet\n"),
-        _ => page::say(b"\n"),
-    }
+    page::say(out, b"\n");
 }

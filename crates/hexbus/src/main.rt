@@ -1,228 +1,304 @@
-// Runs a bus on a desk: a controller and up to sixteen units, played by a script (docs/SCRIPTS.md).
-mod help;
+// Runs a bus on a desk: a controller and up to sixteen units, played by a script (docs/SCRIPTS.md). A program has no exit status: at its
+// very end it writes `ok` to descriptor 9 if all that it was asked for was done and every expectation held. The launcher reads that.
 mod play;
 
-use desk::reading;
-use desk::tell;
 use libc::STDERR_FILENO;
+use libc::STDOUT_FILENO;
+use script::word;
+
+// Where the verdict goes.
+const VERDICT: i32 = 9;
 
 // What the words behind `run` ask for: how many scripts, whether frames are pictured, and which word names the dump, 0 for none.
-struct Wishes {
+struct Wanted {
     scripts: usize,
-    pictured: bool,
+    pictured: u64,
     dump: usize,
+    is_wrong: bool,
 }
 
 fn main() {
-    let mut first = [0u8; 8];
-    let n = os::arg(1, &mut first);
-    if script::word::is(&first[..n], b"run") {
-        wished();
-        return;
+    let mut forms = [0u8; 4096];
+    let n = script::forms(&mut forms);
+    let mut name = [0u8; 4096];
+    let k = os::arg(1, &mut name);
+    let first = &name[..k];
+    let ok = if word::is(first, b"run") {
+        run(word::part(&forms, 0, n))
+    } else if (k == 0) | word::is(first, b"help") | word::is(first, b"--help") {
+        help(word::part(&forms, 0, n))
+    } else {
+        page::say(STDERR_FILENO, b"hexbus: no such command: ");
+        page::show(STDERR_FILENO, first);
+        page::say(STDERR_FILENO, b"; ./hexbus help says what there is\n");
+        false
+    };
+    if ok {
+        io::write_all(VERDICT, b"ok\n");
     }
-    help::print();
 }
 
-fn wished() {
-    let w = words();
-    if w.scripts == 0 {
-        help::print();
-        return;
+fn help(forms: &[u8]) -> bool {
+    page::say(
+        STDOUT_FILENO,
+        b"hexbus run SCRIPT.. [--lines] [--vcd FILE]   plays scripts on a bus of a controller, units and stand-ins; - is standard input
+    --lines      pictures each frame on the terminal
+    --vcd FILE   writes the lines of one script as a value change dump, one time unit to a round
+hexbus help                                  prints this
+
+A script has one statement to a line; # begins a comment. Device codes (CODE) and counts (N) are decimal; commands, statuses (BYTE) and
+BYTES hexadecimal, as 41 or 41*300 or 00+300 (counting up), or text in quotes. COMMAND is a code, or open close read write enable disable
+null reset. What stands in brackets may be left out; | stands between words one of which is meant. In a repeat, $ is the number of the pass.
+
+",
+    );
+    page::say(STDOUT_FILENO, forms);
+    true
+}
+
+fn run(forms: &[u8]) -> bool {
+    let w = wanted();
+    if w.is_wrong {
+        return false;
     }
-    if 0 < w.dump {
-        if 1 < w.scripts {
-            io::write_all(STDERR_FILENO, b"hexbus: --vcd is for one script\n");
-            return;
-        }
+    if w.scripts == 0 {
+        page::say(STDERR_FILENO, b"hexbus: no script is named\n");
+        return false;
+    }
+    if (0 < w.dump) & (1 < w.scripts) {
+        page::say(STDERR_FILENO, b"hexbus: --vcd is for one script\n");
+        return false;
     }
     let mut text = [0u8; 1048577];
-    lend_text(w, &mut text);
+    scripts(forms, w, &mut text)
 }
 
-fn words() -> Wishes {
-    let mut w = Wishes {
+// The words behind `run`.
+fn wanted() -> Wanted {
+    let mut w = Wanted {
         scripts: 0,
-        pictured: false,
+        pictured: 0,
         dump: 0,
+        is_wrong: false,
     };
     let n = os::arg_count();
-    let mut i = 2;
+    let mut i = 2usize;
     while i < n {
-        w = wish(w, i);
+        w = with_word(w, i);
         i += 1;
+    }
+    if n <= w.dump {
+        page::say(STDERR_FILENO, b"hexbus: --vcd names no file\n");
+        w.is_wrong = true;
     }
     w
 }
 
-fn wish(w: Wishes, i: usize) -> Wishes {
+fn with_word(w: Wanted, i: usize) -> Wanted {
     let mut name = [0u8; 4096];
     let n = os::arg(i, &mut name);
-    let mut next = w;
     let word = &name[..n];
+    let is_option = is_option(word);
+    let mut next = w;
     if w.dump == i {
-        return w;
+        if is_option {
+            next.is_wrong = wrong(b"hexbus: --vcd names an option as its file: ", word);
+        }
+        return next;
     }
-    if script::word::is(word, b"--lines") {
-        next.pictured = true;
-    } else if script::word::is(word, b"--vcd") {
+    if word::is(word, b"--lines") {
+        next.pictured = 1;
+    } else if word::is(word, b"--vcd") {
         next.dump = i % 1000000 + 1;
+    } else if is_option {
+        next.is_wrong = wrong(b"hexbus: no such option: ", word);
     } else {
         next.scripts = w.scripts % 1000000 + 1;
     }
     next
 }
 
-fn lend_text(w: Wishes, text: &mut [u8; 1048577]) {
-    let mut bytes = [0u8; 131072];
-    let mut response = [0u8; 65536];
-    scripts(w, text, &mut bytes, &mut response);
+fn is_option(word: &[u8]) -> bool {
+    (1 < word.len()) & (word::letter(word, 0) == b'-')
 }
 
-// Each script in the order of the words.
-fn scripts(
-    w: Wishes,
-    text: &mut [u8; 1048577],
-    bytes: &mut [u8; 131072],
-    response: &mut [u8; 65536],
-) {
+fn wrong(words: &[u8], word: &[u8]) -> bool {
+    page::say(STDERR_FILENO, words);
+    page::show(STDERR_FILENO, word);
+    page::say(STDERR_FILENO, b"\n");
+    true
+}
+
+// Each script in the order of the words; whether all of them were played whole and every expectation held.
+fn scripts(forms: &[u8], w: Wanted, text: &mut [u8; 1048577]) -> bool {
+    let mut bytes = [0u8; 135168];
+    let mut response = [0u8; 65536];
     let n = os::arg_count();
-    let mut i = 2;
+    let mut ok = true;
+    let mut i = 2usize;
     while i < n {
-        one(w, i, text, bytes, response);
+        let good = named(forms, w, i, text, &mut bytes, &mut response);
+        ok = ok & good;
         i += 1;
     }
+    ok
 }
 
-fn one(
-    w: Wishes,
+// The script that a word names; an option is passed over.
+fn named(
+    forms: &[u8],
+    w: Wanted,
     i: usize,
     text: &mut [u8; 1048577],
-    bytes: &mut [u8; 131072],
+    bytes: &mut [u8; 135168],
     response: &mut [u8; 65536],
-) {
+) -> bool {
     let mut name = [0u8; 4096];
     let n = os::arg(i, &mut name);
     let word = &name[..n];
-    if is_option(w, i, word) {
-        return;
-    }
-    named(w, word, text, bytes, response);
-}
-
-fn named(
-    w: Wishes,
-    name: &[u8],
-    text: &mut [u8; 1048577],
-    bytes: &mut [u8; 131072],
-    response: &mut [u8; 65536],
-) {
-    let length = load(name, text);
-    if 0 < length {
-        checked(w, name, tell::front(text, length), bytes, response);
-    }
-}
-
-fn is_option(w: Wishes, i: usize, word: &[u8]) -> bool {
-    if w.dump == i {
+    if is_option(word) | (w.dump == i) {
         return true;
     }
-    if script::word::is(word, b"--vcd") {
-        return true;
+    let length = load(word, text);
+    if length == 0 {
+        return false;
     }
-    script::word::is(word, b"--lines")
+    played(
+        forms,
+        w,
+        word,
+        desk::tell::front(text, length),
+        bytes,
+        response,
+    )
 }
 
 // Reads a script and ends its last line; 0 where it cannot be had whole, which is said.
 fn load(name: &[u8], text: &mut [u8]) -> usize {
-    let file = os::open_read(name);
+    let is_input = word::is(name, b"-");
+    let file = if is_input { 0 } else { os::open_read(name) };
     if file < 0 {
         os::fail(name);
         return 0;
     }
     let n = io::read_full(file, text);
-    libc::close(file);
+    let mut more = [0u8; 1];
+    let rest = libc::read(file, &mut more);
+    if rest < 0 {
+        os::fail(name);
+    }
+    if !is_input {
+        libc::close(file);
+    }
+    if rest < 0 {
+        return 0;
+    }
     if n < text.len() {
         text[n] = b'\n';
         return n + 1;
     }
-    page::say(name);
-    page::say(b": the script is too large: at most 1,048,576 bytes\n");
+    page::show(STDERR_FILENO, name);
+    page::say(
+        STDERR_FILENO,
+        b": the script is too large: at most 1,048,576 bytes\n",
+    );
     0
 }
 
 // A script is played only if every line of it can be.
-fn checked(
-    w: Wishes,
-    name: &[u8],
-    text: &[u8],
-    bytes: &mut [u8; 131072],
-    response: &mut [u8; 65536],
-) {
-    let faults = reading::faults(name, text, bytes);
-    if 0 < faults {
-        page::say(name);
-        page::say(b": nothing was run\n");
-    } else {
-        played(w, name, text, bytes, response);
-    }
-}
-
 fn played(
-    w: Wishes,
+    forms: &[u8],
+    w: Wanted,
     name: &[u8],
     text: &[u8],
-    bytes: &mut [u8; 131072],
+    bytes: &mut [u8; 135168],
     response: &mut [u8; 65536],
-) {
-    let dump = open_dump(w.dump);
-    title(name);
-    let t = play::whole(text, dump, w.pictured, bytes, response);
-    summary(name, dump, t.round, t.held, t.failed);
-}
-
-fn title(name: &[u8]) {
-    page::say(name);
-    page::say(b"\n");
-}
-
-fn summary(name: &[u8], dump: u8, round: u64, held: u32, failed: u32) {
-    if 0 < dump {
-        picture::dump::end(dump, round % 1000000000000 + 1);
+) -> bool {
+    let mut plan = [0u64; 280];
+    desk::start(&mut plan, 0, 0, 0);
+    let faults = play::faults(forms, name, text, &mut plan, bytes);
+    if 0 < faults {
+        page::show(STDOUT_FILENO, name);
+        page::say(STDOUT_FILENO, b": nothing was run\n\n");
+        return false;
     }
-    page::say(name);
+    let dump = open_dump(w.dump);
+    if dump < 0 {
+        return false;
+    }
+    page::show(STDOUT_FILENO, name);
+    page::say(STDOUT_FILENO, b"\n");
+    let mut d = [0u64; 280];
+    desk::start(&mut d, 1, (dump % 65536) as u64, w.pictured);
+    let mut memory = [0xEEu8; 12288];
+    let mut notes = [0u8; 8192];
+    let mut log = [0u8; 16384];
+    play::whole(
+        forms,
+        name,
+        text,
+        &mut d,
+        bytes,
+        response,
+        &mut memory,
+        &mut notes,
+        &mut log,
+    );
+    summary(name, &d, &log)
+}
+
+// What a script has come to: its failures again, and the counts.
+fn summary(name: &[u8], d: &[u64; 280], log: &[u8]) -> bool {
+    if 0 < d[desk::FAILED] {
+        page::say(STDOUT_FILENO, b"\n");
+        page::say(
+            STDOUT_FILENO,
+            desk::tell::front(log, d[desk::LOGGED] as usize),
+        );
+    }
+    page::show(STDOUT_FILENO, name);
     page::tell(
+        STDOUT_FILENO,
         b": # rounds; expectations held #, failed #\n\n",
-        round,
-        held as u64,
-        failed as u64,
+        d[desk::ROUND],
+        d[desk::HELD],
+        d[desk::FAILED],
         0,
     );
+    if 0 < d[desk::DUMP_LOST] {
+        page::say(
+            STDERR_FILENO,
+            b"hexbus: the waveform could not be written\n",
+        );
+    }
+    (d[desk::FAILED] == 0) & (d[desk::DUMP_LOST] == 0)
 }
 
-// The descriptor of the dump that a word names; 0 for none.
-fn open_dump(i: usize) -> u8 {
+// The descriptor of the dump that a word names; 0 where none does, -1 where it cannot be had. What is no dump is not overwritten.
+fn open_dump(i: usize) -> i32 {
     if i == 0 {
         return 0;
     }
     let mut name = [0u8; 4096];
     let n = os::arg(i, &mut name);
     let word = &name[..n];
+    let old = os::open_read(word);
+    if 0 <= old {
+        let mut front = [0u8; 64];
+        let k = io::read_full(old, &mut front);
+        libc::close(old);
+        if !picture::dump::is_dump(&front[..k]) {
+            page::show(STDERR_FILENO, word);
+            page::say(
+                STDERR_FILENO,
+                b": this file is no waveform, and is left as it is\n",
+            );
+            return -1;
+        }
+    }
     let file = os::open_overwrite(word);
     if file < 0 {
         os::fail(word);
-        return 0;
     }
-    descriptor(file)
-}
-
-// A dump keeps its descriptor in a byte; 0 for one that does not fit.
-fn descriptor(file: i32) -> u8 {
-    let mut k = 3u8;
-    while k < 255 {
-        if k as i32 == file {
-            return k;
-        }
-        k += 1;
-    }
-    0
+    file
 }

@@ -63,52 +63,56 @@ pub const SHOW_DATA: u32 = 26;
 
 pub const SHOW_LINES: u32 = 27;
 
-pub const SAY: u32 = 28;
+pub const SHOW_FAILURES: u32 = 28;
 
-pub const STATUS: u32 = 29;
+pub const SAY: u32 = 29;
 
-pub const RECEIVED: u32 = 30;
+pub const STATUS: u32 = 30;
 
-pub const TAKEN: u32 = 31;
+pub const RECEIVED: u32 = 31;
 
-pub const RING: u32 = 32;
+pub const TAKEN: u32 = 32;
 
-pub const REQUEST: u32 = 33;
+pub const RING: u32 = 33;
 
-pub const REFUSAL: u32 = 34;
+pub const REQUEST: u32 = 34;
 
-pub const UNREACHED: u32 = 35;
+pub const REQUESTS: u32 = 35;
 
-pub const TURNS: u32 = 36;
+pub const REFUSAL: u32 = 36;
 
-pub const WAITED: u32 = 37;
+pub const UNREACHED: u32 = 37;
 
-pub const QUEUED: u32 = 38;
+pub const TURNS: u32 = 38;
 
-pub const IS_QUIET: u32 = 39;
+pub const WAITED: u32 = 39;
 
-pub const ROUND: u32 = 40;
+pub const QUEUED: u32 = 40;
 
-pub const ROUNDS: u32 = 41;
+pub const IS_QUIET: u32 = 41;
 
-pub const LOOKS: u32 = 42;
+pub const ROUND: u32 = 42;
 
-pub const PHASE: u32 = 43;
+pub const ROUNDS: u32 = 43;
 
-pub const PULLS: u32 = 44;
+pub const LOOKS: u32 = 44;
 
-pub const LINES: u32 = 45;
+pub const PHASE: u32 = 45;
 
-pub const BUFFER: u32 = 46;
+pub const PULLS: u32 = 46;
 
-pub const RESPONSE: u32 = 47;
+pub const LINES: u32 = 47;
 
-pub const HEARD: u32 = 48;
+pub const BUFFER: u32 = 48;
 
-pub const STANDS: u32 = 49;
+pub const RESPONSE: u32 = 49;
+
+pub const HEARD: u32 = 50;
+
+pub const STANDS: u32 = 51;
 
 // A line without a statement.
-pub const BLANK: u32 = 50;
+pub const BLANK: u32 = 52;
 
 // The forms, at the front of a page; how many letters they have. A word in capitals is a kind of value, a bar stands between words one
 // of which is meant, and what stands in brackets may be left out.
@@ -144,12 +148,14 @@ show units
 show ring
 show data
 show lines
+show failures
 say WORDS
 expect status BYTE|none
 expect data [BYTES]
 expect taken [BYTES]
 expect ring [ENTRIES]
 expect request CODE|none
+expect requests N
 expect refusal 1-16|none
 expect unreached
 expect turns CODE N
@@ -217,7 +223,7 @@ pub fn read(forms: &[u8], line: &[u8], pass: u32, bytes: &mut [u8; 135168]) -> S
     while k < BLANK {
         let end = word::find(forms, at, b'\n');
         let lead = lead_of(word::part(forms, 0, end), at, line);
-        if lead.fits {
+        if lead.fits & (best.words <= lead.words) {
             let s = Statement::new(k, first, lead.at);
             return s.values(word::part(forms, 0, end), lead.form, line, pass, bytes);
         }
@@ -345,10 +351,10 @@ impl Statement {
         s
     }
 
-    // Nothing more stands on the line.
+    // Nothing more stands on the line, but for the words that are to be said.
     fn ended(self, line: &[u8], want: Word) -> Statement {
         let w = word::next(line, self.at);
-        if w.is_none() {
+        if w.is_none() | (self.form == SAY) {
             return self;
         }
         self.wrong(w, want)
@@ -369,7 +375,7 @@ impl Statement {
         if word::letter(kind, 1) == b'Y' {
             if word::letter(kind, 4) == b'S' {
                 s.values[k % 16] = 1;
-                return s.bytes(f, line, bytes);
+                return s.bytes(f, line, pass, bytes);
             }
         }
         if word::letter(kind, 0) == b'E' {
@@ -469,7 +475,7 @@ impl Statement {
 
     // Bytes to the end of the line: in hexadecimal, each perhaps with a star and how often it stands, or a plus and how many count up
     // from it; or text in quotes.
-    fn bytes(self, f: Word, line: &[u8], bytes: &mut [u8; 135168]) -> Statement {
+    fn bytes(self, f: Word, line: &[u8], pass: u32, bytes: &mut [u8; 135168]) -> Statement {
         let mut s = self;
         let mut i = 0;
         while i < line.len() {
@@ -477,7 +483,7 @@ impl Statement {
             if w.is_none() {
                 break;
             }
-            s = s.more(f, word::letters(line, w), w, bytes);
+            s = s.more(f, word::letters(line, w), w, pass, bytes);
             if s.is_wrong {
                 return s;
             }
@@ -489,7 +495,14 @@ impl Statement {
         s
     }
 
-    fn more(self, f: Word, letters: &[u8], w: Word, bytes: &mut [u8; 135168]) -> Statement {
+    fn more(
+        self,
+        f: Word,
+        letters: &[u8],
+        w: Word,
+        pass: u32,
+        bytes: &mut [u8; 135168],
+    ) -> Statement {
         let mut s = self;
         let n = letters.len();
         let star = word::find(letters, 0, b'*');
@@ -500,7 +513,11 @@ impl Statement {
         } else {
             1
         };
-        let b = word::byte(word::part(letters, 0, sign));
+        let b = if word::is(letters, b"$") {
+            pass
+        } else {
+            word::byte(word::part(letters, 0, sign))
+        };
         s.at = w.end;
         let is_text = word::letter(letters, 0) == b'"';
         if is_text {

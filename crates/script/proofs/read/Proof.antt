@@ -20,7 +20,7 @@ abbrev Inv-loop : tie.InvT-loop
 Inv-loop forms line pass bytes₀ first best₀ at₀ k₀ bytes best at k = Unit {0}
 
 abbrev μ-loop : tie.MeasureT-loop
-μ-loop forms line pass bytes₀ first best₀ at₀ k₀ bytes best at k = 50 - k
+μ-loop forms line pass bytes₀ first best₀ at₀ k₀ bytes best at k = 52 - k
 
 next-requires : tie.Need-next-requires Inv-loop μ-loop
 next-requires c κs = search needs
@@ -104,4 +104,3 @@ read-spec =
     loop-again
     no-form-requires
     returns-3)
-

@@ -55,4 +55,3 @@ run-spec =
     loop-less
     loop-again
     returns)
-

@@ -14,10 +14,10 @@ use Rattle.script.proofs.word.letters.Reads as letters-reads
 use Rattle.script.proofs.word.next.Reads as next-reads
 
 abbrev Inv-loop : tie.InvT-loop
-Inv-loop f line bytes₀ s₀ i₀ bytes s i = Unit {0}
+Inv-loop f line pass bytes₀ s₀ i₀ bytes s i = Unit {0}
 
 abbrev μ-loop : tie.MeasureT-loop
-μ-loop f line bytes₀ s₀ i₀ bytes s i = length line - i
+μ-loop f line pass bytes₀ s₀ i₀ bytes s i = length line - i
 
 loop-holds : tie.Need-loop-holds Inv-loop μ-loop
 loop-holds c = search needs

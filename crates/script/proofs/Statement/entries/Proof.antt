@@ -103,4 +103,3 @@ entries-spec =
     next-requires-2
     wrong-requires-2
     returns-3)
-

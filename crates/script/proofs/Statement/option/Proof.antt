@@ -124,4 +124,3 @@ option-spec =
     loop-again
     wrong-requires
     returns-4)
-

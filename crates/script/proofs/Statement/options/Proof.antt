@@ -62,4 +62,3 @@ options-spec =
     loop-less
     loop-again
     returns-3)
-

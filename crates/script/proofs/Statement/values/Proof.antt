@@ -81,4 +81,3 @@ values-spec =
     loop-less
     loop-again
     returns-4)
-

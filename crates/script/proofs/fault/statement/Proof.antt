@@ -151,4 +151,3 @@ statement-spec =
     loop-less
     loop-again
     returns-2)
-
