@@ -1,12 +1,13 @@
--- The units of a bus, one after the other: what their pulls leave, and their round.
-use Prim.Native.Nat.{ℕ, suc, _-_, _/_, _≤_, _<_}
+-- The units of a bus, one after the other: what their pulls leave, and their round in their memory.
+use Prim.Native.Nat.{ℕ, suc, _+_, _-_, _*_, _/_, _≤_, _<_}
 use native.Mathlib.Nat.{sub-zero}
 use native.Mathlib.Omega.{arith}
-use mathlib.Core.Path.{_≡_, sym, _∙_, ap}
+use mathlib.Core.Path.{_≡_, refl, sym, _∙_, ap, ap₂}
 use mathlib.Core.Bool.{Bool}
-use mathlib.Core.List.{List, [], _∷_, _++_}
-use lib.ListN.{length, take, drop, getD, set, take-append-drop}
-use lib.Seq.{drop-cons, drop-set-lt, take-suc-set, append-snoc}
+use mathlib.Core.List.{List, [], _∷_, _++_, append-assoc, append-nil}
+use borrow.Rule.Slice.PartMut.{midOf, putMid, drop-put, mid-len}
+use lib.ListN.{length, take, drop, getD, set, take-append-drop, length-append, length-drop, drop-of-length-le}
+use lib.Seq.{drop-cons, drop-drop, drop-at, drop-set-lt, take-add, take-all, take-at, take-length, take-take, take-append-add, take-suc-set, length-take-le, append-snoc}
 use Rattle.line.specs.Line.{wired}
 use Rattle.line.specs.declared.Lines.{Lines}
 use Rattle.message.specs.Answer.{Answer}
@@ -15,53 +16,147 @@ use Rattle.unit.specs.Calls.{stepping, stepped, bufferAfter, outputAfter}
 use Rattle.unit.specs.Unit.{pullsOf}
 use Rattle.unit.specs.declared.Stepped.{Stepped}
 use Rattle.unit.specs.declared.Unit.{Unit}
-use Rattle.bus.specs.Bus.{unitAfter, stationStep, isOdd, counted, unitsOf, levelsWith, unitsAfter}
-use Rattle.bus.specs.declared.Bus.{Bus}
+use Rattle.bus.specs.Bus.{unitAfter, stationStep, stationAt, stationsOf, unitsIn, bytesOf, memoryOf, isOdd, levelsLeft, unitsAfter}
 use Rattle.bus.specs.declared.Station.{Station}
-
-pub length-units : (b : Bus) → length (b .stations) ≡ 16 → length (unitsOf b) ≡ counted b
-length-units b h = front-length (b .stations) (b .count) h
+use Rattle.bus.proofs.Memory.{buffer-length, output-length, part-length}
 
 -- One more unit's pulls.
-pub levels-next : (l : Lines) (ss : List Station) (i : ℕ) (d : Station) → i < length ss
-    → levelsWith l (drop i ss) ≡ levelsWith (wired l (pullsOf (getD ss i d .unit))) (drop (suc i) ss)
-levels-next l ss i d h = ap (levelsWith l) (drop-cons ss i d h)
+pub levels-next : (l : Lines) (us : List Unit) (i : ℕ) (d : Unit) → i < length us
+    → levelsLeft l (drop i us) ≡ levelsLeft (wired l (pullsOf (getD us i d))) (drop (suc i) us)
+levels-next l us i d h = ap (levelsLeft l) (drop-cons us i d h)
 
--- Units that have stepped up to place i, of n; then those that are to step; then the slots without a unit.
-abbrev pub whole : Lines → ℕ → ℕ → ℕ → List Station → List Station
-whole seen busy n i ss = take i ss ++ (unitsAfter seen busy (take (n - i) (drop i ss)) ++ drop n ss)
+-- A unit's part of the memory is all that it sees of it.
+drop-take : (n k : ℕ) (l : List ℕ) → n ≤ length l → drop n (take (n + k) l) ≡ take k (drop n l)
+drop-take n k l h = ap (drop n) (take-add n k l) ∙ drop-at (take n l) (take k (drop n l)) n (length-take-le n l h)
 
-pub whole-start : (seen : Lines) (busy n : ℕ) (ss : List Station) → whole seen busy n 0 ss ≡ unitsAfter seen busy (take n ss) ++ drop n ss
-whole-start seen busy n ss = ap (λ (k : ℕ). unitsAfter seen busy (take k ss) ++ drop n ss) (sub-zero n)
+pub part-alone : (u : Unit) (m : List ℕ) → 768 ≤ length m → stationAt u (take 768 m) ≡ stationAt u m
+part-alone u m h = λ k. record {
+  unit = u;
+  buffer = take-take 256 768 m (omega arith) k;
+  input = (ap (take 256) (drop-take 256 512 m (omega arith)) ∙ take-take 256 512 (drop 256 m) (omega arith)) k;
+  output = (ap (take 256) (drop-take 512 256 m (omega arith)) ∙ take-take 256 256 (drop 512 m) (omega arith)) k;
+}
 
-pub whole-next : (seen : Lines) (busy n i : ℕ) (ss : List Station) (d : Station) → i < n → n ≤ length ss
-    → whole seen busy n i ss ≡ whole seen (busy / 2) n (suc i) (set ss i (stationStep (getD ss i d) seen (isOdd busy)))
-whole-next seen busy n i ss d h m =
-    let x = stationStep (getD ss i d) seen (isOdd busy) in
-    let more = unitsAfter seen (busy / 2) (take (n - suc i) (drop (suc i) ss)) in
-    let one : n - i ≡ suc (n - suc i) = omega arith in
-    let within : i < length ss = omega arith in
-    let first : whole seen busy n i ss ≡ take i ss ++ (x ∷ (more ++ drop n ss)) =
-    ap (λ (k : ℕ). take i ss ++ (unitsAfter seen busy (take k (drop i ss)) ++ drop n ss)) one
-    ∙ ap (λ (r : List Station). take i ss ++ (unitsAfter seen busy (take (suc (n - suc i)) r) ++ drop n ss)) (drop-cons ss i d within) in
-    let front : take (suc i) (set ss i x) ≡ take i ss ++ (x ∷ []) = take-suc-set ss i x within in
-    let behind : drop (suc i) (set ss i x) ≡ drop (suc i) ss = drop-set-lt (suc i) ss i x (omega arith) in
-    let unused : drop n (set ss i x) ≡ drop n ss = drop-set-lt n ss i x h in
-    first ∙ sym (rw (front, behind, unused) (append-snoc (take i ss) x (more ++ drop n ss)))
+-- What the units from place i on, of n, come to, with their memory from `at` on; and the whole array and the whole memory: those that
+-- have stepped, those that are to step, and what is behind them.
+abbrev pub to-step : Lines → ℕ → ℕ → ℕ → ℕ → List Unit → List ℕ → List Station
+to-step seen busy n i at us m = unitsAfter seen busy (stationsOf (take (n - i) (drop i us)) (drop at m))
 
-pub whole-end : (seen : Lines) (busy n i : ℕ) (ss : List Station) → i ≤ n → n ≤ i → ss ≡ whole seen busy n i ss
-whole-end seen busy n i ss h m =
-    let none : n - i ≡ 0 = omega arith in
-    let same : n ≡ i = omega arith in
-    sym (rw (none, same) (take-append-drop i ss))
+abbrev pub whole-units : Lines → ℕ → ℕ → ℕ → ℕ → List Unit → List ℕ → List Unit
+whole-units seen busy n i at us m = take i us ++ (unitsIn (to-step seen busy n i at us m) ++ drop n us)
 
--- A station after its step: the unit of an answer, or the one before a refusal.
+abbrev pub whole-memory : Lines → ℕ → ℕ → ℕ → ℕ → List Unit → List ℕ → List ℕ
+whole-memory seen busy n i at us m = take at m ++ (memoryOf (to-step seen busy n i at us m) ++ drop (768 * n) m)
+
+module _ (seen : Lines) (busy n i at : ℕ) (us : List Unit) (m : List ℕ) (d : Unit) (below : i < n) (enough : n ≤ length us) (place : at ≡ 768 * i) (room : 768 * n ≤ length m) where
+  abbrev pub next : Station
+  next = stationStep (stationAt (getD us i d) (midOf at (at + 768 - at) m)) seen (isOdd busy)
+
+  -- Place i steps, and those behind it are left.
+  next-steps : to-step seen busy n i at us m ≡ next ∷ to-step seen (busy / 2) n (suc i) (at + 768) us m
+  next-steps =
+      let one : n - i ≡ suc (n - suc i) = omega arith in
+      let k : at + 768 - at ≡ 768 = omega arith in
+      let u = getD us i d in
+      let l : length (drop at m) ≡ length m - at = length-drop at m in
+      let its : stationAt u (drop at m) ≡ stationAt u (midOf at (at + 768 - at) m) =
+      sym (ap (λ (j : ℕ). stationAt u (take j (drop at m))) k ∙ part-alone u (drop at m) (omega arith)) in
+      ap (λ (j : ℕ). unitsAfter seen busy (stationsOf (take j (drop i us)) (drop at m))) one
+      ∙ ap (λ (r : List Unit). unitsAfter seen busy (stationsOf (take (suc (n - suc i)) r) (drop at m))) (drop-cons us i d (omega arith))
+      ∙ ap₂ (λ (s : Station) (r : List ℕ). stationStep s seen (isOdd busy) ∷ unitsAfter seen (busy / 2) (stationsOf (take (n - suc i) (drop (suc i) us)) r)) its (drop-drop 768 at m)
+
+  module _ (v : Unit) (ys : List ℕ) (its : v ≡ next .unit) (bytes : ys ≡ bytesOf next) (full : length ys ≡ length (midOf at (at + 768 - at) m)) where
+    abbrev units′ : List Unit
+    units′ = set us i v
+
+    abbrev memory′ : List ℕ
+    memory′ = putMid at (at + 768 - at) m ys
+
+    long : length ys ≡ 768
+    long = full ∙ mid-len at (at + 768) m (omega arith) ∙ omega arith
+
+    behind : (j : ℕ) → at + 768 ≤ j → drop j memory′ ≡ drop j m
+    behind j h =
+        let at-j : at + 768 + (j - (at + 768)) ≡ j = omega arith in
+        let rest = drop-put at (at + 768) m ys (omega arith) (omega arith) (long ∙ omega arith) in
+        ap (λ (x : ℕ). drop x memory′) (sym at-j) ∙ sym (drop-drop (j - (at + 768)) (at + 768) memory′) ∙ ap (drop (j - (at + 768))) rest ∙ drop-drop (j - (at + 768)) (at + 768) m ∙ ap (λ (x : ℕ). drop x m) at-j
+
+    same-steps : to-step seen (busy / 2) n (suc i) (at + 768) units′ memory′ ≡ to-step seen (busy / 2) n (suc i) (at + 768) us m
+    same-steps = ap₂ (λ (r : List Unit) (x : List ℕ). unitsAfter seen (busy / 2) (stationsOf (take (n - suc i) r) x)) (drop-set-lt (suc i) us i v (omega arith)) (behind (at + 768) (omega arith))
+
+    pub units-next : whole-units seen busy n i at us m ≡ whole-units seen (busy / 2) n (suc i) (at + 768) units′ memory′
+    units-next =
+        let more = to-step seen (busy / 2) n (suc i) (at + 768) us m in
+        let front : take (suc i) units′ ≡ take i us ++ (v ∷ []) = take-suc-set us i v (omega arith) in
+        let unused : drop n units′ ≡ drop n us = drop-set-lt n us i v below in
+        ap (λ (ss : List Station). take i us ++ (unitsIn ss ++ drop n us)) next-steps
+        ∙ ap (λ (x : Unit). take i us ++ (x ∷ (unitsIn more ++ drop n us))) (sym its)
+        ∙ sym (rw (front, unused, same-steps) (append-snoc (take i us) v (unitsIn more ++ drop n us)))
+
+    pub memory-next : whole-memory seen busy n i at us m ≡ whole-memory seen (busy / 2) n (suc i) (at + 768) units′ memory′
+    memory-next =
+        let more = memoryOf (to-step seen (busy / 2) n (suc i) (at + 768) us m) in
+        let rest = drop (768 * n) m in
+        let l : length (take at m ++ ys) ≡ at + 768 = length-append (take at m) ys ∙ ap₂ (λ (a b : ℕ). a + b) (length-take-le at m (omega arith)) long in
+        let front : take (at + 768) memory′ ≡ take at m ++ ys =
+        ap (take (at + 768)) (sym (append-assoc (take at m) ys (drop (at + 768 - at) (drop at m)))) ∙ take-at (take at m ++ ys) (drop (at + 768 - at) (drop at m)) (at + 768) l in
+        ap (λ (ss : List Station). take at m ++ (memoryOf ss ++ rest)) next-steps
+        ∙ ap (λ (x : List ℕ). take at m ++ (x ++ more ++ rest)) (sym bytes)
+        ∙ ap (λ (x : List ℕ). take at m ++ x) (append-assoc ys more rest)
+        ∙ sym (append-assoc (take at m) ys (more ++ rest))
+        ∙ sym (λ k. front k ++ (memoryOf (same-steps k) ++ behind (768 * n) (omega arith) k))
+
+-- Before the first has stepped, and when all have.
+module _ (seen : Lines) (busy n : ℕ) (us : List Unit) (m : List ℕ) where
+  pub units-start : whole-units seen busy n 0 0 us m ≡ unitsIn (unitsAfter seen busy (stationsOf (take n us) m)) ++ drop n us
+  units-start = ap (λ (k : ℕ). unitsIn (unitsAfter seen busy (stationsOf (take k us) m)) ++ drop n us) (sub-zero n)
+
+  pub memory-start : whole-memory seen busy n 0 0 us m ≡ memoryOf (unitsAfter seen busy (stationsOf (take n us) m)) ++ drop (768 * n) m
+  memory-start = ap (λ (k : ℕ). memoryOf (unitsAfter seen busy (stationsOf (take k us) m)) ++ drop (768 * n) m) (sub-zero n)
+
+  pub units-end : (i at : ℕ) → i ≡ n → us ≡ whole-units seen busy n i at us m
+  units-end i at h = let none : n - i ≡ 0 = omega arith in sym (rw (none, h) (take-append-drop n us))
+
+  pub memory-end : (i at : ℕ) → i ≡ n → at ≡ 768 * n → m ≡ whole-memory seen busy n i at us m
+  memory-end i at h e = let none : n - i ≡ 0 = omega arith in sym (rw (none, e) (take-append-drop (768 * n) m))
+
+-- A unit's memory with its command buffer and its output queue put back.
+pub put-back : (m b o p q : List ℕ) → length m ≡ 768 → length b ≡ 256 → p ≡ b ++ drop 256 m → length o ≡ 256 → q ≡ take 512 p ++ (o ++ drop 768 p)
+    → q ≡ b ++ (take 256 (drop 256 m) ++ o)
+put-back m b o p q hm hb first ho second =
+    let front : take 512 p ≡ b ++ take 256 (drop 256 m) =
+    ap (take 512) first ∙ ap (λ (k : ℕ). take (k + 256) (b ++ drop 256 m)) (sym hb) ∙ take-append-add b (drop 256 m) 256 in
+    let l : length p ≡ 768 = ap length first ∙ length-append b (drop 256 m) ∙ ap₂ (λ (j k : ℕ). j + k) hb (length-drop 256 m ∙ ap (λ (k : ℕ). k - 256) hm) in
+    let past : length p ≤ 768 = omega arith in
+    second ∙ (λ k. front k ++ (o ++ drop-of-length-le p past k)) ∙ ap (λ (x : List ℕ). (b ++ take 256 (drop 256 m)) ++ x) (append-nil o) ∙ append-assoc b (take 256 (drop 256 m)) o
+
+-- A unit's round in copies b, i and o of its parts; b′ and o′ are put back, and p and q are its memory then.
+pub round-in-parts : (u : Unit) (seen : Lines) (busy : Bool) (m b i o b′ o′ p q : List ℕ) {r : Unit} → length m ≡ 768
+    → b ≡ take 256 m → i ≡ take 256 (drop 256 m) → o ≡ take 256 (drop 512 m)
+    → r ≡ unitAfter (stepping u seen busy b i) u → b′ ≡ bufferAfter u seen busy b i → o′ ≡ outputAfter u seen busy b i o
+    → p ≡ b′ ++ drop 256 m → q ≡ take 512 p ++ (o′ ++ drop 768 p)
+    → (r ≡ stationStep (stationAt u m) seen busy .unit) × (q ≡ bytesOf (stationStep (stationAt u m) seen busy))
+round-in-parts u seen busy m b i o b′ o′ p q hm eb ei eo er eb′ eo′ ep eq =
+    let its : _≡_ {A = Station} (record { unit = u; buffer = b; input = i; output = o }) (stationAt u m) = λ k. record { unit = u; buffer = eb k; input = ei k; output = eo k } in
+    let b-256 : length b′ ≡ 256 = ap length eb′ ∙ buffer-length u seen busy b i ∙ part-length 0 m hm (omega arith) eb in
+    let o-256 : length o′ ≡ 256 = ap length eo′ ∙ output-length u seen busy b i o ∙ part-length 512 m hm (omega arith) eo in
+    let b-is : b′ ≡ stationStep (stationAt u m) seen busy .buffer = eb′ ∙ ap (λ (s : Station). stationStep s seen busy .buffer) its in
+    let o-is : o′ ≡ stationStep (stationAt u m) seen busy .output = eo′ ∙ ap (λ (s : Station). stationStep s seen busy .output) its in (
+      er ∙ ap (λ (s : Station). stationStep s seen busy .unit) its,
+      put-back m b′ o′ p q hm b-256 ep o-256 eq ∙ (λ k. b-is k ++ (take 256 (drop 256 m) ++ o-is k)),
+    )
+
+-- The unit of an answer, or the one before a refusal.
 pub unit-after : (u : Unit) (r x : Stepped) (a : Answer Unit) → stepped r ≡ a → r ≡ x → unitAfter (stepped x) u ≡ unitAfter a u
 unit-after u r x a p q = ap (λ (y : Stepped). unitAfter (stepped y) u) (sym q) ∙ ap (λ (b : Answer Unit). unitAfter b u) p
 
-pub station-after : (s : Station) (seen : Lines) (busy : Bool) (v : Unit) (buffer output : List ℕ)
-    → v ≡ unitAfter (stepping (s .unit) seen busy (s .buffer) (s .input)) (s .unit)
-    → buffer ≡ bufferAfter (s .unit) seen busy (s .buffer) (s .input)
-    → output ≡ outputAfter (s .unit) seen busy (s .buffer) (s .input) (s .output)
-    → record { unit = v; buffer = buffer; input = s .input; output = output } ≡ stationStep s seen busy
-station-after s seen busy v buffer output p q r = λ i. record { unit = p i; buffer = q i; input = s .input; output = r i }
+-- 256 bytes of a slice, copied over an array of as many.
+pub copied-whole : (s z out : List ℕ) (from : ℕ) → from + 256 ≤ length s → length z ≡ 256
+    → out ≡ take (length (midOf from (from + 256 - from) s)) (midOf from (from + 256 - from) s) ++ drop (length (midOf from (from + 256 - from) s)) z
+    → out ≡ take 256 (drop from s)
+copied-whole s z out from room full e =
+    let part = midOf from (from + 256 - from) s in
+    let k : from + 256 - from ≡ 256 = omega arith in
+    let l : length part ≡ 256 = mid-len from (from + 256) s room ∙ k in
+    let past : length z ≤ length part = omega arith in
+    e ∙ (λ i. take-length part i ++ drop-of-length-le z past i) ∙ append-nil part ∙ ap (λ (j : ℕ). take j (drop from s)) k

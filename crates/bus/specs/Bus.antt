@@ -1,8 +1,8 @@
 -- Document 01, "Lines and rounds": a line is low if any party pulls it, and a released nibble reads 15. In a round each party steps
 -- once and sees the levels left by all pulls of the round before.
-use Prim.Native.Nat.{ℕ, _+_, _/_, _%_, min}
+use Prim.Native.Nat.{ℕ, _+_, _*_, _/_, _%_, min}
 use mathlib.Core.Bool.{Bool, cond, _||_}
-use mathlib.Core.List.{List, [], _∷_, _++_}
+use mathlib.Core.List.{List, [], _∷_, _++_, map}
 use lib.Dec.{ltb, eqb}
 use lib.ListN.{take, drop, set, replicate}
 use Rattle.controller.specs.Calls.{stepping as controller·stepping, controllerStepped, bufferAfter as responseAfter}
@@ -35,29 +35,52 @@ stationStep s seen busy = record {
   output = outputAfter (s .unit) seen busy (s .buffer) (s .input) (s .output);
 }
 
--- The units of a bus, and a bus with one more; a bus of sixteen stays as it is.
+-- Units with their memory, 768 bytes each in the units' order: command buffer, input queue, output queue.
+abbrev pub stationAt : Unit → List ℕ → Station
+stationAt u memory = record { unit = u; buffer = take 256 memory; input = take 256 (drop 256 memory); output = take 256 (drop 512 memory) }
+
+abbrev pub stationsOf : List Unit → List ℕ → List Station
+stationsOf [] memory = []
+stationsOf (u ∷ us) memory = stationAt u memory ∷ stationsOf us (drop 768 memory)
+
+-- The units alone, and the memory alone.
+abbrev pub unitsIn : List Station → List Unit
+unitsIn ss = map (λ (s : Station). s .unit) ss
+
+abbrev pub bytesOf : Station → List ℕ
+bytesOf s = s .buffer ++ (s .input ++ s .output)
+
+abbrev pub memoryOf : List Station → List ℕ
+memoryOf [] = []
+memoryOf (s ∷ ss) = bytesOf s ++ memoryOf ss
+
+-- The units of a bus, with the memory that its round is lent.
 abbrev pub counted : Bus → ℕ
 counted b = min (b .count) 16
 
-abbrev pub unitsOf : Bus → List Station
-unitsOf b = take (counted b) (b .stations)
+abbrev pub unitsOf : Bus → List ℕ → List Station
+unitsOf b memory = stationsOf (take (counted b) (b .units)) memory
 
-abbrev pub busOf : Controller → List Station → ℕ → Bus
-busOf c stations count = record { controller = c; stations = stations; count = count }
+-- A bus without units, and one with one more; a bus of sixteen stays as it is.
+abbrev pub busOf : Controller → List Unit → ℕ → Bus
+busOf c units count = record { controller = c; units = units; count = count }
 
 abbrev pub newBus : Controller → Bus
-newBus c = busOf c (replicate 16 (newStation (newUnit 1 20))) 0
+newBus c = busOf c (replicate 16 (newUnit 1 20)) 0
 
-abbrev pub withStation : Bus → Station → Bus
-withStation b s = cond (ltb (b .count) 16) (busOf (b .controller) (set (b .stations) (b .count) s) (b .count + 1)) b
+abbrev pub withUnit : Bus → Unit → Bus
+withUnit b u = cond (ltb (b .count) 16) (busOf (b .controller) (set (b .units) (b .count) u) (b .count + 1)) b
 
 -- The levels left by all pulls.
+abbrev pub levelsLeft : Lines → List Unit → Lines
+levelsLeft l [] = l
+levelsLeft l (u ∷ us) = levelsLeft (wired l (pullsOf u)) us
+
 abbrev pub levelsWith : Lines → List Station → Lines
-levelsWith l [] = l
-levelsWith l (s ∷ ss) = levelsWith (wired l (pullsOf (s .unit))) ss
+levelsWith l ss = levelsLeft l (unitsIn ss)
 
 abbrev pub levelsOf : Bus → Lines
-levelsOf b = levelsWith (framePulls (b .controller .stage)) (unitsOf b)
+levelsOf b = levelsLeft (framePulls (b .controller .stage)) (take (counted b) (b .units))
 
 -- Bit i of `busy` says whether the host of unit i is busy, bit 16 whether the controller's is.
 abbrev pub isOdd : ℕ → Bool
@@ -67,16 +90,22 @@ abbrev pub unitsAfter : Lines → ℕ → List Station → List Station
 unitsAfter seen busy [] = []
 unitsAfter seen busy (s ∷ ss) = stationStep s seen (isOdd busy) ∷ unitsAfter seen (busy / 2) ss
 
--- A round of the bus. Each party sees the levels left by all pulls of the round before.
-abbrev pub stationsAfter : Bus → ℕ → List Station
-stationsAfter b busy = unitsAfter (levelsOf b) busy (unitsOf b) ++ drop (counted b) (b .stations)
+-- A round of the bus at the levels `seen`, those left by all pulls of the round before where no fault changes them. Slots without a
+-- unit and their memory stay as they are.
+abbrev pub stationsAfter : Bus → Lines → ℕ → List ℕ → List Station
+stationsAfter b seen busy memory = unitsAfter seen busy (unitsOf b memory)
 
-abbrev pub roundOf : Bus → ℕ → List ℕ → List ℕ → Bus
-roundOf b busy d response =
-    busOf (controllerStepped (b .controller) (levelsOf b) (isOdd (busy / 65536)) d response) (stationsAfter b busy) (b .count)
+abbrev pub roundOf : Bus → Lines → ℕ → List ℕ → List ℕ → List ℕ → Bus
+roundOf b seen busy d response memory =
+    busOf (controllerStepped (b .controller) seen (isOdd (busy / 65536)) d response)
+    (unitsIn (stationsAfter b seen busy memory) ++ drop (counted b) (b .units))
+    (b .count)
 
-abbrev pub outcomeOf : Bus → ℕ → List ℕ → List ℕ → Answer Event
-outcomeOf b busy d response = controller·stepping (b .controller) (levelsOf b) (isOdd (busy / 65536)) d response
+abbrev pub outcomeOf : Bus → Lines → ℕ → List ℕ → List ℕ → Answer Event
+outcomeOf b seen busy d response = controller·stepping (b .controller) seen (isOdd (busy / 65536)) d response
 
-abbrev pub responseOf : Bus → ℕ → List ℕ → List ℕ → List ℕ
-responseOf b busy d response = responseAfter (b .controller) (levelsOf b) (isOdd (busy / 65536)) d response
+abbrev pub responseOf : Bus → Lines → ℕ → List ℕ → List ℕ → List ℕ
+responseOf b seen busy d response = responseAfter (b .controller) seen (isOdd (busy / 65536)) d response
+
+abbrev pub memoryAfter : Bus → Lines → ℕ → List ℕ → List ℕ
+memoryAfter b seen busy memory = memoryOf (stationsAfter b seen busy memory) ++ drop (768 * counted b) memory

@@ -1,11 +1,13 @@
-// A bus of one controller and up to sixteen units: each party steps once a round and sees the levels left by all pulls of the round
-// before.
+// A bus of one controller and up to sixteen units: in a round each party steps once, at the levels left by all pulls of the round
+// before. The units' memory stays with the caller.
 ghost use mathlib.Core.Path.{_≡_};
 ghost use mathlib.Core.List.{_++_};
-ghost use lib.ListN.{drop};
+ghost use Prim.Native.Nat.{_+_, _*_, _≤_, min};
+ghost use lib.ListN.{length, take, drop};
 ghost use Rattle.controller.specs.Calls.{stepped};
+ghost use Rattle.unit.specs.Calls.{stepping, bufferAfter, outputAfter};
 ghost use Rattle.unit.specs.Unit.{newUnit};
-ghost use Rattle.bus.specs.Bus.{newStation, stationStep, counted, unitsOf, newBus, withStation, levelsOf, unitsAfter, roundOf, outcomeOf, responseOf};
+ghost use Rattle.bus.specs.Bus.{unitAfter, stationStep, stationAt, stationsOf, unitsIn, bytesOf, memoryOf, newBus, withUnit, levelsOf, unitsAfter, roundOf, outcomeOf, responseOf, memoryAfter};
 use controller::Controller;
 use controller::Stepping;
 use line::Lines;
@@ -25,7 +27,7 @@ pub struct Station {
 // One controller and its units, in any order. A count over 16 is that of sixteen units.
 pub struct Bus {
     pub controller: Controller,
-    pub stations: [Station; 16],
+    pub units: [Unit; 16],
     pub count: u8,
 }
 
@@ -36,18 +38,6 @@ pub struct Rounded {
 }
 
 impl Station {
-    // A unit with memory of its own.
-    pub fn new(u: Unit) -> Station
-        ensures { λ r. ⌜ r ≡ newStation u ⌝ }
-    {
-        Station {
-            unit: u,
-            buffer: [0; 256],
-            input: [0; 256],
-            output: [0; 256],
-        }
-    }
-
     // A round of it.
     pub fn step(self, seen: Lines, busy: bool) -> Station
         ensures { λ r. ⌜ r ≡ stationStep self seen busy ⌝ }
@@ -56,13 +46,9 @@ impl Station {
         let input = self.input;
         let mut output = self.output;
         let u = self.unit;
-        let after = match unit::step(u, seen, busy, &mut buffer, &input, &mut output) {
-            Stepped::On(v) => v,
-            Stepped::Level => u,
-            Stepped::Buffer => u,
-        };
+        let unit = unit_after(u, seen, busy, &mut buffer, &input, &mut output);
         Station {
-            unit: after,
+            unit,
             buffer,
             input,
             output,
@@ -75,22 +61,22 @@ impl Bus {
     pub fn new(c: Controller) -> Bus
         ensures { λ r. ⌜ r ≡ newBus c ⌝ }
     {
-        let blank = Station::new(blank());
+        let blank = blank();
         Bus {
             controller: c,
-            stations: [blank; 16],
+            units: [blank; 16],
             count: 0,
         }
     }
 
     // With one unit more. A bus of sixteen stays as it is.
-    pub fn with(self, s: Station) -> Bus
-        ensures { λ r. ⌜ r ≡ withStation self s ⌝ }
+    pub fn with(self, u: Unit) -> Bus
+        ensures { λ r. ⌜ r ≡ withUnit self u ⌝ }
     {
         let at = self.count;
         if at < 16 {
             let mut b = self;
-            b.stations[at as usize] = s;
+            b.units[at as usize] = u;
             b.count = at + 1;
             return b;
         }
@@ -101,59 +87,128 @@ impl Bus {
     pub fn levels(self) -> Lines
         ensures { λ r. ⌜ r ≡ levelsOf self ⌝ }
     {
-        let n = self.len();
+        let n = up_to_16(self.count);
         let mut l = controller::pulls(self.controller);
         let mut i = 0;
         while i < n {
-            let s = self.stations[i];
-            l = line::wired(l, unit::pulls(s.unit));
+            let u = self.units[i];
+            l = line::wired(l, unit::pulls(u));
             i += 1;
         }
         l
     }
 
-    // A round: bit i of busy says whether the host of unit i is busy, bit 16 whether the controller's is. The command's data and the
-    // response buffer are lent to the controller.
-    pub fn round(self, busy: u32, data: &[u8], response: &mut [u8]) -> Rounded
-        ensures { λ r. ⌜ (r .bus ≡ roundOf self busy (now («data» .entry)) (now (response .entry))) × ((stepped (r .outcome) ≡ outcomeOf self busy (now («data» .entry)) (now (response .entry))) × (now (response .exit) ≡ responseOf self busy (now («data» .entry)) (now (response .entry)))) ⌝ }
+    // A round of every party at the levels `seen`: those of `levels` on a bus without faults. Bit i of busy says whether the host of
+    // unit i is busy, bit 16 whether the controller's is. The command's data and the response buffer are lent to the controller, and
+    // 768 bytes of the memory to each unit, in the units' order: command buffer, input queue, output queue.
+    pub fn round(
+        self,
+        seen: Lines,
+        busy: u32,
+        data: &[u8],
+        response: &mut [u8],
+        memory: &mut [u8; 12288],
+    ) -> Rounded
+        ensures { λ r. ⌜ r .bus ≡ roundOf self seen busy (now («data» .entry)) (now (response .entry)) (now (memory .entry)) ⌝ }
+        ensures { λ r. ⌜ stepped (r .outcome) ≡ outcomeOf self seen busy (now («data» .entry)) (now (response .entry)) ⌝ }
+        ensures { λ r. ⌜ now (response .exit) ≡ responseOf self seen busy (now («data» .entry)) (now (response .entry)) ⌝ }
+        ensures { λ r. ⌜ now (memory .exit) ≡ memoryAfter self seen busy (now (memory .entry)) ⌝ }
     {
-        let seen = self.levels();
         let c = self.controller;
         let s = controller::step(c, seen, busy / 65536 % 2 == 1, data, response);
         let outcome = s.outcome;
         let next = s.controller;
-        let stations = self.stepped(seen, busy);
+        let before = self.units;
+        let units = units_after(before, up_to_16(self.count), seen, busy, memory);
         let bus = Bus {
             controller: next,
-            stations,
+            units,
             count: self.count,
         };
         Rounded { bus, outcome }
     }
+}
 
-    fn len(self) -> usize
-        ensures { λ r. ⌜ r ≡ counted self ⌝ }
-    {
-        let count = self.count;
-        if count < 16 { count as usize } else { 16 }
+// A round of the first n units, each in its own 768 bytes.
+fn units_after(units: [Unit; 16], n: usize, seen: Lines, busy: u32, memory: &mut [u8]) -> [Unit; 16]
+    requires { ⌜ n ≤ 16 ⌝ }
+    requires { ⌜ length (now memory) ≡ 12288 ⌝ }
+    ensures { λ r. ⌜ r ≡ unitsIn (unitsAfter seen busy (stationsOf (take n units) (now (memory .entry)))) ++ drop n units ⌝ }
+    ensures { λ r. ⌜ now (memory .exit) ≡ memoryOf (unitsAfter seen busy (stationsOf (take n units) (now (memory .entry)))) ++ drop (768 * n) (now (memory .entry)) ⌝ }
+{
+    let mut after = units;
+    let mut hosts = busy;
+    let mut at = 0;
+    let mut i = 0;
+    while i < n {
+        let u = after[i];
+        let end = at + 768;
+        after[i] = unit_round(u, seen, hosts % 2 == 1, &mut memory[at..end]);
+        hosts = hosts / 2;
+        at = end;
+        i += 1;
     }
+    after
+}
 
-    // A round of each unit.
-    fn stepped(self, seen: Lines, busy: u32) -> [Station; 16]
-        ensures { λ r. ⌜ r ≡ unitsAfter seen busy (unitsOf self) ++ drop (counted self) (self .stations) ⌝ }
-    {
-        let n = self.len();
-        let mut stations = self.stations;
-        let mut rest = busy;
-        let mut i = 0;
-        while i < n {
-            let s = stations[i];
-            stations[i] = s.step(seen, rest % 2 == 1);
-            rest = rest / 2;
-            i += 1;
-        }
-        stations
+// A round of a unit in its 768 bytes.
+fn unit_round(u: Unit, seen: Lines, busy: bool, memory: &mut [u8]) -> Unit
+    requires { ⌜ length (now memory) ≡ 768 ⌝ }
+    ensures { λ r. ⌜ r ≡ stationStep (stationAt u (now (memory .entry))) seen busy .unit ⌝ }
+    ensures { λ r. ⌜ now (memory .exit) ≡ bytesOf (stationStep (stationAt u (now (memory .entry))) seen busy) ⌝ }
+{
+    let mut buffer = copied(memory, 0);
+    let input = copied(memory, 256);
+    let mut output = copied(memory, 512);
+    let after = unit_after(u, seen, busy, &mut buffer, &input, &mut output);
+    put(&buffer, memory, 0);
+    put(&output, memory, 512);
+    after
+}
+
+// A unit after its step, or as it was before a refusal.
+fn unit_after(
+    u: Unit,
+    seen: Lines,
+    busy: bool,
+    buffer: &mut [u8; 256],
+    input: &[u8; 256],
+    output: &mut [u8; 256],
+) -> Unit
+    ensures { λ r. ⌜ r ≡ unitAfter (stepping u seen busy (now (buffer .entry)) (now (input .entry))) u ⌝ }
+    ensures { λ r. ⌜ now (buffer .exit) ≡ bufferAfter u seen busy (now (buffer .entry)) (now (input .entry)) ⌝ }
+    ensures { λ r. ⌜ now (output .exit) ≡ outputAfter u seen busy (now (buffer .entry)) (now (input .entry)) (now (output .entry)) ⌝ }
+{
+    match unit::step(u, seen, busy, buffer, input, output) {
+        Stepped::On(v) => v,
+        Stepped::Level => u,
+        Stepped::Buffer => u,
     }
+}
+
+// 256 bytes of a slice, from a place on.
+fn copied(s: &[u8], from: usize) -> [u8; 256]
+    requires { ⌜ from + 256 ≤ length (now s) ⌝ }
+    ensures { λ r. ⌜ r ≡ take 256 (drop from (now (s .entry))) ⌝ }
+{
+    let mut copy = [0u8; 256];
+    let end = from + 256;
+    bytes::copy(&s[from..end], &mut copy);
+    copy
+}
+
+// And back.
+fn put(part: &[u8; 256], s: &mut [u8], from: usize)
+    requires { ⌜ from + 256 ≤ length (now s) ⌝ }
+    ensures { λ r. ⌜ now (s .exit) ≡ take from (now (s .entry)) ++ (now (part .entry) ++ drop (from + 256) (now (s .entry))) ⌝ }
+{
+    bytes::copy(part, &mut s[from..]);
+}
+
+fn up_to_16(count: u8) -> usize
+    ensures { λ r. ⌜ r ≡ min count 16 ⌝ }
+{
+    if count < 16 { count as usize } else { 16 }
 }
 
 // What stands where no unit is.

@@ -1,20 +1,17 @@
 -- `Bus::new` meets its contract: sixteen slots without a unit.
-use mathlib.Core.Path.{_∙_, ap}
+use mathlib.Core.Path.{ap}
 use borrow.Author.Needs.{needs}
 use lib.ListN.{replicate}
-use Rattle.bus.specs.Bus.{newStation, busOf}
-use Rattle.bus.specs.declared.Station.{Station}
+use Rattle.unit.specs.declared.Unit.{Unit}
+use Rattle.bus.specs.Bus.{busOf}
 use Rattle.bus.proofs.Bus.new.Statement.{statement}
 use Rattle.bus.proofs.Bus.new.Tie as tie
 
 blank-requires : tie.Need-blank-requires
 blank-requires c κs = search needs
 
-new-requires : tie.Need-new-requires
-new-requires c κs = search needs
-
 returns : tie.Need-returns
-returns c = ap (λ (s : Station). busOf (c .before .before .args .c) (replicate 16 s) 0) (c .new .ensures ∙ ap newStation (c .before .blank .ensures))
+returns c = ap (λ (u : Unit). busOf (c .before .args .c) (replicate 16 u) 0) (c .blank .ensures)
 
 pub new-spec : {M : Type 1} → statement M
-new-spec = tie.close (tie.spec blank-requires new-requires returns)
+new-spec = tie.close (tie.spec blank-requires returns)

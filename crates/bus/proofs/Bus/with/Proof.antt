@@ -4,14 +4,14 @@ use Rattle.field.proofs.Rules.{tests}
 use Rattle.bus.proofs.Bus.with.Statement.{statement}
 use Rattle.bus.proofs.Bus.with.Tie as tie
 
-cast-s : tie.Need-cast-s
-cast-s c = search needs
+cast-u : tie.Need-cast-u
+cast-u c = search needs
 
-mul-s : tie.Need-mul-s
-mul-s c = search needs
+mul-u : tie.Need-mul-u
+mul-u c = search needs
 
-element-set-from-s : tie.Need-element-set-from-s
-element-set-from-s c = search needs
+element-set-from-u : tie.Need-element-set-from-u
+element-set-from-u c = search needs
 
 add-b : tie.Need-add-b
 add-b c = search needs
@@ -23,4 +23,4 @@ returns-2 : tie.Need-returns-2
 returns-2 c = simp (tests, c .if1 .left)
 
 pub with-spec : {M : Type 1} → statement M
-with-spec = tie.close (tie.spec cast-s mul-s element-set-from-s add-b returns returns-2)
+with-spec = tie.close (tie.spec cast-u mul-u element-set-from-u add-b returns returns-2)

@@ -1,54 +1,16 @@
--- `Station::step` meets its contract: the unit of an answer, or the one before a refusal.
+-- `Station::step` meets its contract: the unit's round in the memory beside it.
 use borrow.Author.Needs.{needs}
-use Rattle.bus.proofs.Laws.{unit-after, station-after}
 use Rattle.bus.proofs.Station.step.Statement.{statement}
 use Rattle.bus.proofs.Station.step.Tie as tie
 
-slice-aggregate-step : tie.Need-slice-aggregate-step
-slice-aggregate-step c = search needs
-
-step-requires : tie.Need-step-requires
-step-requires c κs = search needs
-
-enum-known-v : tie.Need-enum-known-v
-enum-known-v c = search needs
-
-enum-told : tie.Need-enum-told
-enum-told c = search needs
-
-enum-told-2 : tie.Need-enum-told-2
-enum-told-2 c = search needs
+unit-after-requires : tie.Need-unit-after-requires
+unit-after-requires c κs = search needs
 
 returns : tie.Need-returns
 returns c =
-    let at-step = c .before .before .before .before in
-    let a = at-step .before .before .before .before .before .before .before .before .args in
-    let e = at-step .step .ensures in
-    station-after (a .self) (a .seen) (a .busy) _ _ _ (unit-after (a .self .unit) (at-step .step .result) _ _ (e .0) (c .before .v .given .1)) (e .1 .0) (e .1 .1)
-
-returns-2 : tie.Need-returns-2
-returns-2 c =
-    let at-step = c .before .before .before in
-    let a = at-step .before .before .before .before .before .before .before .before .args in
-    let e = at-step .step .ensures in
-    station-after (a .self) (a .seen) (a .busy) _ _ _ (unit-after (a .self .unit) (at-step .step .result) _ _ (e .0) (c .enum-told .given .1)) (e .1 .0) (e .1 .1)
-
-returns-3 : tie.Need-returns-3
-returns-3 c =
-    let at-step = c .before .before .before in
-    let a = at-step .before .before .before .before .before .before .before .before .args in
-    let e = at-step .step .ensures in
-    station-after (a .self) (a .seen) (a .busy) _ _ _ (unit-after (a .self .unit) (at-step .step .result) _ _ (e .0) (c .enum-told2 .given .1)) (e .1 .0) (e .1 .1)
+    let input = c .before .before .before .before .before .before .before .before .args .self .input in
+    let e = c .unit-after .ensures in
+    λ k. record { unit = e .0 k; buffer = e .1 .0 k; input = input; output = e .1 .1 k }
 
 pub step-spec : {M : Type 1} → statement M
-step-spec =
-    tie.close
-    (tie.spec
-    slice-aggregate-step
-    step-requires
-    enum-known-v
-    enum-told
-    enum-told-2
-    returns
-    returns-2
-    returns-3)
+step-spec = tie.close (tie.spec unit-after-requires returns)

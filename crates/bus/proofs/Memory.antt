@@ -1,0 +1,91 @@
+-- A round leaves a unit's memory as long as it was: what is written goes into places that are there.
+use Prim.Native.Nat.{ℕ, _+_, _-_, _≤_}
+use native.Mathlib.Omega.{arith}
+use mathlib.Core.Path.{_≡_, refl, _∙_, ap}
+use mathlib.Core.Bool.{Bool, true, false, cond}
+use mathlib.Core.List.{List}
+use lib.ListN.{length, take, drop, length-set, length-drop}
+use lib.Seq.{length-take-le}
+use Rattle.field.specs.Field.{byteFrom}
+use Rattle.header.specs.declared.Header.{Header}
+use Rattle.line.specs.Line.{takenOf}
+use Rattle.line.specs.declared.Lines.{Lines}
+use Rattle.message.specs.Answer.{Answer, gives, refused, kept}
+use Rattle.phase.specs.Phase.{withByte, isStored, isLast, storedData, verdictOn, byteBuffer, byteOutput, phaseBuffer, phaseOutput}
+use Rattle.phase.specs.declared.Partial.{Partial}
+use Rattle.phase.specs.declared.Phase.{Phase}
+use Rattle.phase.specs.declared.Phase.the-variants.{Idle, Selecting, Receiving, Responding, SittingOut}
+use Rattle.phase.specs.declared.Progress.the-variants.{Taking, Answered}
+use Rattle.queue.proofs.Laws.{length-with}
+use Rattle.serial.specs.Serial.{outputAfter as effectOutput}
+use Rattle.serial.specs.declared.Effect.{Effect}
+use Rattle.serial.specs.declared.Effect.the-variants.{Keeps, Opens, Closes, Resets, Enables, Disables, Stores}
+use Rattle.serial.specs.declared.Serial.{Serial}
+use Rattle.unit.specs.Calls.{stepping, bufferAfter, outputAfter}
+use Rattle.unit.specs.Unit.{unitBuffer, unitOutput}
+use Rattle.unit.specs.declared.Unit.{Unit}
+
+either : (t : Bool) (a b l : List ℕ) → length a ≡ length l → length b ≡ length l → length (cond t a b) ≡ length l
+either true a b l p q = p
+either false a b l p q = q
+
+answered : (a : Answer Unit) (x l : List ℕ) → length x ≡ length l → length (kept a x l) ≡ length l
+answered (gives u) x l p = p
+answered (refused k) x l p = refl
+
+-- The command buffer.
+byte-length : (p : Partial) (b : ℕ) (buffer : List ℕ) → length (byteBuffer p b buffer) ≡ length buffer
+byte-length p b buffer =
+    let n = withByte (p .header) (p .place) b .«data_length» in
+    either (isStored n (p .place)) _ buffer buffer (length-set buffer (p .place - 9) b) refl
+
+phase-length : (x : Phase) (seen : Lines) (buffer : List ℕ) → length (phaseBuffer x seen buffer) ≡ length buffer
+phase-length Idle seen buffer = refl
+phase-length (Selecting ear half low) seen buffer = refl
+phase-length (Receiving ear (Taking p)) seen buffer =
+    let b = byteFrom (p .low) (seen .nibble) in
+    either (takenOf ear (seen .hsk)) _ buffer buffer (either (p .half) (byteBuffer p b buffer) buffer buffer (byte-length p b buffer) refl) refl
+phase-length (Receiving ear (Answered reply)) seen buffer = refl
+phase-length (Responding reply i sender wait) seen buffer = refl
+phase-length (SittingOut last) seen buffer = refl
+
+pub buffer-length : (u : Unit) (seen : Lines) (busy : Bool) (buffer input : List ℕ) → length (bufferAfter u seen busy buffer input) ≡ length buffer
+buffer-length u seen busy buffer input =
+    answered (stepping u seen busy buffer input) (unitBuffer u seen buffer) buffer (either (seen .bav) (phaseBuffer (u .phase) seen buffer) buffer buffer (phase-length (u .phase) seen buffer) refl)
+
+-- The output queue's bytes.
+effect-length : (s : Serial) (e : Effect) (d bytes : List ℕ) → length (effectOutput s e d bytes) ≡ length bytes
+effect-length s Keeps d bytes = refl
+effect-length s (Opens m accepted) d bytes = refl
+effect-length s Closes d bytes = refl
+effect-length s Resets d bytes = refl
+effect-length s Enables d bytes = refl
+effect-length s Disables d bytes = refl
+effect-length s Stores d bytes = length-with bytes (s .output) d
+
+end-length : (s : Serial) (p : Partial) (b : ℕ) (buffer output : List ℕ) → length (byteOutput s p b buffer output) ≡ length output
+end-length s p b buffer output =
+    let h = withByte (p .header) (p .place) b in
+    let buffer′ = byteBuffer p b buffer in
+    either (isLast (h .«data_length») (p .place)) _ output output (effect-length s (verdictOn s h buffer′ .effect) (storedData (h .«data_length») buffer′) output) refl
+
+phase-output : (x : Phase) (s : Serial) (seen : Lines) (buffer output : List ℕ) → length (phaseOutput x s seen buffer output) ≡ length output
+phase-output Idle s seen buffer output = refl
+phase-output (Selecting ear half low) s seen buffer output = refl
+phase-output (Receiving ear (Taking p)) s seen buffer output =
+    let b = byteFrom (p .low) (seen .nibble) in
+    either (takenOf ear (seen .hsk)) _ output output (either (p .half) (byteOutput s p b buffer output) output output (end-length s p b buffer output) refl) refl
+phase-output (Receiving ear (Answered reply)) s seen buffer output = refl
+phase-output (Responding reply i sender wait) s seen buffer output = refl
+phase-output (SittingOut last) s seen buffer output = refl
+
+pub output-length : (u : Unit) (seen : Lines) (busy : Bool) (buffer input output : List ℕ) → length (outputAfter u seen busy buffer input output) ≡ length output
+output-length u seen busy buffer input output =
+    answered (stepping u seen busy buffer input) (unitOutput u seen buffer output) output
+    (either (seen .bav) (phaseOutput (u .phase) (u .serial) seen buffer output) output output (phase-output (u .phase) (u .serial) seen buffer output) refl)
+
+-- A part of 256 bytes of a unit's memory, and what a round makes of it.
+pub part-length : (k : ℕ) (m : List ℕ) {part : List ℕ} → length m ≡ 768 → k ≤ 512 → part ≡ take 256 (drop k m) → length part ≡ 256
+part-length k m h low e =
+    let l : length (drop k m) ≡ length m - k = length-drop k m in
+    ap length e ∙ length-take-le 256 (drop k m) (omega arith)
