@@ -357,7 +357,8 @@ pub fn raise(b: Bench, d: &mut [u64; 280], s: Statement) -> Bench {
 pub fn set(d: &mut [u64; 280], s: Statement) {
     let k = desk::host(d, s.value(0)) % 17;
     let rounds = s.value_or(2, 0) as u64;
-    match s.form {
+    let form = s.form;
+    match form {
         script::EACH => d[desk::ACKNOWLEDGES] = 1,
         script::BY_HAND => d[desk::ACKNOWLEDGES] = 0,
         script::BUSY => {

@@ -22,7 +22,8 @@ pub fn found(b: Bench, d: &[u64; 280], s: Statement) -> [u32; 16] {
     let looks = host::look(u);
     let mut f = [NONE; 16];
     f[0] = code;
-    match s.form {
+    let form = s.form;
+    match form {
         script::STATUS => f[0] = small(d[desk::STATUS]),
         script::REQUEST => f[0] = small(d[desk::REQUEST]),
         script::REQUESTS => f[0] = small(d[desk::REQUESTS]),
@@ -98,7 +99,8 @@ fn bus_found(b: Bench, d: &[u64; 280], s: Statement) -> [u32; 16] {
     let code = s.value(0);
     let looks = application::look(bus.controller);
     let mut f = [NONE; 16];
-    match s.form {
+    let form = s.form;
+    match form {
         script::LINES => f = lines_found(f, 0, crate::levels(b, d)),
         script::PULLS => {
             f[0] = code;

@@ -13,8 +13,6 @@ use script::Statement;
 use script::word;
 use script::word::NONE;
 
-// A script that is judged, by its name and its text: both are for what is said of a failure.
-
 // An expectation of numbers: those that the statement names, and those that were found. What it does not name is 0, and a nibble 15.
 pub fn numbers(
     d: &mut [u64; 280],
@@ -25,7 +23,8 @@ pub fn numbers(
     s: Statement,
     found: &[u32; 16],
 ) {
-    let lowest = match s.form {
+    let form = s.form;
+    let lowest = match form {
         script::PULLS => 3,
         script::LINES => 2,
         _ => 16,
@@ -43,10 +42,7 @@ pub fn numbers(
         held(d);
     } else {
         let mut page = [0u8; 4096];
-        let at = begun(&mut page, name, text, d[LINE], d[START]);
-        let n = page::words(&mut page, at, b"; found:");
-        let end = script::fault::statement(&mut page, n, forms, s.form, found);
-        failed(d, log, &mut page, end);
+        other_numbers(d, log, &mut page, forms, name, text, s.form, found);
     }
 }
 
@@ -70,10 +66,7 @@ pub fn bytes(
         held(d);
     } else {
         let mut page = [0u8; 4096];
-        let at = begun(&mut page, name, text, d[LINE], d[START]);
-        let k = page::words(&mut page, at, b"; found:");
-        let end = page::put_bytes(&mut page, k, crate::tell::front(found, 64));
-        failed(d, log, &mut page, end);
+        other_bytes(d, log, &mut page, name, text, found, false);
     }
 }
 
@@ -90,10 +83,7 @@ pub fn ring(
         held(d);
     } else {
         let mut page = [0u8; 4096];
-        let at = begun(&mut page, name, text, d[LINE], d[START]);
-        let k = page::words(&mut page, at, b"; found:");
-        let end = entries(&mut page, k, found);
-        failed(d, log, &mut page, end);
+        other_bytes(d, log, &mut page, name, text, found, true);
     }
 }
 
@@ -101,9 +91,9 @@ fn entries(page: &mut [u8; 4096], n: usize, found: &[u8]) -> usize {
     let mut at = n;
     let mut i = 0usize;
     while i < found.len() {
-        let b = found[i] as u64;
+        let b = found[i];
         if i % 2 == 0 {
-            let numbers = [b, 0, 0, 0];
+            let numbers = [wide(b), 0, 0, 0];
             at = page::fill(page, at, b" #", &numbers);
         } else if b == 1 {
             at = page::letter(page, at, b'*');
@@ -113,12 +103,26 @@ fn entries(page: &mut [u8; 4096], n: usize, found: &[u8]) -> usize {
     at
 }
 
+fn wide(b: u8) -> u64 {
+    b as u64
+}
+
 // Nothing has happened that the expectation could be about.
 pub fn missing(d: &mut [u64; 280], log: &mut [u8; 16384], name: &[u8], text: &[u8]) {
     let mut page = [0u8; 4096];
-    let at = begun(&mut page, name, text, d[LINE], d[START]);
-    let end = page::words(&mut page, at, b"; found: no command has ended");
-    failed(d, log, &mut page, end);
+    let line = d[LINE];
+    let start = d[START];
+    in_words(
+        d,
+        log,
+        &mut page,
+        name,
+        text,
+        line,
+        start,
+        b"; found: no command has ended",
+        0,
+    );
 }
 
 // Whether every byte from a place on is still EE.
@@ -149,15 +153,90 @@ pub fn settled(d: &mut [u64; 280], log: &mut [u8; 16384], name: &[u8], text: &[u
         return;
     }
     let mut page = [0u8; 4096];
-    let at = begun(&mut page, name, text, d[PENDING_LINE], d[PENDING_START]);
-    let numbers = [what, 0, 0, 0];
-    let n = if what == UNREACHED {
-        page::words(&mut page, at, b"; not reached")
+    let line = d[PENDING_LINE];
+    let start = d[PENDING_START];
+    if what == UNREACHED {
+        in_words(
+            d,
+            log,
+            &mut page,
+            name,
+            text,
+            line,
+            start,
+            b"; not reached, and the next statement does not expect it",
+            0,
+        );
     } else {
-        page::fill(&mut page, at, b"; refusal #", &numbers)
+        in_words(
+            d,
+            log,
+            &mut page,
+            name,
+            text,
+            line,
+            start,
+            b"; refusal #, and the next statement does not expect it",
+            what,
+        );
+    }
+}
+
+// Numbers other than expected: the statement that would hold.
+fn other_numbers(
+    d: &mut [u64; 280],
+    log: &mut [u8; 16384],
+    page: &mut [u8; 4096],
+    forms: &[u8],
+    name: &[u8],
+    text: &[u8],
+    form: u32,
+    found: &[u32; 16],
+) {
+    let at = begun(page, name, text, d[LINE], d[START]);
+    let n = page::words(page, at, b"; found:");
+    let end = script::fault::statement(page, n, forms, form, found);
+    failed(d, log, page, end);
+}
+
+// Bytes other than expected, or entries of the ring.
+fn other_bytes(
+    d: &mut [u64; 280],
+    log: &mut [u8; 16384],
+    page: &mut [u8; 4096],
+    name: &[u8],
+    text: &[u8],
+    found: &[u8],
+    is_ring: bool,
+) {
+    let at = begun(page, name, text, d[LINE], d[START]);
+    let n = page::words(page, at, b"; found:");
+    let end = if found.len() == 0 {
+        page::words(page, n, b" nothing")
+    } else if is_ring {
+        entries(page, n, found)
+    } else {
+        page::put_bytes(page, n, crate::tell::front(found, 64))
     };
-    let end = page::words(&mut page, n, b", and the next statement does not expect it");
-    failed(d, log, &mut page, end);
+    failed(d, log, page, end);
+}
+
+// A failure of a line, in words with a number among them.
+fn in_words(
+    d: &mut [u64; 280],
+    log: &mut [u8; 16384],
+    page: &mut [u8; 4096],
+    name: &[u8],
+    text: &[u8],
+    line: u64,
+    start: u64,
+    words: &[u8],
+    number: u64,
+) {
+    let numbers = [number, 0, 0, 0];
+    let at = begun(page, name, text, line, start);
+    let end = page::fill(page, at, words, &numbers);
+    failed(d, log, page, end);
 }
 
 // Script, line and statement of a failure, at the front of a page.

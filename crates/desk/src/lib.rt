@@ -150,16 +150,14 @@ pub const UNREACHED: u64 = 99;
 // A host that is busy for so many rounds is busy for ever.
 pub const FOR_EVER: u64 = 1000000000000;
 
-// The numbers before the first statement.
-pub fn start(d: &mut [u64; 280], out: u64, dump: u64, pictured: u64) {
+// The numbers before the first statement, among others that are 0.
+pub fn start(d: &mut [u64; 280]) {
     d[STATUS] = OTHER as u64;
     d[REQUEST] = OTHER as u64;
     d[LENT] = 65535;
     d[LINE] = 1;
     d[PASS] = script::word::NONE as u64;
-    d[OUT] = out;
-    d[DUMP] = dump;
-    d[PICTURED] = pictured;
+    d[OUT] = 1;
 }
 
 // The descriptor that is written to.
@@ -225,21 +223,21 @@ pub fn busy_hosts(d: &mut [u64; 280]) -> u32 {
         return 0;
     }
     let mut hosts = 0u32;
-    let mut i = 17usize;
-    while 0 < i {
-        i -= 1;
-        let k = i % 17;
+    let mut i = 0usize;
+    while i < 17 {
+        let k = 16 - i;
         let free = d[FREE + k];
         let since = d[SINCE + k] % 1000000000 + 1;
         let busy = d[BUSY + k];
-        let is_busy = (0 < busy) | ((0 < free) & (since < free));
-        hosts = hosts % 65536 * 2 + if is_busy { 1 } else { 0 };
+        let is_busy = (0 < busy) | (since < free);
+        hosts = hosts % 65536 * 2 + is_busy as u32 % 2;
         d[SINCE + k] = if since < free { since } else { 0 };
-        d[BUSY + k] = if (0 < busy) & (busy < FOR_EVER) {
-            busy - 1
-        } else {
-            busy
-        };
+        if 0 < busy {
+            if busy < FOR_EVER {
+                d[BUSY + k] = busy - 1;
+            }
+        }
+        i += 1;
     }
     hosts
 }

@@ -32,7 +32,7 @@ pub fn with(d: &mut [u64; 280], s: Statement) -> u32 {
         d[BEGUN] = 1;
     }
     match what {
-        b'c' => if 0 < d[BEGUN] + d[COUNT] % 256 + d[STAND_INS] % 256 {
+        b'c' => if (0 < d[BEGUN]) | (0 < d[COUNT]) | (0 < d[STAND_INS]) {
             1
         } else {
             0
@@ -141,7 +141,8 @@ pub fn past_line(d: &mut [u64; 280]) {
 // Behind a statement: the next line, or at the end of a repeat its first line again.
 pub fn past(d: &mut [u64; 280], s: Statement) {
     past_line(d);
-    match s.form {
+    let form = s.form;
+    match form {
         script::REPEAT => {
             d[LOOP] = d[NEXT];
             d[LOOP_LINE] = d[LINE];

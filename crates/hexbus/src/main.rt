@@ -17,6 +17,15 @@ struct Wanted {
     is_wrong: bool,
 }
 
+// How the scripts so far have gone: whether all were played whole and no expectation failed, the expectations, and how many letters of
+// failures are kept.
+struct Tally {
+    is_good: bool,
+    held: u64,
+    failed: u64,
+    logged: usize,
+}
+
 fn main() {
     let mut forms = [0u8; 4096];
     let n = script::forms(&mut forms);
@@ -133,15 +142,42 @@ fn wrong(words: &[u8], word: &[u8]) -> bool {
 fn scripts(forms: &[u8], w: Wanted, text: &mut [u8; 1048577]) -> bool {
     let mut bytes = [0u8; 135168];
     let mut response = [0u8; 65536];
+    let mut log = [0u8; 16384];
+    each(forms, w, text, &mut bytes, &mut response, &mut log)
+}
+
+fn each(
+    forms: &[u8],
+    w: Wanted,
+    text: &mut [u8; 1048577],
+    bytes: &mut [u8; 135168],
+    response: &mut [u8; 65536],
+    log: &mut [u8; 16384],
+) -> bool {
     let n = os::arg_count();
-    let mut ok = true;
+    let mut all = Tally {
+        is_good: true,
+        held: 0,
+        failed: 0,
+        logged: 0,
+    };
     let mut i = 2usize;
     while i < n {
-        let good = named(forms, w, i, text, &mut bytes, &mut response);
-        ok = ok & good;
+        all = named(forms, w, i, all, text, bytes, response, log);
         i += 1;
     }
-    ok
+    if !all.is_good {
+        page::say(STDOUT_FILENO, desk::tell::front(log, all.logged));
+    }
+    page::tell(
+        STDOUT_FILENO,
+        b"scripts #, expectations held #, failed #\n",
+        w.scripts as u64,
+        all.held,
+        all.failed,
+        0,
+    );
+    all.is_good
 }
 
 // The script that a word names; an option is passed over.
@@ -149,28 +185,44 @@ fn named(
     forms: &[u8],
     w: Wanted,
     i: usize,
+    all: Tally,
     text: &mut [u8; 1048577],
     bytes: &mut [u8; 135168],
     response: &mut [u8; 65536],
-) -> bool {
+    log: &mut [u8; 16384],
+) -> Tally {
     let mut name = [0u8; 4096];
     let n = os::arg(i, &mut name);
     let word = &name[..n];
     if is_option(word) | (w.dump == i) {
-        return true;
+        return all;
     }
     let length = load(word, text);
     if length == 0 {
-        return false;
+        return not_run(all, word, log);
     }
     played(
         forms,
         w,
         word,
+        all,
         desk::tell::front(text, length),
         bytes,
         response,
+        log,
     )
+}
+
+// A script that was not run is a failure.
+fn not_run(all: Tally, name: &[u8], log: &mut [u8]) -> Tally {
+    let a = page::words(log, all.logged, b"FAILS ");
+    let b = page::shown(log, a, name);
+    Tally {
+        is_good: false,
+        held: all.held,
+        failed: all.failed,
+        logged: page::words(log, b, b": it was not run\n"),
+    }
 }
 
 // Reads a script and ends its last line; 0 where it cannot be had whole, which is said.
@@ -210,52 +262,60 @@ fn played(
     forms: &[u8],
     w: Wanted,
     name: &[u8],
+    all: Tally,
     text: &[u8],
     bytes: &mut [u8; 135168],
     response: &mut [u8; 65536],
-) -> bool {
+    log: &mut [u8; 16384],
+) -> Tally {
     let mut plan = [0u64; 280];
-    desk::start(&mut plan, 0, 0, 0);
     let faults = play::faults(forms, name, text, &mut plan, bytes);
     if 0 < faults {
         page::show(STDOUT_FILENO, name);
         page::say(STDOUT_FILENO, b": nothing was run\n\n");
-        return false;
+        return not_run(all, name, log);
     }
     let dump = open_dump(w.dump);
     if dump < 0 {
-        return false;
+        return not_run(all, name, log);
     }
     page::show(STDOUT_FILENO, name);
     page::say(STDOUT_FILENO, b"\n");
     let mut d = [0u64; 280];
-    desk::start(&mut d, 1, (dump % 65536) as u64, w.pictured);
+    d[desk::DUMP] = (dump % 65536) as u64;
+    d[desk::PICTURED] = w.pictured;
+    d[desk::LOGGED] = all.logged as u64;
+    lent(forms, name, text, &mut d, bytes, response, log);
+    summary(name, all, &d)
+}
+
+// The memory of units and of notes, for one script.
+fn lent(
+    forms: &[u8],
+    name: &[u8],
+    text: &[u8],
+    d: &mut [u64; 280],
+    bytes: &mut [u8; 135168],
+    response: &mut [u8; 65536],
+    log: &mut [u8; 16384],
+) {
     let mut memory = [0xEEu8; 12288];
     let mut notes = [0u8; 8192];
-    let mut log = [0u8; 16384];
     play::whole(
         forms,
         name,
         text,
-        &mut d,
+        d,
         bytes,
         response,
         &mut memory,
         &mut notes,
-        &mut log,
+        log,
     );
-    summary(name, &d, &log)
 }
 
-// What a script has come to: its failures again, and the counts.
-fn summary(name: &[u8], d: &[u64; 280], log: &[u8]) -> bool {
-    if 0 < d[desk::FAILED] {
-        page::say(STDOUT_FILENO, b"\n");
-        page::say(
-            STDOUT_FILENO,
-            desk::tell::front(log, d[desk::LOGGED] as usize),
-        );
-    }
+// What a script has come to, behind those before it.
+fn summary(name: &[u8], all: Tally, d: &[u64; 280]) -> Tally {
     page::show(STDOUT_FILENO, name);
     page::tell(
         STDOUT_FILENO,
@@ -271,7 +331,13 @@ fn summary(name: &[u8], d: &[u64; 280], log: &[u8]) -> bool {
             b"hexbus: the waveform could not be written\n",
         );
     }
-    (d[desk::FAILED] == 0) & (d[desk::DUMP_LOST] == 0)
+    let is_good = (d[desk::FAILED] == 0) & (d[desk::DUMP_LOST] == 0);
+    Tally {
+        is_good: all.is_good & is_good,
+        held: all.held % 1000000000 + d[desk::HELD] % 1000000000,
+        failed: all.failed % 1000000000 + d[desk::FAILED] % 1000000000,
+        logged: d[desk::LOGGED] as usize,
+    }
 }
 
 // The descriptor of the dump that a word names; 0 where none does, -1 where it cannot be had. What is no dump is not overwritten.

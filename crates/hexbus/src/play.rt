@@ -25,6 +25,7 @@ pub fn faults(
     d: &mut [u64; 280],
     bytes: &mut [u8; 135168],
 ) -> u64 {
+    desk::start(d);
     let mut statements = 0u64;
     let mut i = 0u64;
     while i < 1000000000 {
@@ -119,6 +120,7 @@ pub fn whole(
     notes: &mut [u8; 8192],
     log: &mut [u8; 16384],
 ) {
+    desk::start(d);
     let mut b = calls::start();
     let mut i = 0u64;
     while i < 1000000000 {
@@ -189,7 +191,8 @@ fn acted(
 ) -> Bench {
     desk::refused(d, 0);
     d[desk::REACHED] = 1;
-    match s.form {
+    let form = s.form;
+    match form {
         script::DO => done(b, d, s, bytes, response, memory, notes),
         script::ENDED => run(
             b,
@@ -244,7 +247,8 @@ fn called(
     memory: &mut [u8; 12288],
     notes: &mut [u8; 8192],
 ) -> Bench {
-    match s.form {
+    let form = s.form;
+    match form {
         script::SUBMIT => calls::submit(b, d, s, bytes, response),
         script::FORCE => calls::submit(b, d, s, bytes, response),
         script::ANSWER => calls::answer(b, d, s, bytes),
@@ -264,7 +268,8 @@ fn called(
 }
 
 fn set(b: Bench, d: &mut [u64; 280], s: Statement) -> Bench {
-    match s.form {
+    let form = s.form;
+    match form {
         script::CONTROLLER => calls::make_controller(b, d, s.value_or(0, application::TIMEOUT)),
         script::UNIT => calls::make_unit(b, d, s),
         script::STAND_IN => calls::make_stand_in(b, d, s),
@@ -417,7 +422,8 @@ fn expected(
     notes: &mut [u8; 8192],
 ) {
     let wanted = tell::front(bytes, s.length);
-    match s.form {
+    let form = s.form;
+    match form {
         script::RING => {
             let n = look::entries(b.bus, notes);
             judge::ring(

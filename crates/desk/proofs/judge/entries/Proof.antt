@@ -1,0 +1,65 @@
+-- What is left to go through grows less.
+use borrow.Author.Needs.{needs}
+use Prim.Native.Nat.{_-_}
+use lib.ListN.{length}
+use native.Mathlib.Omega.{arith}
+use Rattle.desk.proofs.judge.entries.Statement.{statement}
+use Rattle.desk.proofs.judge.entries.Tie as tie
+use Rattle.desk.proofs.judge.entries.Reads as reads
+use Rattle.desk.proofs.judge.entries.Lts as lts
+use Rattle.desk.proofs.judge.wide.Reads as wide-reads
+use Rattle.page.proofs.fill.Reads as fill-reads
+use Rattle.page.proofs.letter.Reads as letter-reads
+
+abbrev Inv-loop : tie.InvT-loop
+Inv-loop page₀ n found at₀ i₀ t8 page at i = Unit {0}
+
+abbrev μ-loop : tie.MeasureT-loop
+μ-loop page₀ n found at₀ i₀ t8 page at i = length found - i
+
+loop-holds : tie.Need-loop-holds Inv-loop μ-loop
+loop-holds c = search needs
+
+shared-slice-read-b : tie.Need-shared-slice-read-b Inv-loop μ-loop
+shared-slice-read-b c = search needs
+
+wide-requires : tie.Need-wide-requires Inv-loop μ-loop
+wide-requires c κs = search needs
+
+slice-aggregate-fill : tie.Need-slice-aggregate-fill Inv-loop μ-loop
+slice-aggregate-fill c = search needs
+
+fill-requires : tie.Need-fill-requires Inv-loop μ-loop
+fill-requires c κs = search needs
+
+letter-requires : tie.Need-letter-requires Inv-loop μ-loop
+letter-requires c κs = search needs
+
+add-i : tie.Need-add-i Inv-loop μ-loop
+add-i c = search needs
+
+loop-less : tie.Need-loop-less Inv-loop μ-loop
+loop-less c = search needs
+
+loop-again : tie.Need-loop-again Inv-loop μ-loop
+loop-again c = search needs
+
+returns : tie.Need-returns Inv-loop μ-loop
+returns c = search needs
+
+pub entries-spec : {M : Type 1} → statement M
+entries-spec =
+    tie.close
+    (tie.spec
+    Inv-loop
+    μ-loop
+    loop-holds
+    shared-slice-read-b
+    wide-requires
+    slice-aggregate-fill
+    fill-requires
+    letter-requires
+    add-i
+    loop-less
+    loop-again
+    returns)
