@@ -138,8 +138,8 @@ pub round-in-parts : (u : Unit) (seen : Lines) (busy : Bool) (m b i o b′ o′ 
     → (r ≡ stationStep (stationAt u m) seen busy .unit) × (q ≡ bytesOf (stationStep (stationAt u m) seen busy))
 round-in-parts u seen busy m b i o b′ o′ p q hm eb ei eo er eb′ eo′ ep eq =
     let its : _≡_ {A = Station} (record { unit = u; buffer = b; input = i; output = o }) (stationAt u m) = λ k. record { unit = u; buffer = eb k; input = ei k; output = eo k } in
-    let b-256 : length b′ ≡ 256 = ap length eb′ ∙ buffer-length u seen busy b i ∙ part-length 0 m hm (omega arith) eb in
-    let o-256 : length o′ ≡ 256 = ap length eo′ ∙ output-length u seen busy b i o ∙ part-length 512 m hm (omega arith) eo in
+    let b-256 : length b′ ≡ 256 = ap length eb′ ∙ buffer-length u seen busy b i ∙ part-length 0 m (omega arith) eb in
+    let o-256 : length o′ ≡ 256 = ap length eo′ ∙ output-length u seen busy b i o ∙ part-length 512 m (omega arith) eo in
     let b-is : b′ ≡ stationStep (stationAt u m) seen busy .buffer = eb′ ∙ ap (λ (s : Station). stationStep s seen busy .buffer) its in
     let o-is : o′ ≡ stationStep (stationAt u m) seen busy .output = eo′ ∙ ap (λ (s : Station). stationStep s seen busy .output) its in (
       er ∙ ap (λ (s : Station). stationStep s seen busy .unit) its,
