@@ -2,16 +2,15 @@
 use Prim.Native.Nat.{ℕ, suc, _+_, _-_, _*_, _/_, _≤_, _<_}
 use native.Mathlib.Nat.{sub-zero}
 use native.Mathlib.Omega.{arith}
-use mathlib.Core.Path.{_≡_, refl, sym, _∙_, ap, ap₂}
+use mathlib.Core.Path.{_≡_, sym, _∙_, ap, ap₂}
 use mathlib.Core.Bool.{Bool}
 use mathlib.Core.List.{List, [], _∷_, _++_, append-assoc, append-nil}
 use borrow.Rule.Slice.PartMut.{midOf, putMid, drop-put, mid-len}
 use lib.ListN.{length, take, drop, getD, set, take-append-drop, length-append, length-drop, drop-of-length-le}
-use lib.Seq.{drop-cons, drop-drop, drop-at, drop-set-lt, take-add, take-all, take-at, take-length, take-take, take-append-add, take-suc-set, length-take-le, append-snoc}
+use lib.Seq.{drop-cons, drop-drop, drop-at, drop-set-lt, take-add, take-at, take-length, take-take, take-append-add, take-suc-set, length-take-le, append-snoc}
 use Rattle.line.specs.Line.{wired}
 use Rattle.line.specs.declared.Lines.{Lines}
 use Rattle.message.specs.Answer.{Answer}
-use Rattle.ring.proofs.Laws.{front-length}
 use Rattle.unit.specs.Calls.{stepping, stepped, bufferAfter, outputAfter}
 use Rattle.unit.specs.Unit.{pullsOf}
 use Rattle.unit.specs.declared.Stepped.{Stepped}
@@ -29,7 +28,7 @@ levels-next l us i d h = ap (levelsLeft l) (drop-cons us i d h)
 drop-take : (n k : ℕ) (l : List ℕ) → n ≤ length l → drop n (take (n + k) l) ≡ take k (drop n l)
 drop-take n k l h = ap (drop n) (take-add n k l) ∙ drop-at (take n l) (take k (drop n l)) n (length-take-le n l h)
 
-pub part-alone : (u : Unit) (m : List ℕ) → 768 ≤ length m → stationAt u (take 768 m) ≡ stationAt u m
+part-alone : (u : Unit) (m : List ℕ) → 768 ≤ length m → stationAt u (take 768 m) ≡ stationAt u m
 part-alone u m h = λ k. record {
   unit = u;
   buffer = take-take 256 768 m (omega arith) k;
@@ -49,10 +48,10 @@ abbrev pub whole-memory : Lines → ℕ → ℕ → ℕ → ℕ → List Unit �
 whole-memory seen busy n i at us m = take at m ++ (memoryOf (to-step seen busy n i at us m) ++ drop (768 * n) m)
 
 module _ (seen : Lines) (busy n i at : ℕ) (us : List Unit) (m : List ℕ) (d : Unit) (below : i < n) (enough : n ≤ length us) (place : at ≡ 768 * i) (room : 768 * n ≤ length m) where
+  -- What the unit at place i becomes.
   abbrev pub next : Station
   next = stationStep (stationAt (getD us i d) (midOf at (at + 768 - at) m)) seen (isOdd busy)
 
-  -- Place i steps, and those behind it are left.
   next-steps : to-step seen busy n i at us m ≡ next ∷ to-step seen (busy / 2) n (suc i) (at + 768) us m
   next-steps =
       let one : n - i ≡ suc (n - suc i) = omega arith in
@@ -65,6 +64,7 @@ module _ (seen : Lines) (busy n i at : ℕ) (us : List Unit) (m : List ℕ) (d :
       ∙ ap (λ (r : List Unit). unitsAfter seen busy (stationsOf (take (suc (n - suc i)) r) (drop at m))) (drop-cons us i d (omega arith))
       ∙ ap₂ (λ (s : Station) (r : List ℕ). stationStep s seen (isOdd busy) ∷ unitsAfter seen (busy / 2) (stationsOf (take (n - suc i) (drop (suc i) us)) r)) its (drop-drop 768 at m)
 
+  -- With it in its place, and its bytes in theirs, those behind it are left.
   module _ (v : Unit) (ys : List ℕ) (its : v ≡ next .unit) (bytes : ys ≡ bytesOf next) (full : length ys ≡ length (midOf at (at + 768 - at) m)) where
     abbrev units′ : List Unit
     units′ = set us i v
@@ -121,7 +121,7 @@ module _ (seen : Lines) (busy n : ℕ) (us : List Unit) (m : List ℕ) where
   memory-end i at h e = let none : n - i ≡ 0 = omega arith in sym (rw (none, e) (take-append-drop (768 * n) m))
 
 -- A unit's memory with its command buffer and its output queue put back.
-pub put-back : (m b o p q : List ℕ) → length m ≡ 768 → length b ≡ 256 → p ≡ b ++ drop 256 m → length o ≡ 256 → q ≡ take 512 p ++ (o ++ drop 768 p)
+put-back : (m b o p q : List ℕ) → length m ≡ 768 → length b ≡ 256 → p ≡ b ++ drop 256 m → length o ≡ 256 → q ≡ take 512 p ++ (o ++ drop 768 p)
     → q ≡ b ++ (take 256 (drop 256 m) ++ o)
 put-back m b o p q hm hb first ho second =
     let front : take 512 p ≡ b ++ take 256 (drop 256 m) =
@@ -138,8 +138,8 @@ pub round-in-parts : (u : Unit) (seen : Lines) (busy : Bool) (m b i o b′ o′ 
     → (r ≡ stationStep (stationAt u m) seen busy .unit) × (q ≡ bytesOf (stationStep (stationAt u m) seen busy))
 round-in-parts u seen busy m b i o b′ o′ p q hm eb ei eo er eb′ eo′ ep eq =
     let its : _≡_ {A = Station} (record { unit = u; buffer = b; input = i; output = o }) (stationAt u m) = λ k. record { unit = u; buffer = eb k; input = ei k; output = eo k } in
-    let b-256 : length b′ ≡ 256 = ap length eb′ ∙ buffer-length u seen busy b i ∙ part-length 0 m hm (omega arith) eb in
-    let o-256 : length o′ ≡ 256 = ap length eo′ ∙ output-length u seen busy b i o ∙ part-length 512 m hm (omega arith) eo in
+    let b-256 : length b′ ≡ 256 = ap length eb′ ∙ buffer-length u seen busy b i ∙ part-length 0 m (omega arith) eb in
+    let o-256 : length o′ ≡ 256 = ap length eo′ ∙ output-length u seen busy b i o ∙ part-length 512 m (omega arith) eo in
     let b-is : b′ ≡ stationStep (stationAt u m) seen busy .buffer = eb′ ∙ ap (λ (s : Station). stationStep s seen busy .buffer) its in
     let o-is : o′ ≡ stationStep (stationAt u m) seen busy .output = eo′ ∙ ap (λ (s : Station). stationStep s seen busy .output) its in (
       er ∙ ap (λ (s : Station). stationStep s seen busy .unit) its,

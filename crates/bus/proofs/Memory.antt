@@ -1,11 +1,11 @@
--- A round leaves a unit's memory as long as it was: what is written goes into places that are there.
-use Prim.Native.Nat.{ℕ, _+_, _-_, _≤_}
+-- A round leaves each part of a unit's memory as long as it was, so that units are found again in the memory after it.
+use Prim.Native.Nat.{ℕ, suc, _+_, _-_, _*_, _/_, _≤_}
 use native.Mathlib.Omega.{arith}
-use mathlib.Core.Path.{_≡_, refl, _∙_, ap}
+use mathlib.Core.Path.{_≡_, refl, sym, _∙_, ap, ap₂}
 use mathlib.Core.Bool.{Bool, true, false, cond}
-use mathlib.Core.List.{List}
-use lib.ListN.{length, take, drop, length-set, length-drop}
-use lib.Seq.{length-take-le}
+use mathlib.Core.List.{List, [], _∷_, _++_, append-assoc}
+use lib.ListN.{length, take, drop, length-append, length-set, length-drop}
+use lib.Seq.{length-take-le, take-at, drop-at}
 use Rattle.field.specs.Field.{byteFrom}
 use Rattle.header.specs.declared.Header.{Header}
 use Rattle.line.specs.Line.{takenOf}
@@ -24,6 +24,8 @@ use Rattle.serial.specs.declared.Serial.{Serial}
 use Rattle.unit.specs.Calls.{stepping, bufferAfter, outputAfter}
 use Rattle.unit.specs.Unit.{unitBuffer, unitOutput}
 use Rattle.unit.specs.declared.Unit.{Unit}
+use Rattle.bus.specs.Bus.{stationStep, stationAt, stationsOf, unitsIn, bytesOf, memoryOf, isOdd, unitsAfter}
+use Rattle.bus.specs.declared.Station.{Station}
 
 either : (t : Bool) (a b l : List ℕ) → length a ≡ length l → length b ≡ length l → length (cond t a b) ≡ length l
 either true a b l p q = p
@@ -84,8 +86,50 @@ output-length u seen busy buffer input output =
     answered (stepping u seen busy buffer input) (unitOutput u seen buffer output) output
     (either (seen .bav) (phaseOutput (u .phase) (u .serial) seen buffer output) output output (phase-output (u .phase) (u .serial) seen buffer output) refl)
 
--- A part of 256 bytes of a unit's memory, and what a round makes of it.
-pub part-length : (k : ℕ) (m : List ℕ) {part : List ℕ} → length m ≡ 768 → k ≤ 512 → part ≡ take 256 (drop k m) → length part ≡ 256
-part-length k m h low e =
+-- A part of 256 bytes.
+pub part-length : (k : ℕ) (m : List ℕ) {part : List ℕ} → k + 256 ≤ length m → part ≡ take 256 (drop k m) → length part ≡ 256
+part-length k m h e =
     let l : length (drop k m) ≡ length m - k = length-drop k m in
     ap length e ∙ length-take-le 256 (drop k m) (omega arith)
+
+-- Units with their memory are found again in their bytes, whatever stands behind these.
+module _ (s : Station) (t : List ℕ) (b : length (s .buffer) ≡ 256) (i : length (s .input) ≡ 256) (o : length (s .output) ≡ 256) where
+  station-back : stationAt (s .unit) (bytesOf s ++ t) ≡ s
+  station-back =
+      let flat : bytesOf s ++ t ≡ s .buffer ++ (s .input ++ (s .output ++ t)) = simp append-assoc in
+      let two : length (s .buffer ++ s .input) ≡ 512 = length-append (s .buffer) (s .input) ∙ ap₂ (λ (x y : ℕ). x + y) b i in
+      ap (stationAt (s .unit)) flat
+      ∙ (λ k.
+      record {
+        unit = s .unit;
+        buffer = take-at (s .buffer) (s .input ++ (s .output ++ t)) 256 b k;
+        input = (ap (take 256) (drop-at (s .buffer) (s .input ++ (s .output ++ t)) 256 b) ∙ take-at (s .input) (s .output ++ t) 256 i) k;
+        output = (ap (λ (x : List ℕ). take 256 (drop 512 x)) (sym (append-assoc (s .buffer) (s .input) (s .output ++ t))) ∙ ap (take 256) (drop-at (s .buffer ++ s .input) (s .output ++ t) 512 two) ∙ take-at (s .output) t 256 o) k;
+      })
+
+  behind-station : drop 768 (bytesOf s ++ t) ≡ t
+  behind-station =
+      drop-at (bytesOf s) t 768 (length-append (s .buffer) (s .input ++ s .output) ∙ ap₂ (λ (x y : ℕ). x + y) b (length-append (s .input) (s .output) ∙ ap₂ (λ (x y : ℕ). x + y) i o))
+
+pub units-back : (seen : Lines) (busy : ℕ) (us : List Unit) (m rest : List ℕ) → 768 * length us ≤ length m
+    → let after = unitsAfter seen busy (stationsOf us m) in stationsOf (unitsIn after) (memoryOf after ++ rest) ≡ after
+units-back seen busy [] m rest h = refl
+units-back seen busy (u ∷ us) m rest h =
+    let x = stationStep (stationAt u m) seen (isOdd busy) in
+    let more = unitsAfter seen (busy / 2) (stationsOf us (drop 768 m)) in
+    let b : length (x .buffer) ≡ 256 = buffer-length u seen (isOdd busy) (take 256 m) (take 256 (drop 256 m)) ∙ part-length 0 m (omega arith) refl in
+    let i : length (x .input) ≡ 256 = part-length 256 m (omega arith) refl in
+    let o : length (x .output) ≡ 256 = output-length u seen (isOdd busy) (take 256 m) (take 256 (drop 256 m)) (take 256 (drop 512 m)) ∙ part-length 512 m (omega arith) refl in
+    let l : length (drop 768 m) ≡ length m - 768 = length-drop 768 m in
+    let t = memoryOf more ++ rest in
+    ap (λ (r : List ℕ). stationAt (x .unit) r ∷ stationsOf (unitsIn more) (drop 768 r)) (append-assoc (bytesOf x) (memoryOf more) rest)
+    ∙ (λ k. station-back x t b i o k ∷ (ap (stationsOf (unitsIn more)) (behind-station x t b i o) ∙ units-back seen (busy / 2) us (drop 768 m) rest (omega arith)) k)
+
+-- The units alone.
+pub units-alone : (us : List Unit) (m : List ℕ) → unitsIn (stationsOf us m) ≡ us
+units-alone [] m = refl
+units-alone (u ∷ us) m = ap (λ (r : List Unit). u ∷ r) (units-alone us (drop 768 m))
+
+pub units-length : (seen : Lines) (busy : ℕ) (us : List Unit) (m : List ℕ) → length (unitsIn (unitsAfter seen busy (stationsOf us m))) ≡ length us
+units-length seen busy [] m = refl
+units-length seen busy (u ∷ us) m = ap suc (units-length seen (busy / 2) us (drop 768 m))

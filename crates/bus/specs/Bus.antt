@@ -1,7 +1,7 @@
 -- Document 01, "Lines and rounds": a line is low if any party pulls it, and a released nibble reads 15. In a round each party steps
 -- once and sees the levels left by all pulls of the round before.
 use Prim.Native.Nat.{ℕ, _+_, _*_, _/_, _%_, min}
-use mathlib.Core.Bool.{Bool, cond, _||_}
+use mathlib.Core.Bool.{Bool, cond}
 use mathlib.Core.List.{List, [], _∷_, _++_, map}
 use lib.Dec.{ltb, eqb}
 use lib.ListN.{take, drop, set, replicate}

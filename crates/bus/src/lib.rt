@@ -197,7 +197,7 @@ fn copied(s: &[u8], from: usize) -> [u8; 256]
     copy
 }
 
-// And back.
+// Puts 256 bytes into a slice, from a place on.
 fn put(part: &[u8; 256], s: &mut [u8], from: usize)
     requires { ⌜ from + 256 ≤ length (now s) ⌝ }
     ensures { λ r. ⌜ now (s .exit) ≡ take from (now (s .entry)) ++ (now (part .entry) ++ drop (from + 256) (now (s .entry))) ⌝ }
@@ -205,6 +205,7 @@ fn put(part: &[u8; 256], s: &mut [u8], from: usize)
     bytes::copy(part, &mut s[from..]);
 }
 
+// A count of units: one over 16 is that of sixteen.
 fn up_to_16(count: u8) -> usize
     ensures { λ r. ⌜ r ≡ min count 16 ⌝ }
 {

@@ -1,31 +1,31 @@
--- The code's bus is a world, and its round the world's.
-use Prim.Native.Nat.{ℕ, zero, suc, _/_, _≤_}
+-- The code's bus is a world, and its round the world's: its units are found again in the memory after the round.
+use Prim.Native.Nat.{ℕ, _*_, _/_, _≤_}
 use native.Mathlib.Nat.{min-le-right, min-eq-left}
 use native.Mathlib.Omega.{arith}
-use mathlib.Core.Path.{_≡_, refl, _∙_, ap}
-use mathlib.Core.List.{List, [], _∷_, _++_}
+use mathlib.Core.Path.{_≡_, sym, _∙_, ap}
+use mathlib.Core.List.{List, _++_}
 use lib.ListN.{length, take, drop, length-take}
-use Rattle.bus.specs.Bus.{unitsAfter, isOdd, counted, unitsOf, responseOf}
-use Rattle.bus.specs.declared.Station.{Station}
+use lib.Seq.{take-at}
+use Rattle.bus.proofs.Memory.{units-back, units-alone, units-length}
+use Rattle.bus.specs.Bus.{stationsOf, unitsIn, unitsAfter, isOdd, counted, levelsLeft, levelsOf, unitsOf, memoryAfter}
+use Rattle.controller.specs.Calls.{controllerStepped, bufferAfter}
+use Rattle.frame.specs.Frame.{pullsOf}
 use Rattle.line.specs.declared.Lines.{Lines}
-use Rattle.delivery.specs.Lists.{here, there}
-use Rattle.delivery.specs.World.{levels, round, worldOf, TheBus}
-
-units-length : (seen : Lines) (hosts : ℕ) (ss : List Station) → length (unitsAfter seen hosts ss) ≡ length ss
-units-length seen hosts [] = refl
-units-length seen hosts (st ∷ ss) = ap suc (units-length seen (hosts / 2) ss)
-
-take-front {ℓ} : {A : Type ℓ} (n : ℕ) (xs ys : List A) → length xs ≡ n → take n (xs ++ ys) ≡ xs
-take-front zero [] ys e = refl
-take-front (suc n) [] ys e = absurd (omega arith)
-take-front zero (x ∷ xs) ys e = absurd (omega arith)
-take-front {A = A} (suc n) (x ∷ xs) ys e = ap (λ (l : List A). x ∷ l) (take-front n xs ys (omega arith))
+use Rattle.unit.specs.declared.Unit.{Unit}
+use Rattle.delivery.specs.World.{World, TheBus}
 
 pub the-bus : TheBus
-the-bus b busy lent response sixteen =
+the-bus b busy lent response memory sixteen room =
     let n = counted b in
-    let w = worldOf b lent response in
+    let us = take n (b .units) in
+    let seen = levelsOf b in
+    let here = isOdd (busy / 65536) in
     let most : n ≤ 16 = min-le-right (b .count) 16 in
-    let l : length (take n (b .stations)) ≡ n = length-take n (b .stations) ∙ min-eq-left (omega arith) in
-    let u : take n (unitsAfter (levels w) busy (unitsOf b) ++ drop n (b .stations)) ≡ unitsAfter (levels w) busy (unitsOf b) = take-front n (unitsAfter (levels w) busy (unitsOf b)) (drop n (b .stations)) (units-length (levels w) busy (unitsOf b) ∙ l) in
-    λ k. record { controller = round w (record { here = isOdd (busy / 65536); there = busy }) .controller; units = u k; lent = lent; response = responseOf b busy lent response }
+    let l : length us ≡ n = length-take n (b .units) ∙ min-eq-left (omega arith) in
+    let after = unitsAfter seen busy (unitsOf b memory) in
+    let at : Lines → World = λ x. record { controller = controllerStepped (b .controller) x here lent response; units = unitsAfter x busy (unitsOf b memory); lent = lent; response = bufferAfter (b .controller) x here lent response } in
+    let front : take n (unitsIn after ++ drop n (b .units)) ≡ unitsIn after = take-at (unitsIn after) (drop n (b .units)) n (units-length seen busy us memory ∙ l) in
+    let units : stationsOf (take n (unitsIn after ++ drop n (b .units))) (memoryAfter b seen busy memory) ≡ after =
+    ap (λ (x : List Unit). stationsOf x (memoryAfter b seen busy memory)) front ∙ units-back seen busy us memory (drop (768 * n) memory) (omega arith) in
+    (λ k. record { controller = at seen .controller; units = units k; lent = lent; response = at seen .response })
+    ∙ ap (λ (x : List Unit). at (levelsLeft (pullsOf (b .controller .stage)) x)) (sym (units-alone us memory))

@@ -7,7 +7,7 @@ use mathlib.Core.Path.{_≡_}
 use mathlib.Core.List.{List, [], _∷_}
 use lib.ListN.{length}
 use Rattle.delivery.specs.Lists.{All}
-use Rattle.bus.specs.Bus.{levelsWith, unitsAfter, stationStep, isOdd, unitsOf, roundOf, responseOf}
+use Rattle.bus.specs.Bus.{levelsWith, unitsAfter, stationStep, isOdd, unitsOf, levelsOf, roundOf, responseOf, memoryAfter}
 use Rattle.bus.specs.declared.Bus.{Bus}
 use Rattle.bus.specs.declared.Station.{Station}
 use Rattle.controller.specs.Calls.{controllerStepped, bufferAfter}
@@ -38,15 +38,20 @@ round w busy = record {
   response = bufferAfter (w .controller) (levels w) (busy .here) (w .lent) (w .response);
 }
 
--- The code's bus, of up to sixteen units, is such a world: its round is this one.
-abbrev pub worldOf : Bus → List ℕ → List ℕ → World
-worldOf b lent response = record { controller = b .controller; units = unitsOf b; lent = lent; response = response }
+-- The code's bus of up to sixteen units, run at its own levels, is such a world: its round is this one, memory included.
+abbrev pub worldOf : Bus → List ℕ → List ℕ → List ℕ → World
+worldOf b lent response memory = record { controller = b .controller; units = unitsOf b memory; lent = lent; response = response }
+
+abbrev pub worldAfter : Bus → ℕ → List ℕ → List ℕ → List ℕ → World
+worldAfter b busy lent response memory =
+    worldOf (roundOf b (levelsOf b) busy lent response memory) lent (responseOf b (levelsOf b) busy lent response) (memoryAfter b (levelsOf b) busy memory)
 
 abbrev pub TheBus : Type 0
 TheBus =
-    (b : Bus) (busy : ℕ) (lent response : List ℕ)
-    → length (b .stations) ≡ 16
-    → worldOf (roundOf b busy lent response) lent (responseOf b busy lent response) ≡ round (worldOf b lent response) (record { here = isOdd (busy / 65536); there = busy })
+    (b : Bus) (busy : ℕ) (lent response memory : List ℕ)
+    → length (b .units) ≡ 16
+    → length memory ≡ 12288
+    → worldAfter b busy lent response memory ≡ round (worldOf b lent response memory) (record { here = isOdd (busy / 65536); there = busy })
 
 -- In a round with these levels and hosts the unit `st` of a list becomes `after`.
 pub data Becomes (seen : Lines) : ℕ → List Station → Station → Station → Type 0 where
