@@ -118,7 +118,7 @@ pub fn submit(
     };
     let lent = (s.value_or(5, 65535) % 65536) as usize;
     let front = if opens { 3 } else { 0 };
-    let length = s.length % 65537 + front;
+    let length = s.length % 65537 + front % 4;
     let bus = b.bus;
     let c = bus.controller;
     let forced = s.form == script::FORCE;
@@ -152,13 +152,13 @@ pub fn submit(
 fn attributes_of(s: Statement) -> u32 {
     let relative = if s.has(10) { 0x20 } else { 0 };
     if s.has(6) {
-        return 0x40 + relative;
+        return 0x40 + relative % 64;
     }
     if s.has(7) {
-        return 0x80 + relative;
+        return 0x80 + relative % 64;
     }
     if s.has(8) {
-        return 0xC0 + relative;
+        return 0xC0 + relative % 64;
     }
     if s.has(9) { relative } else { 256 }
 }

@@ -63,7 +63,8 @@ fn stepped(
     let seen = levels(b, d);
     let before = stage_of(b.bus);
     let rounded = bus_round(b.bus, seen, hosts, d, bytes, response, memory);
-    let others = stand_ins(b.others, d[desk::STAND_INS], seen, notes, bytes);
+    let before_it = b.others;
+    let others = stand_ins(before_it, d[desk::STAND_INS], seen, notes, bytes);
     d[desk::ROUND] = d[desk::ROUND] % desk::FOR_EVER + 1;
     if 0 < d[desk::HOLD] {
         d[desk::HOLD] = d[desk::HOLD] - 1;

@@ -43,7 +43,7 @@ pub fn found(b: Bench, d: &[u64; 280], s: Statement) -> [u32; 16] {
         script::LOOKS => f = unit_found(u, code),
         script::PHASE => {
             let phase = u.phase;
-            f[1] = 256 + phase_found(phase);
+            f[1] = 256 + phase_found(phase) % 8;
         }
         _ => f = bus_found(b, d, s),
     }
@@ -180,13 +180,23 @@ pub fn units(b: Bench, d: &[u64; 280], forms: &[u8]) {
 
 // A unit in the words in which it is expected, and how many turns it had.
 fn show_unit(d: &[u64; 280], forms: &[u8], i: usize, u: Unit) {
-    let out = desk::out(d);
     let found = unit_found(u, u.own as u32);
     let mut page = [0u8; 4096];
-    let n = script::fault::statement(&mut page, 0, forms, script::LOOKS, &found);
-    page::tell(out, b"@", d[desk::ROUND], 0, 0, 0);
-    page::say(out, script::word::part(&page, 8, n));
-    page::tell(out, b" turns #\n", d[desk::TURNS + i % 16], 0, 0, 0);
+    unit_words(d, forms, &mut page, &found);
+    page::tell(
+        desk::out(d),
+        b" turns #\n",
+        d[desk::TURNS + i % 16],
+        0,
+        0,
+        0,
+    );
+}
+
+fn unit_words(d: &[u64; 280], forms: &[u8], page: &mut [u8; 4096], found: &[u32; 16]) {
+    let n = script::fault::statement(page, 0, forms, script::LOOKS, found);
+    page::tell(desk::out(d), b"@", d[desk::ROUND], 0, 0, 0);
+    page::say(desk::out(d), script::word::part(page, 8, n));
 }
 
 // A request is waited for from now on.

@@ -1,198 +1,185 @@
-// The lines as a value change dump, one time unit to a round. A wire is 1 while it is high. Beside the lines of the bus stand, for each
-// party, the lines as it leaves them: 0 where it pulls.
-use crate::CONTROLLER;
+// The lines as a value change dump, one time unit to a round. A wire is 1 while it is high. One scope has the lines of the bus, and one
+// for each party the lines as that party leaves them: 0 where it pulls. Wires are identified by the letter of their scope and their own.
 
-// The head of the dump of a bus with these units, to a descriptor.
-pub fn head(descriptor: u8, codes: &[u8; 16], count: usize) {
-    let mut page = [0u8; 4096];
-    let n = parties(&mut page, codes, count);
-    page::write(descriptor as i32, &page, n);
-}
-
-fn parties(page: &mut [u8], codes: &[u8; 16], count: usize) -> usize {
-    let bus = page::words(
-        page,
-        0,
-        b"$comment one time unit to a round; 0 is low, or pulled $end\n$timescale 1 us $end\n$scope module bus $end\n",
-    );
-    let controller = wires(page, bus, b'r');
-    let first = party(page, controller, b"controller", 0, b'q');
-    let end = units(page, first, codes, count);
-    page::words(page, end, b"$upscope $end\n$enddefinitions $end\n")
-}
-
-fn units(page: &mut [u8], n: usize, codes: &[u8; 16], count: usize) -> usize {
-    let mut at = n;
-    let mut i = 0;
-    while i < 16 {
-        at = unit(page, at, codes[i], i, count);
-        i += 1;
-    }
-    at
-}
-
-fn unit(page: &mut [u8], n: usize, code: u8, i: usize, count: usize) -> usize {
-    if i < count {
-        return party(page, n, b"unit_", code, letter(i));
-    }
-    n
-}
-
-// The letter that the wires of a party, or of the bus, are named by.
-fn letter(i: usize) -> u8 {
-    b'a' + (i % 18) as u8
-}
-
-fn party(page: &mut [u8], n: usize, name: &[u8], code: u8, id: u8) -> usize {
-    let scope = page::words(page, n, b"$scope module ");
-    let named = page::words(page, scope, name);
-    let coded = code_if_any(page, named, code);
-    let first = page::words(page, coded, b" $end\n");
-    let last = wires(page, first, id);
-    page::words(page, last, b"$upscope $end\n")
-}
-
-fn code_if_any(page: &mut [u8], n: usize, code: u8) -> usize {
-    if 0 < code {
-        return page::decimal(page, n, code as u64);
-    }
-    n
-}
-
-// The six wires of the bus or of a party.
-fn wires(page: &mut [u8], n: usize, id: u8) -> usize {
-    with_id(
-        page,
-        n,
-        id,
-        b"$var wire 1 ~b BAV $end\n$var wire 1 ~h HSK $end\n$var wire 1 ~3 D3 $end\n$var wire 1 ~2 D2 $end\n$var wire 1 ~1 D1 $end\n$var wire 1 ~0 D0 $end\n",
-    )
-}
-
-// Words in which ~ stands for a letter.
-fn with_id(page: &mut [u8], n: usize, id: u8, words: &[u8]) -> usize {
-    let mut at = n;
-    let mut i = 0;
-    while i < words.len() {
-        at = page::letter(page, at, id_or(words[i], id));
-        i += 1;
-    }
-    at
-}
-
-fn id_or(b: u8, id: u8) -> u8 {
-    if b == b'~' { id } else { b }
-}
-
-// What a round has changed, or everything at the first, to a descriptor.
-pub fn round(
-    descriptor: u8,
-    number: u64,
-    before: &[u8; 18],
-    after: &[u8; 18],
+// The head of the dump of a bus, and the values at time 0. Unit i has codes[i], and stand-in i has codes[18 + i]: 0 if it stands in for
+// every code. Answers whether the write succeeded, as round and end do.
+pub fn head(
+    descriptor: i32,
+    codes: &[u8; 22],
     count: usize,
-    first: bool,
-) {
-    if first | differs(before, after) {
-        let mut page = [0u8; 512];
-        let n = stamp(&mut page, number);
-        let end = changes(&mut page, n, before, after, count, first);
-        page::write(descriptor as i32, &page, end);
-    }
+    standins: usize,
+    marks: &[u8; 22],
+) -> bool {
+    let mut page = [0u8; 8192];
+    let end = scopes(
+        &mut page,
+        0,
+        b"$comment one time unit to a round; 0 is low or pulled $end\n$timescale 1 us $end\n$scope module bus $end\n$scope module controller $end\n$scope module unit_@ $end\n$scope module stand_in_@ $end\n$scope module stand_in_any $end\n$var wire 1 ~b BAV $end\n$var wire 1 ~h HSK $end\n$var wire 4 ~n D $end\n$var wire 1 ~3 D3 $end\n$var wire 1 ~2 D2 $end\n$var wire 1 ~1 D1 $end\n$var wire 1 ~0 D0 $end\n$upscope $end\n$enddefinitions $end\n",
+        NAMES,
+        codes,
+        codes,
+        count,
+        standins,
+    );
+    crate::sent(descriptor, &page, 0, end) & round(descriptor, 0, marks, marks, count, standins)
+}
+
+// What a round has changed; nothing is written if that is nothing. At time 0 every value is written.
+pub fn round(
+    descriptor: i32,
+    number: u64,
+    before: &[u8; 22],
+    after: &[u8; 22],
+    count: usize,
+    standins: usize,
+) -> bool {
+    let mut page = [b'\n'; 1024];
+    page[0] = b'#';
+    let n = page::decimal(&mut page, 1, number) % 32 + 1;
+    let end = scopes(
+        &mut page,
+        n,
+        b"(~0\n)~1\n*~2\n+~3\n,~h\n-~b\nb+*)( ~n\n",
+        number,
+        before,
+        after,
+        count,
+        standins,
+    );
+    crate::sent(descriptor, &page, n, end)
 }
 
 // The end of a dump: the time after its last round.
-pub fn end(descriptor: u8, number: u64) {
-    let mut page = [0u8; 32];
-    let n = stamp(&mut page, number);
-    page::write(descriptor as i32, &page, n);
+pub fn end(descriptor: i32, number: u64) -> bool {
+    let mut page = [b'\n'; 32];
+    page[0] = b'#';
+    let n = page::decimal(&mut page, 1, number);
+    crate::sent(descriptor, &page, 0, n % 32 + 1)
 }
 
-fn stamp(page: &mut [u8], number: u64) -> usize {
-    let n = page::letter(page, 0, b'#');
-    let end = page::decimal(page, n, number);
-    page::letter(page, end, b'\n')
-}
+const NAMES: u64 = 18446744073709551615;
 
-fn changes(
+fn scopes(
     page: &mut [u8],
     n: usize,
-    before: &[u8; 18],
-    after: &[u8; 18],
+    words: &[u8],
+    number: u64,
+    before: &[u8; 22],
+    after: &[u8; 22],
     count: usize,
-    first: bool,
+    standins: usize,
 ) -> usize {
+    let end = 2 + count % 17 + standins % 5;
     let mut at = n;
-    let mut i = 0;
-    while i < 18 {
-        at = shown_changes(page, at, i, count, before[i], after[i], first);
-        i += 1;
+    let mut k = 0;
+    while k < end {
+        let i = scope(k, count, standins) % 22;
+        let old = before[i];
+        let new = after[i];
+        at = put(page, at, words, chosen(number, i, old, new), i, new);
+        k += 1;
     }
     at
 }
 
-fn shown_changes(
-    page: &mut [u8],
-    n: usize,
-    i: usize,
-    count: usize,
-    before: u8,
-    after: u8,
-    first: bool,
-) -> usize {
-    if is_shown(i, count) {
-        return party_changes(page, n, letter(i), before, after, first);
+// The party of scope k, as an index of marks: the bus, stand-ins, units, the controller.
+fn scope(k: usize, count: usize, standins: usize) -> usize {
+    if k <= standins {
+        return 17 + k % 5;
     }
-    n
+    if k - standins <= count {
+        return k - standins - 1;
+    }
+    16
 }
 
-fn is_shown(i: usize, count: usize) -> bool {
-    if i < count {
-        return true;
+// The lines that are written of a scope, a bit for each.
+fn chosen(number: u64, i: usize, before: u8, after: u8) -> u64 {
+    if number == NAMES {
+        return named(i, after);
     }
-    CONTROLLER <= i
+    if number == 0 {
+        return 127;
+    }
+    let lines = ((before ^ after) % 64) as u64;
+    lines + (lines % 16 + 15) / 16 * 64
 }
 
-fn differs(before: &[u8; 18], after: &[u8; 18]) -> bool {
+fn named(i: usize, code: u8) -> u64 {
+    if i < 16 {
+        return 32656;
+    }
+    if i == 16 {
+        return 65416;
+    }
+    if i == 17 {
+        return 32647;
+    }
+    if code == 0 { 32704 } else { 32672 }
+}
+
+fn put(page: &mut [u8], n: usize, words: &[u8], lines: u64, i: usize, mark: u8) -> usize {
+    let mut left = lines;
+    let mut at = n;
+    let mut k = 0;
+    while k < words.len() {
+        let b = words[k];
+        if left % 2 == 1 {
+            at = sign(page, at, b, i, mark);
+        }
+        left = left >> (b == b'\n') as u64 % 2;
+        k += 1;
+    }
+    at
+}
+
+// A letter, or what it stands for: ~ for the scope's letter, # for its code.
+fn sign(page: &mut [u8], n: usize, b: u8, i: usize, mark: u8) -> usize {
+    if b == b'@' {
+        return page::decimal(page, n, mark as u64);
+    }
+    page::letter(page, n, letter(b, i, mark))
+}
+
+fn letter(b: u8, i: usize, mark: u8) -> u8 {
+    match b {
+        b'~' => b'a' + (i % 22) as u8,
+        b'('..=b'-' => b'0' + (mark >> (b % 8)) % 2,
+        _ => b,
+    }
+}
+
+// Whether the front of a file is that of a value change dump: empty, or one of these words.
+pub fn is_dump(front: &[u8]) -> bool {
+    let mut at = 0;
     let mut i = 0;
-    while i < 18 {
-        if before[i] == after[i] {
-            i += 1;
-        } else {
+    while i < 42 {
+        at = next(front, at, WORDS[i]);
+        if at == 99 {
             return true;
         }
-    }
-    false
-}
-
-// Each wire of a party, from BAV to D0.
-fn party_changes(page: &mut [u8], n: usize, id: u8, before: u8, after: u8, first: bool) -> usize {
-    let wires = [b'b', b'h', b'3', b'2', b'1', b'0'];
-    let mut old = before;
-    let mut new = after;
-    let mut at = n;
-    let mut i = 0;
-    while i < 6 {
-        at = change(page, at, id, wires[i], old / 32 % 2, new / 32 % 2, first);
-        old = old % 32 * 2;
-        new = new % 32 * 2;
         i += 1;
     }
-    at
+    front.len() == 0
 }
 
-fn change(
-    page: &mut [u8],
-    n: usize,
-    id: u8,
-    wire: u8,
-    before: u8,
-    after: u8,
-    first: bool,
-) -> usize {
-    if first | (before != after) {
-        let row = [b'0' + after % 2, id, wire, b'\n'];
-        return page::words(page, n, &row);
+const WORDS: [u8; 42] = *b"$comment $date $version $timescale $scope ";
+
+fn next(front: &[u8], at: usize, b: u8) -> usize {
+    if at < 64 {
+        if byte(front, at) == b {
+            return if b == b' ' { 99 } else { at + 1 };
+        }
     }
-    n
+    if b == b' ' { 0 } else { 64 }
+}
+
+// A byte of a slice; a blank for what is none, as past its end.
+fn byte(s: &[u8], i: usize) -> u8 {
+    if i < s.len() {
+        if b' ' < s[i] {
+            return s[i];
+        }
+    }
+    b' '
 }

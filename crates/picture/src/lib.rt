@@ -1,5 +1,5 @@
 // The lines as pictures. A mark is what one party leaves on the lines, or all of them together: 32 where BAV is high, 16 where HSK is,
-// and the nibble. The marks of a round are those of units 0 to 15, of the controller and of the lines.
+// and the nibble. The marks of a round are those of units 0 to 15, of the controller, of the lines, and of stand-ins 0 to 3.
 pub mod dump;
 pub mod strip;
 
@@ -12,18 +12,15 @@ pub const ALL: usize = 17;
 pub const RELEASED: u8 = 63;
 
 pub fn mark(l: Lines) -> u8 {
-    32 * (level(l.bav) % 2) + 16 * (level(l.hsk) % 2) + l.nibble % 16
+    48 - 32 * (l.bav as u8 % 2) - 16 * (l.hsk as u8 % 2) + l.nibble % 16
 }
 
-// 1 for a line that is high.
-fn level(low: bool) -> u8 {
-    if low { 0 } else { 1 }
-}
-
-pub fn bav(mark: u8) -> u8 {
-    mark / 32 % 2
-}
-
-pub fn hsk(mark: u8) -> u8 {
-    mark / 16 % 2
+// Writes the n letters that stand on a page, if there are more than so many; whether that succeeded.
+fn sent(descriptor: i32, page: &[u8], least: usize, n: usize) -> bool {
+    if least < n {
+        if n <= page.len() {
+            return io::write_all(descriptor, &page[0..n]);
+        }
+    }
+    true
 }

@@ -1,72 +1,41 @@
 // The lines as a picture of letters, one column to a round: - high, _ low, the nibble in hexadecimal, and who holds HSK low or places
 // a nibble. Only rounds in which a line is low are shown, in strips of up to 96 columns.
 use crate::ALL;
-use crate::CONTROLLER;
 
 pub const WIDTH: usize = 96;
 
 // One column more behind n, from the marks of a round; how many there are then.
-pub fn column(strip: &mut [u8; 384], n: usize, marks: &[u8; 18]) -> usize {
+pub fn column(strip: &mut [u8; 384], n: usize, marks: &[u8; 22]) -> usize {
     if n < WIDTH {
-        let all = marks[ALL];
-        strip[n] = level(crate::bav(all));
-        strip[WIDTH + n] = level(crate::hsk(all));
-        strip[2 * WIDTH + n] = nibble(all % 16);
-        strip[3 * WIDTH + n] = holder(marks);
+        strip[n] = marks[ALL];
+        strip[WIDTH + n] = holder(marks);
         return n + 1;
     }
     n
 }
 
-fn level(high: u8) -> u8 {
-    if high == 0 { b'_' } else { b'-' }
-}
-
-fn nibble(n: u8) -> u8 {
-    if n == 15 { b'.' } else { page::digit(n) }
-}
-
-// Who pulls HSK or a data line: C the controller, a letter for a unit by its place, + for several, a blank for nobody.
-fn holder(marks: &[u8; 18]) -> u8 {
+// Who pulls HSK or a data line: C the controller, a to p units by their place, w to z stand-ins, + several, a blank for nobody.
+fn holder(marks: &[u8; 22]) -> u8 {
     let mut who = b' ';
     let mut i = 0;
-    while i < 17 {
-        if marks[i] % 32 < 31 {
-            who = also(who, i);
+    while i < 22 {
+        if (marks[i] % 32 < 31) & (i != ALL) {
+            who = if who == b' ' { LETTERS[i] } else { b'+' };
         }
         i += 1;
     }
     who
 }
 
-fn also(who: u8, i: usize) -> u8 {
-    if who == b' ' {
-        return if i == CONTROLLER {
-            b'C'
-        } else {
-            b'a' + (i % 16) as u8
-        };
-    }
-    b'+'
-}
+const LETTERS: [u8; 22] = *b"abcdefghijklmnopC wxyz";
 
 // The picture of the n rounds up to this one.
-pub fn show(strip: &[u8], n: usize, last: u64) {
-    page::tell(b"          rounds # to #\n", first(n, last), last, 0, 0);
-    row(b"          BAV ", part(strip, 0, n));
-    row(b"          HSK ", part(strip, WIDTH, n));
-    row(b"          D   ", part(strip, 2 * WIDTH, n));
-    row(b"          by  ", part(strip, 3 * WIDTH, n));
-}
-
-// The n letters from a place on.
-fn part(strip: &[u8], at: usize, n: usize) -> &[u8] {
-    if at <= strip.len() {
-        if n <= strip.len() - at {
-            return &strip[at..at + n];
-        }
-    }
-    &strip[0..0]
+pub fn show(out: i32, strip: &[u8; 384], n: usize, last: u64) {
+    let mut page = [b'\n'; 512];
+    let start = named(&mut page, 0, b"          rounds ", first(n, last));
+    let to = named(&mut page, start, b" to ", last);
+    let end = rows(&mut page, to, strip, n % 97);
+    crate::sent(out, &page, 0, end % 512 + 1);
 }
 
 fn first(n: usize, last: u64) -> u64 {
@@ -77,8 +46,45 @@ fn first(n: usize, last: u64) -> u64 {
     0
 }
 
-fn row(name: &[u8], letters: &[u8]) {
-    page::say(name);
-    page::say(letters);
-    page::say(b"\n");
+fn named(page: &mut [u8], n: usize, words: &[u8], number: u64) -> usize {
+    let at = page::words(page, n, words);
+    page::decimal(page, at, number)
+}
+
+fn rows(page: &mut [u8], n: usize, strip: &[u8; 384], columns: usize) -> usize {
+    let end = 4 * (columns % 97 + 15);
+    let mut at = n;
+    let mut i = 0;
+    while i < end {
+        at = page::letter(page, at, cell(strip, columns, i));
+        i += 1;
+    }
+    at
+}
+
+fn cell(strip: &[u8; 384], columns: usize, i: usize) -> u8 {
+    let width = columns % 97 + 15;
+    let row = i / width % 4;
+    let column = i % width % 111;
+    if column < 15 {
+        return NAMES[15 * row + column];
+    }
+    if row == 3 {
+        return strip[WIDTH + column - 15];
+    }
+    shown(row, strip[column - 15])
+}
+
+const NAMES: [u8; 60] = *b"\n          BAV \n          HSK \n          D   \n          by  ";
+
+fn shown(row: usize, mark: u8) -> u8 {
+    if row == 2 {
+        return if mark % 16 == 15 {
+            b'.'
+        } else {
+            page::digit(mark)
+        };
+    }
+    let high = if row == 0 { mark / 32 } else { mark / 16 };
+    if high % 2 == 0 { b'_' } else { b'-' }
 }

@@ -74,4 +74,3 @@ numbers-spec =
     other-numbers-requires
     returns
     returns-2)
-

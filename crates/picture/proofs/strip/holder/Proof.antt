@@ -8,7 +8,7 @@ abbrev Inv-loop : tie.InvT-loop
 Inv-loop marks who₀ i₀ who i = Unit {0}
 
 abbrev μ-loop : tie.MeasureT-loop
-μ-loop marks who₀ i₀ who i = 17 - i
+μ-loop marks who₀ i₀ who i = 22 - i
 
 loop-holds : tie.Need-loop-holds Inv-loop μ-loop
 loop-holds c = search needs
@@ -16,8 +16,8 @@ loop-holds c = search needs
 element-copy-out-if1 : tie.Need-element-copy-out-if1 Inv-loop μ-loop
 element-copy-out-if1 c = search needs
 
-also-requires : tie.Need-also-requires Inv-loop μ-loop
-also-requires c κs = search needs
+array-read-who : tie.Need-array-read-who Inv-loop μ-loop
+array-read-who c = search needs
 
 add-i : tie.Need-add-i Inv-loop μ-loop
 add-i c = search needs
@@ -39,7 +39,7 @@ holder-spec =
     μ-loop
     loop-holds
     element-copy-out-if1
-    also-requires
+    array-read-who
     add-i
     loop-less
     loop-again

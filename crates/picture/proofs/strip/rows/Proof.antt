@@ -3,23 +3,26 @@ use borrow.Author.Needs.{needs}
 use lib.ListN.{length}
 use Prim.Native.Nat.{_-_}
 use mathlib.Core.Path.{_≡_}
-use Rattle.picture.proofs.dump.with_id.Statement.{statement}
-use Rattle.picture.proofs.dump.with_id.Tie as tie
+use Rattle.picture.proofs.strip.rows.Statement.{statement}
+use Rattle.picture.proofs.strip.rows.Tie as tie
 
 abbrev Inv-loop : tie.InvT-loop
-Inv-loop page₀ n id words at₀ i₀ page at i = length page ≡ length page₀
+Inv-loop page₀ n strip columns end at₀ i₀ page at i = length page ≡ length page₀
 
 abbrev μ-loop : tie.MeasureT-loop
-μ-loop page₀ n id words at₀ i₀ page at i = length words - i
+μ-loop page₀ n strip columns end at₀ i₀ page at i = end - i
+
+add-end : tie.Need-add-end Inv-loop μ-loop
+add-end c = search needs
+
+mul-end : tie.Need-mul-end Inv-loop μ-loop
+mul-end c = search needs
 
 loop-holds : tie.Need-loop-holds Inv-loop μ-loop
 loop-holds c = search needs
 
-shared-slice-read-id-or : tie.Need-shared-slice-read-id-or Inv-loop μ-loop
-shared-slice-read-id-or c = search needs
-
-id-or-requires : tie.Need-id-or-requires Inv-loop μ-loop
-id-or-requires c κs = search needs
+cell-requires : tie.Need-cell-requires Inv-loop μ-loop
+cell-requires c κs = search needs
 
 letter-requires : tie.Need-letter-requires Inv-loop μ-loop
 letter-requires c κs = search needs
@@ -39,15 +42,16 @@ same-length c = search needs
 returns : tie.Need-returns Inv-loop μ-loop
 returns c = search needs
 
-pub with-id-spec : {M : Type 1} → statement M
-with-id-spec =
+pub rows-spec : {M : Type 1} → statement M
+rows-spec =
     tie.close
     (tie.spec
     Inv-loop
     μ-loop
+    add-end
+    mul-end
     loop-holds
-    shared-slice-read-id-or
-    id-or-requires
+    cell-requires
     letter-requires
     add-i
     loop-less

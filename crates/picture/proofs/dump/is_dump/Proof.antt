@@ -1,23 +1,26 @@
 -- Lent memory keeps its length; what is left to go through grows less.
 use borrow.Author.Needs.{needs}
 use Prim.Native.Nat.{_-_}
-use Rattle.picture.proofs.dump.differs.Statement.{statement}
-use Rattle.picture.proofs.dump.differs.Tie as tie
+use Rattle.picture.proofs.dump.is_dump.Statement.{statement}
+use Rattle.picture.proofs.dump.is_dump.Tie as tie
 
 abbrev Inv-loop : tie.InvT-loop
-Inv-loop before after i₀ i = Unit {0}
+Inv-loop front at₀ i₀ at i = Unit {0}
 
 abbrev μ-loop : tie.MeasureT-loop
-μ-loop before after i₀ i = 18 - i
+μ-loop front at₀ i₀ at i = 42 - i
 
 loop-holds : tie.Need-loop-holds Inv-loop μ-loop
 loop-holds c = search needs
 
-element-copy-out-if1 : tie.Need-element-copy-out-if1 Inv-loop μ-loop
-element-copy-out-if1 c = search needs
+array-read-next : tie.Need-array-read-next Inv-loop μ-loop
+array-read-next c = search needs
 
-element-copy-out-if1-2 : tie.Need-element-copy-out-if1-2 Inv-loop μ-loop
-element-copy-out-if1-2 c = search needs
+next-requires : tie.Need-next-requires Inv-loop μ-loop
+next-requires c κs = search needs
+
+returns : tie.Need-returns Inv-loop μ-loop
+returns c = search needs
 
 add-i : tie.Need-add-i Inv-loop μ-loop
 add-i c = search needs
@@ -28,23 +31,20 @@ loop-less c = search needs
 loop-again : tie.Need-loop-again Inv-loop μ-loop
 loop-again c = search needs
 
-returns : tie.Need-returns Inv-loop μ-loop
-returns c = search needs
-
 returns-2 : tie.Need-returns-2 Inv-loop μ-loop
 returns-2 c = search needs
 
-pub differs-spec : {M : Type 1} → statement M
-differs-spec =
+pub is-dump-spec : {M : Type 1} → statement M
+is-dump-spec =
     tie.close
     (tie.spec
     Inv-loop
     μ-loop
     loop-holds
-    element-copy-out-if1
-    element-copy-out-if1-2
+    array-read-next
+    next-requires
+    returns
     add-i
     loop-less
     loop-again
-    returns
     returns-2)
