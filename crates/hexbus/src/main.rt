@@ -28,23 +28,29 @@ struct Tally {
 
 fn main() {
     let mut forms = [0u8; 4096];
-    let n = script::forms(&mut forms);
-    let mut name = [0u8; 4096];
-    let k = os::arg(1, &mut name);
-    let first = &name[..k];
-    let ok = if word::is(first, b"run") {
-        run(word::part(&forms, 0, n))
-    } else if (k == 0) | word::is(first, b"help") | word::is(first, b"--help") {
-        help(word::part(&forms, 0, n))
-    } else {
-        page::say(STDERR_FILENO, b"hexbus: no such command: ");
-        page::show(STDERR_FILENO, first);
-        page::say(STDERR_FILENO, b"; ./hexbus help says what there is\n");
-        false
-    };
-    if ok {
+    if asked(&mut forms) {
         io::write_all(VERDICT, b"ok\n");
     }
+}
+
+// What the first word asks for; whether it was done.
+fn asked(page: &mut [u8; 4096]) -> bool {
+    let mut name = [0u8; 4096];
+    let n = script::forms(page);
+    let k = os::arg(1, &mut name);
+    let first = &name[..k];
+    let forms = desk::tell::front(page, n);
+    if word::is(first, b"run") {
+        return run(forms);
+    }
+    if (k == 0) | word::is(first, b"help") | word::is(first, b"--help") {
+        return help(forms);
+    }
+    wrong(
+        b"hexbus: no such command, ./hexbus help says what there is: ",
+        first,
+    );
+    false
 }
 
 fn help(forms: &[u8]) -> bool {
