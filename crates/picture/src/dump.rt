@@ -1,8 +1,8 @@
 // The lines as a value change dump, one time unit to a round. A wire is 1 while it is high. One scope has the lines of the bus, and one
-// for each party the lines as that party leaves them: 0 where it pulls. Wires are identified by the letter of their scope and their own.
+// for each party has the lines as that party leaves them: 0 where it pulls. In each the nibble is one signal, and its lines are four more.
 
-// The head of the dump of a bus, and the values at time 0. Unit i has codes[i], and stand-in i has codes[18 + i]: 0 if it stands in for
-// every code. Answers whether the write succeeded, as round and end do.
+// The head of the dump of a bus, and every value at time 0. Unit i has codes[i], and stand-in i has codes[18 + i]: 0 if it stands in for
+// every code. Answers whether the writes succeeded, as round and end do.
 pub fn head(
     descriptor: i32,
     codes: &[u8; 22],
@@ -24,7 +24,7 @@ pub fn head(
     crate::sent(descriptor, &page, 0, end) & round(descriptor, 0, marks, marks, count, standins)
 }
 
-// What a round has changed; nothing is written if that is nothing. At time 0 every value is written.
+// What a round has changed; nothing is written if nothing has changed. Round 0 is the start, of which every value is written.
 pub fn round(
     descriptor: i32,
     number: u64,
@@ -57,8 +57,10 @@ pub fn end(descriptor: i32, number: u64) -> bool {
     crate::sent(descriptor, &page, 0, n % 32 + 1)
 }
 
+// The number of no round: the scopes and their wires are named.
 const NAMES: u64 = 18446744073709551615;
 
+// What is written of each scope in turn: the bus, stand-ins, units, the controller.
 fn scopes(
     page: &mut [u8],
     n: usize,
@@ -74,15 +76,14 @@ fn scopes(
     let mut k = 0;
     while k < end {
         let i = scope(k, count, standins) % 22;
-        let old = before[i];
-        let new = after[i];
-        at = put(page, at, words, chosen(number, i, old, new), i, new);
+        let mark = after[i];
+        at = put(page, at, words, chosen(number, i, before[i], mark), i, mark);
         k += 1;
     }
     at
 }
 
-// The party of scope k, as an index of marks: the bus, stand-ins, units, the controller.
+// The index in marks of the party, or of the lines, that scope k shows.
 fn scope(k: usize, count: usize, standins: usize) -> usize {
     if k <= standins {
         return 17 + k % 5;
@@ -93,7 +94,7 @@ fn scope(k: usize, count: usize, standins: usize) -> usize {
     16
 }
 
-// The lines that are written of a scope, a bit for each.
+// Which lines of the words are written of a scope, a bit for each: those that name it, or those of the wires that have changed.
 fn chosen(number: u64, i: usize, before: u8, after: u8) -> u64 {
     if number == NAMES {
         return named(i, after);
@@ -106,35 +107,51 @@ fn chosen(number: u64, i: usize, before: u8, after: u8) -> u64 {
 }
 
 fn named(i: usize, code: u8) -> u64 {
-    if i < 16 {
-        return 32656;
+    if i < crate::CONTROLLER {
+        return UNIT;
     }
-    if i == 16 {
-        return 65416;
+    if i == crate::CONTROLLER {
+        return CONTROLLER;
     }
-    if i == 17 {
-        return 32647;
+    if i == crate::ALL {
+        return BUS;
     }
-    if code == 0 { 32704 } else { 32672 }
+    if code == 0 { ANY } else { STAND_IN }
 }
 
+// Lines 7 to 14 name the wires of any scope and close it. Of those before, the bus has the first three; the last ends the head.
+const WIRES: u64 = 32640;
+
+const BUS: u64 = WIRES + 7;
+
+const CONTROLLER: u64 = WIRES + 8 + 32768;
+
+const UNIT: u64 = WIRES + 16;
+
+const STAND_IN: u64 = WIRES + 32;
+
+const ANY: u64 = WIRES + 64;
+
+// The lines of the words that are chosen, the first by the lowest bit.
 fn put(page: &mut [u8], n: usize, words: &[u8], lines: u64, i: usize, mark: u8) -> usize {
     let mut left = lines;
     let mut at = n;
     let mut k = 0;
     while k < words.len() {
         let b = words[k];
-        if left % 2 == 1 {
-            at = sign(page, at, b, i, mark);
-        }
+        at = sign(page, at, b, left, i, mark);
         left = left >> (b == b'\n') as u64 % 2;
         k += 1;
     }
     at
 }
 
-// A letter, or what it stands for: ~ for the scope's letter, # for its code.
-fn sign(page: &mut [u8], n: usize, b: u8, i: usize, mark: u8) -> usize {
+// A letter of a line that is chosen, or what it stands for: @ for the code of the scope, ~ for the letter by which its wires are known,
+// ( to - for the bits of its mark from D0 to BAV.
+fn sign(page: &mut [u8], n: usize, b: u8, left: u64, i: usize, mark: u8) -> usize {
+    if left % 2 == 0 {
+        return n;
+    }
     if b == b'@' {
         return page::decimal(page, n, mark as u64);
     }
@@ -149,7 +166,7 @@ fn letter(b: u8, i: usize, mark: u8) -> u8 {
     }
 }
 
-// Whether the front of a file is that of a value change dump: empty, or one of these words.
+// Whether the front of a file is that of a value change dump: empty, or with one of these words first.
 pub fn is_dump(front: &[u8]) -> bool {
     let mut at = 0;
     let mut i = 0;
@@ -165,21 +182,13 @@ pub fn is_dump(front: &[u8]) -> bool {
 
 const WORDS: [u8; 42] = *b"$comment $date $version $timescale $scope ";
 
+// How many letters of a word agree with the front, after one letter more: 64 if one does not, 99 once a whole word does.
 fn next(front: &[u8], at: usize, b: u8) -> usize {
     if at < 64 {
-        if byte(front, at) == b {
+        let letter = if at < front.len() { front[at] } else { b' ' };
+        if (letter == b) | ((letter < b) & (b == b' ')) {
             return if b == b' ' { 99 } else { at + 1 };
         }
     }
     if b == b' ' { 0 } else { 64 }
-}
-
-// A byte of a slice; a blank for what is none, as past its end.
-fn byte(s: &[u8], i: usize) -> u8 {
-    if i < s.len() {
-        if b' ' < s[i] {
-            return s[i];
-        }
-    }
-    b' '
 }

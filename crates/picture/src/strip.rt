@@ -4,7 +4,7 @@ use crate::ALL;
 
 pub const WIDTH: usize = 96;
 
-// One column more behind n, from the marks of a round; how many there are then.
+// One column more behind n, from the marks of a round; how many there are then. The strip keeps the mark of the lines, and who pulls.
 pub fn column(strip: &mut [u8; 384], n: usize, marks: &[u8; 22]) -> usize {
     if n < WIDTH {
         strip[n] = marks[ALL];
@@ -46,6 +46,7 @@ fn first(n: usize, last: u64) -> u64 {
     0
 }
 
+// Words, and a number behind them.
 fn named(page: &mut [u8], n: usize, words: &[u8], number: u64) -> usize {
     let at = page::words(page, n, words);
     page::decimal(page, at, number)
@@ -62,6 +63,7 @@ fn rows(page: &mut [u8], n: usize, strip: &[u8; 384], columns: usize) -> usize {
     at
 }
 
+// Letter i of the four rows, each with its name before it.
 fn cell(strip: &[u8; 384], columns: usize, i: usize) -> u8 {
     let width = columns % 97 + 15;
     let row = i / width % 4;
@@ -69,22 +71,23 @@ fn cell(strip: &[u8; 384], columns: usize, i: usize) -> u8 {
     if column < 15 {
         return NAMES[15 * row + column];
     }
-    if row == 3 {
-        return strip[WIDTH + column - 15];
-    }
-    shown(row, strip[column - 15])
+    shown(row, strip[row / 3 * WIDTH + column - 15])
 }
 
 const NAMES: [u8; 60] = *b"\n          BAV \n          HSK \n          D   \n          by  ";
 
-fn shown(row: usize, mark: u8) -> u8 {
+// A level, the nibble, or who pulls, as a letter.
+fn shown(row: usize, kept: u8) -> u8 {
+    if row == 3 {
+        return kept;
+    }
     if row == 2 {
-        return if mark % 16 == 15 {
+        return if kept % 16 == 15 {
             b'.'
         } else {
-            page::digit(mark)
+            page::digit(kept)
         };
     }
-    let high = if row == 0 { mark / 32 } else { mark / 16 };
+    let high = if row == 0 { kept / 32 } else { kept / 16 };
     if high % 2 == 0 { b'_' } else { b'-' }
 }

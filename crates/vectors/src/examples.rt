@@ -1,43 +1,42 @@
 // The worked examples of source document 000: each message is written from its fields and read back.
+use crate::lengths;
 use crate::messages;
-use crate::messages::Message;
-use crate::nibbles;
-use crate::papers;
-use text::slices;
+use crate::readings;
+use crate::rows;
+use libc::STDOUT_FILENO;
 
 pub fn run() {
-    page::say(b"Worked examples (source document 000, 7.1 and 7.2)\n");
     // The scan of 7.1 prints O and 0 alike; its words, odd parity, make the last byte the letter O.
-    example(
-        b"7.1 open, command",
-        papers::open(),
+    lengths::into(
+        b"Worked examples (source document 000, 7.1 and 7.2)\n7.1 open, command\n  written: ",
+        messages::OPEN,
         b"\x00\x00\x80B=4800,P=O",
+        lengths::EXAMPLE,
     );
-    example(
-        b"7.1 open, response",
-        Message::Response(0x00),
+    lengths::into(
+        b"7.1 open, response\n  written: ",
+        messages::RESPONSE,
         b"\x50\x00\x00\x00",
+        lengths::EXAMPLE,
     );
-    example(b"7.2 read, command", papers::read(), b"");
-    example(b"7.2 read, response", Message::Response(0x00), b"27295");
+    lengths::into(
+        b"7.2 read, command\n  written: ",
+        messages::READ,
+        b"",
+        lengths::EXAMPLE,
+    );
+    lengths::into(
+        b"7.2 read, response\n  written: ",
+        messages::RESPONSE,
+        b"27295",
+        lengths::EXAMPLE,
+    );
 }
 
-fn example(title: &[u8], m: Message, data: &[u8]) {
-    page::say(title);
-    let mut space = [0u8; 32];
-    let answer = m.write(data, &mut space);
-    page::say(b"\n  written: ");
-    messages::written(answer);
-    read_back(m, slices::part(&space, 0, messages::length_of(answer)));
-    page::say(b"  nibbles\n");
-    nibbles::of(m, data, messages::length_of(answer));
-}
-
-fn read_back(m: Message, s: &[u8]) {
-    page::say(b"\n  bytes");
-    page::bytes(s);
-    page::say(b"\n  read: ");
-    m.read(s);
-    page::say(b"\n  ");
-    messages::data(m.data_of(s));
+// What was written, read back.
+pub fn shown(m: u8, data: &[u8], s: &[u8]) {
+    page::say(STDOUT_FILENO, b"\n  bytes");
+    page::bytes(STDOUT_FILENO, s);
+    readings::reading(b"\n  read: ", 0, m, s, b"\n  ");
+    rows::rows(b"  nibbles", m, data, 0, 2 * (s.len() % 64));
 }

@@ -1,115 +1,94 @@
-// Commands and responses under one name, so that each case is run on both.
-ghost use Prim.Native.Nat.{_≤_};
+// The messages that are run, each by a number: a command of the papers by its code, a response by 16 more than its status.
 use header::Command;
-use writer::Written;
+use libc::STDOUT_FILENO;
 
-// The fields of a message. Its data stands beside it.
-pub enum Message {
-    Command(Command),
-    // The status.
-    Response(u8),
+// The open of source document 000, 7.1, and that of M1, which differ in their data alone.
+pub const OPEN: u8 = 0x00;
+// The read of source document 000, 7.2.
+pub const READ: u8 = 0x03;
+// A command whose header shows by its bytes which field each is of.
+pub const WRITE: u8 = 0x04;
+
+pub const RESPONSE: u8 = 0x10;
+// No message: the classes of the device codes.
+pub const CLASSES: u8 = 0xFF;
+
+pub fn fields_of(m: u8) -> Command {
+    let mut c = Command {
+        device: 20,
+        command: m,
+        logical_unit: 1,
+        record_number: 0,
+        buffer_length: 4,
+    };
+    if m == READ {
+        c.buffer_length = 80;
+    }
+    if m == WRITE {
+        c.logical_unit = 7;
+        c.record_number = 0x0201;
+        c.buffer_length = 0x0403;
+    }
+    c
 }
 
-impl Message {
-    pub fn write(self, data: &[u8], out: &mut [u8]) -> Written {
-        match self {
-            Message::Command(c) => command::write(c, data, out),
-            Message::Response(status) => response::write(data, status, out),
+// Says what reading a slice as such a message comes to.
+pub fn read(m: u8, s: &[u8]) {
+    if m < RESPONSE {
+        match command::read(s) {
+            command::Reading::Fields(c) => fields(c),
+            command::Reading::Short => refused(9),
+            command::Reading::Disagrees => refused(10),
         }
-    }
-
-    // What reading a slice as a message of this kind comes to, in words.
-    pub fn read(self, s: &[u8]) {
-        match self {
-            Message::Command(_) => command_read(s),
-            Message::Response(_) => response_read(s),
+    } else {
+        match response::read(s) {
+            response::Reading::Status(status) => {
+                page::tell(STDOUT_FILENO, b"status %", status as u64, 0, 0, 0)
+            }
+            response::Reading::Short => refused(9),
+            response::Reading::Disagrees => refused(10),
         }
-    }
-
-    // The data field of a message of this kind.
-    pub fn data_of(self, s: &[u8]) -> &[u8] {
-        match self {
-            Message::Command(_) => command::data_of(s),
-            Message::Response(_) => response::data_of(s),
-        }
-    }
-
-    pub fn nibble(self, data: &[u8], i: usize) -> u8 {
-        match self {
-            Message::Command(c) => command::nibble(c, data, i),
-            Message::Response(status) => response::nibble(data, status, i),
-        }
-    }
-
-    // The length of a message of this kind with no data.
-    pub fn shortest(self) -> usize
-        ensures { λ r. ⌜ (3 ≤ r) × (r ≤ 9) ⌝ }
-    {
-        match self {
-            Message::Command(_) => 9,
-            Message::Response(_) => 3,
-        }
-    }
-}
-
-fn command_read(s: &[u8]) {
-    match command::read(s) {
-        command::Reading::Fields(c) => fields(c),
-        command::Reading::Short => page::say(b"refusal 9"),
-        command::Reading::Disagrees => page::say(b"refusal 10"),
     }
 }
 
 fn fields(c: Command) {
     page::tell(
-        b"device #, command %, logical unit #",
+        STDOUT_FILENO,
+        b"device #, command %, logical unit #, record number #",
         c.device as u64,
         c.command as u64,
         c.logical_unit as u64,
-        0,
+        c.record_number as u64,
     );
     page::tell(
-        b", record number #, buffer length #",
-        c.record_number as u64,
+        STDOUT_FILENO,
+        b", buffer length #",
         c.buffer_length as u64,
         0,
         0,
+        0,
     );
 }
 
-fn response_read(s: &[u8]) {
-    match response::read(s) {
-        response::Reading::Status(status) => page::tell(b"status %", status as u64, 0, 0, 0),
-        response::Reading::Short => page::say(b"refusal 9"),
-        response::Reading::Disagrees => page::say(b"refusal 10"),
-    }
+pub fn refused(refusal: u64) {
+    page::tell(STDOUT_FILENO, b"refusal #", refusal, 0, 0, 0);
 }
 
-// What writing a message comes to, in words.
-pub fn written(answer: Written) {
-    match answer {
-        Written::Length(n) => page::tell(b"length #", n as u64, 0, 0, 0),
-        Written::TooLong => page::say(b"refusal 2"),
-        Written::NoRoom => page::say(b"refusal 11"),
+// The data field of such a message.
+pub fn data_of(m: u8, s: &[u8]) -> &[u8] {
+    if m < RESPONSE {
+        return command::data_of(s);
     }
+    response::data_of(s)
 }
 
-// How many bytes were written: none where the writer refused.
-pub fn length_of(answer: Written) -> usize {
-    match answer {
-        Written::Length(n) => n,
-        Written::TooLong => 0,
-        Written::NoRoom => 0,
+// Nibble i of a message, or the class of device code i.
+pub fn number(m: u8, data: &[u8], i: usize) -> u8 {
+    if m == CLASSES {
+        return device::class_of((i % 256) as u8);
     }
-}
-
-// A data field, byte for byte.
-pub fn data(s: &[u8]) {
-    if s.len() == 0 {
-        page::say(b"no data\n");
-    } else {
-        page::say(b"data");
-        page::bytes(s);
-        page::say(b"\n");
+    if m < RESPONSE {
+        return command::nibble(fields_of(m), data, i);
     }
+    response::nibble(data, m % 16, i)
 }

@@ -1,43 +1,49 @@
 // Every cut of a message, and of two messages one behind the other, read as one.
 use crate::messages;
-use crate::messages::Message;
-use crate::papers;
-use text::slices;
+use libc::STDOUT_FILENO;
 
 pub fn run() {
-    page::say(b"Reading the first bytes of M1 and a second command behind it\n");
     cuts(
-        papers::open(),
+        b"\nReading the first bytes of M1 and a second command behind it\n  all",
+        messages::OPEN,
         b"\x14\x00\x01\x00\x00\x04\x00\x03\x00\x50\x00\xC0\x14\x03\x01\x00\x00\x50\x00\x00\x00",
     );
-    page::say(b"  M10, 9 bytes that announce 1: ");
-    reading(papers::open(), b"\x14\x00\x01\x00\x00\x04\x00\x01\x00");
-    page::say(b"\nReading the first bytes of M2 and a second response behind it\n");
+    reading(
+        b"  M10, 9 bytes that announce 1: ",
+        0,
+        messages::OPEN,
+        b"\x14\x00\x01\x00\x00\x04\x00\x01\x00",
+        b", ",
+    );
     cuts(
-        Message::Response(0x00),
+        b"\nReading the first bytes of M2 and a second response behind it\n  all",
+        messages::RESPONSE,
         b"\x04\x00\x50\x00\x00\x00\x00\x00\x00\x05",
     );
 }
 
-fn cuts(m: Message, s: &[u8]) {
-    page::say(b"  all");
-    page::bytes(s);
-    page::say(b"\n");
+fn cuts(title: &[u8], m: u8, s: &[u8]) {
+    page::say(STDOUT_FILENO, title);
+    page::bytes(STDOUT_FILENO, s);
+    page::say(STDOUT_FILENO, b"\n");
     let mut k = 0;
-    while k < s.len() {
-        cut(m, s, k);
+    while k <= s.len() {
+        reading(b"  first #: ", k as u64, m, &s[0..k], b", ");
         k += 1;
     }
-    cut(m, s, s.len());
 }
 
-fn cut(m: Message, s: &[u8], k: usize) {
-    page::tell(b"  first #: ", k as u64, 0, 0, 0);
-    reading(m, slices::part(s, 0, k));
-}
-
-fn reading(m: Message, s: &[u8]) {
-    m.read(s);
-    page::say(b", ");
-    messages::data(m.data_of(s));
+// What a slice is read as and, behind what stands between them, its data.
+pub fn reading(title: &[u8], k: u64, m: u8, s: &[u8], between: &[u8]) {
+    page::tell(STDOUT_FILENO, title, k, 0, 0, 0);
+    messages::read(m, s);
+    page::say(STDOUT_FILENO, between);
+    let data = messages::data_of(m, s);
+    if data.len() == 0 {
+        page::say(STDOUT_FILENO, b"no data\n");
+    } else {
+        page::say(STDOUT_FILENO, b"data");
+        page::bytes(STDOUT_FILENO, data);
+        page::say(STDOUT_FILENO, b"\n");
+    }
 }

@@ -24,11 +24,11 @@ loop-holds c = search needs
 scope-requires : tie.Need-scope-requires Inv-loop μ-loop
 scope-requires c κs = search needs
 
-element-copy-out-old : tie.Need-element-copy-out-old Inv-loop μ-loop
-element-copy-out-old c = search needs
+element-copy-out-mark : tie.Need-element-copy-out-mark Inv-loop μ-loop
+element-copy-out-mark c = search needs
 
-element-copy-out-new : tie.Need-element-copy-out-new Inv-loop μ-loop
-element-copy-out-new c = search needs
+element-copy-out-chosen : tie.Need-element-copy-out-chosen Inv-loop μ-loop
+element-copy-out-chosen c = search needs
 
 chosen-requires : tie.Need-chosen-requires Inv-loop μ-loop
 chosen-requires c κs = search needs
@@ -61,8 +61,8 @@ scopes-spec =
     add-end-2
     loop-holds
     scope-requires
-    element-copy-out-old
-    element-copy-out-new
+    element-copy-out-mark
+    element-copy-out-chosen
     chosen-requires
     put-requires
     add-k

@@ -1,29 +1,30 @@
--- The count is at most the number of bytes passed, so it fits.
+-- The count is at most the number of bytes passed, so it fits; the rest of a division is below what divides.
 use borrow.Author.Needs.{needs}
 use native.Mathlib.Omega.{arith}
+use native.Mathlib.Nat.{mod-lt}
 use mathlib.Core.Logic.{⊎-elim}
 use lib.ListN.{length}
 use Prim.Native.Nat.{_≤_, _-_}
-use Rattle.text.proofs.slices.same.Statement.{statement}
-use Rattle.text.proofs.slices.same.Tie as tie
+use Rattle.vectors.proofs.lengths.same.Statement.{statement}
+use Rattle.vectors.proofs.lengths.same.Tie as tie
 
 abbrev Inv-loop : tie.InvT-loop
-Inv-loop s t n₀ i₀ n i = (n ≤ i) × (i ≤ length t)
+Inv-loop s t n₀ k i₀ n i = n ≤ i
 
 abbrev μ-loop : tie.MeasureT-loop
-μ-loop s t n₀ i₀ n i = length s - i
+μ-loop s t n₀ k i₀ n i = length s - i
 
 loop-holds : tie.Need-loop-holds Inv-loop μ-loop
 loop-holds c = search needs
 
-returns : tie.Need-returns Inv-loop μ-loop
-returns c = search needs
-
 shared-slice-read-if2 : tie.Need-shared-slice-read-if2 Inv-loop μ-loop
 shared-slice-read-if2 c = search needs
 
+rem-if2 : tie.Need-rem-if2 Inv-loop μ-loop
+rem-if2 c = search needs
+
 shared-slice-read-if2-2 : tie.Need-shared-slice-read-if2-2 Inv-loop μ-loop
-shared-slice-read-if2-2 c = search needs
+shared-slice-read-if2-2 c = search (needs, mod-lt)
 
 add-n : tie.Need-add-n Inv-loop μ-loop
 add-n c = search needs
@@ -37,6 +38,9 @@ loop-less c = search needs
 loop-again : tie.Need-loop-again Inv-loop μ-loop
 loop-again c = ⊎-elim (λ w. omega arith) (λ w. omega arith) (c .if2 .came)
 
+returns : tie.Need-returns Inv-loop μ-loop
+returns c = search needs
+
 returns-2 : tie.Need-returns-2 Inv-loop μ-loop
 returns-2 c = search needs
 
@@ -47,11 +51,12 @@ same-spec =
     Inv-loop
     μ-loop
     loop-holds
-    returns
     shared-slice-read-if2
+    rem-if2
     shared-slice-read-if2-2
     add-n
     add-i
     loop-less
     loop-again
+    returns
     returns-2)
