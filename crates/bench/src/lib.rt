@@ -1,8 +1,10 @@
-// The bus of a script with its stand-ins, and its rounds. The units' memory, the bytes of statements and answers, the response buffer and
-// what is noted of a run are lent: they stay where they are.
-pub mod calls;
-pub mod hand;
+// The bus of a script and its rounds, with stand-ins for units and lines that are held from outside. The units' memory, the bytes of
+// statements and answers, the response buffer and what is noted of a run are lent: they stay where they are.
+pub mod controller_calls;
 pub mod look;
+pub mod picture_of;
+pub mod stand_in;
+pub mod unit_calls;
 
 use bus::Bus;
 use bus::Rounded;
@@ -11,112 +13,70 @@ use controller::Stepping;
 use desk::tell;
 use frame::Stage;
 use line::Lines;
-use standin::StandIn;
+use ring::Ring;
 use unit::Unit;
 
-// One controller, its units and the stand-ins for units.
-pub struct Bench {
-    pub bus: Bus,
-    pub others: [StandIn; 4],
-}
-
-// Where the answers of stand-ins begin among the bytes, behind those of a statement and those of the command that was submitted last.
-pub const ANSWERS: usize = 131072;
-
+// Where the bytes of the command that was submitted last begin among the bytes, behind those of a statement; behind them stand the
+// answers of stand-ins, 1,024 bytes each.
 pub const SUBMITTED: usize = 65536;
 
-// Where the strip and the bytes that were taken begin among the notes, behind what stand-ins have heard.
+pub const ANSWERS: usize = 131072;
+
+// Where the strip, the bytes that were taken and the entries of a ring begin among the notes, behind what stand-ins have heard, 1,024
+// bytes each.
 pub const STRIP: usize = 4096;
 
 pub const TAKEN: usize = 4608;
 
-// Where the entries of a ring that is looked at begin.
 pub const ENTRIES: usize = 4864;
+
+// A bus with a controller of the default time-out and no unit.
+pub fn start() -> Bus {
+    let made = application::make(application::TIMEOUT);
+    Bus::new(made.controller)
+}
 
 // A round of every party, after what hosts do by themselves.
 pub fn round(
-    b: Bench,
-    d: &mut [u64; 280],
+    bus: Bus,
+    d: &mut [u64; 360],
     bytes: &[u8; 135168],
     response: &mut [u8; 65536],
     memory: &mut [u8; 12288],
     notes: &mut [u8; 8192],
-) -> Bench {
+) -> Bus {
     let host = desk::due_host(d);
     if host < 16 {
-        let raised = calls::raised(b, d, host);
-        tell::refusal(d, script::RAISE);
-        return stepped(raised, d, bytes, response, memory, notes);
+        return stepped(raised(bus, d, host), d, bytes, response, memory, notes);
     }
-    stepped(b, d, bytes, response, memory, notes)
+    stepped(bus, d, bytes, response, memory, notes)
+}
+
+// The host of a unit raises a request by itself.
+fn raised(bus: Bus, d: &mut [u64; 360], i: usize) -> Bus {
+    let next = unit_calls::raise(bus.units[i % 16], d, i, ring_of(bus));
+    tell::refusal(d, script::RAISE);
+    with_unit(bus, i, next)
 }
 
 fn stepped(
-    b: Bench,
-    d: &mut [u64; 280],
+    bus: Bus,
+    d: &mut [u64; 360],
     bytes: &[u8; 135168],
     response: &mut [u8; 65536],
     memory: &mut [u8; 12288],
     notes: &mut [u8; 8192],
-) -> Bench {
-    let hosts = desk::busy_hosts(d);
-    let seen = levels(b, d);
-    let before = stage_of(b.bus);
-    let rounded = bus_round(b.bus, seen, hosts, d, bytes, response, memory);
-    let before_it = b.others;
-    let others = stand_ins(before_it, d[desk::STAND_INS], seen, notes, bytes);
-    d[desk::ROUND] = d[desk::ROUND] % desk::FOR_EVER + 1;
-    if 0 < d[desk::HOLD] {
-        d[desk::HOLD] = d[desk::HOLD] - 1;
-    }
-    let outcome = rounded.outcome;
-    let bus = concluded(rounded.bus, d, before, outcome, response);
-    let next = Bench { bus, others };
-    look::asking(bus, d);
-    if 0 < d[desk::DUMP] % 65536 + d[desk::PICTURED] % 2 {
-        look::pictured(next, d, notes);
-    }
-    next
-}
-
-// What the controller's step has come to is told. A request that is handed over is acknowledged at once, where the script says so.
-pub fn concluded(
-    bus: Bus,
-    d: &mut [u64; 280],
-    before: Stage,
-    outcome: Stepping,
-    response: &[u8],
 ) -> Bus {
-    let c = bus.controller;
-    let after = c.stage;
-    let code = tell::stepped(d, before, after, c.ring, outcome, response);
-    if (0 < code) & (d[desk::ACKNOWLEDGES] == 1) {
-        return calls::acknowledged(bus, d, code);
-    }
-    bus
-}
-
-// The levels left by all pulls, those from outside among them.
-pub fn levels(b: Bench, d: &[u64; 280]) -> Lines {
-    let bus = b.bus;
-    let held = Lines {
-        bav: d[desk::HOLD_BAV] == 1,
-        hsk: d[desk::HOLD_HSK] == 1,
-        nibble: (d[desk::HOLD_NIBBLE] % 16) as u8,
-    };
-    let mut l = bus.levels();
-    let mut i = 0usize;
-    while i < 4 {
-        if (i as u64) < d[desk::STAND_INS] {
-            let s = b.others[i];
-            l = line::wired(l, s.pulls());
-        }
-        i += 1;
-    }
-    if 0 < d[desk::HOLD] {
-        return line::wired(l, held);
-    }
-    l
+    let hosts = desk::busy_hosts(d);
+    let seen = levels(bus, d);
+    let before = stage_of(bus);
+    let rounded = bus_round(bus, seen, hosts, d, bytes, response, memory);
+    stand_in::steps(d, seen, notes, bytes);
+    desk::later(d);
+    let outcome = rounded.outcome;
+    let next = concluded(rounded.bus, d, before, outcome, response);
+    picture_of::round(next, d, notes);
+    next
 }
 
 // A round of the bus, with what was lent for its command.
@@ -124,7 +84,7 @@ fn bus_round(
     bus: Bus,
     seen: Lines,
     hosts: u32,
-    d: &[u64; 280],
+    d: &[u64; 360],
     bytes: &[u8],
     response: &mut [u8],
     memory: &mut [u8; 12288],
@@ -142,23 +102,29 @@ fn bus_round(
     }
 }
 
-fn stand_ins(
-    others: [StandIn; 4],
-    count: u64,
-    seen: Lines,
-    notes: &mut [u8; 8192],
-    bytes: &[u8; 135168],
-) -> [StandIn; 4] {
-    let mut next = others;
-    let mut i = 0usize;
-    while i < 4 {
-        if (i as u64) < count {
-            let s = next[i];
-            next[i] = s.step(i, seen, notes, bytes);
-        }
-        i += 1;
+// What the controller's step has come to is told. A request that is handed over is acknowledged at once, where the script says so.
+pub fn concluded(
+    bus: Bus,
+    d: &mut [u64; 360],
+    before: Stage,
+    outcome: Stepping,
+    response: &[u8],
+) -> Bus {
+    let code = tell::stepped(d, before, stage_of(bus), ring_of(bus), outcome, response);
+    if (0 < code) & (d[desk::ACKNOWLEDGES] == 1) {
+        let c = controller_calls::acknowledged(controller_of(bus), d, code);
+        return with_controller(bus, c);
     }
-    next
+    bus
+}
+
+// The levels left by all pulls, those of stand-ins and those from outside among them.
+pub fn levels(bus: Bus, d: &[u64; 360]) -> Lines {
+    stand_in::wired(d, bus.levels())
+}
+
+pub fn controller_of(bus: Bus) -> Controller {
+    bus.controller
 }
 
 pub fn stage_of(bus: Bus) -> Stage {
@@ -166,27 +132,25 @@ pub fn stage_of(bus: Bus) -> Stage {
     c.stage
 }
 
+pub fn ring_of(bus: Bus) -> Ring {
+    let c = bus.controller;
+    c.ring
+}
+
 // The unit at a place under 16.
-pub fn unit_of(b: Bench, i: usize) -> Unit {
-    let bus = b.bus;
+pub fn unit_of(bus: Bus, i: usize) -> Unit {
     bus.units[i % 16]
 }
 
-pub fn with_unit(b: Bench, i: usize, u: Unit) -> Bench {
-    let mut bus = b.bus;
-    bus.units[i % 16] = u;
-    with_bus(b, bus)
+pub fn with_unit(bus: Bus, i: usize, u: Unit) -> Bus {
+    let mut next = bus;
+    next.units[i % 16] = u;
+    next
 }
 
-pub fn with_controller(b: Bench, c: Controller) -> Bench {
-    let mut bus = b.bus;
-    bus.controller = c;
-    with_bus(b, bus)
-}
-
-pub fn with_bus(b: Bench, bus: Bus) -> Bench {
-    let mut next = b;
-    next.bus = bus;
+pub fn with_controller(bus: Bus, c: Controller) -> Bus {
+    let mut next = bus;
+    next.controller = c;
     next
 }
 
@@ -196,45 +160,24 @@ pub fn is_free(bus: Bus) -> bool {
 }
 
 // Whether no party has anything to do: no line is pulled, no frame or rest runs, nothing is submitted, no unit holds a request.
-pub fn is_quiet(b: Bench, d: &[u64; 280]) -> bool {
-    if is_free(b.bus) {
-        let l = levels(b, d);
+pub fn is_quiet(bus: Bus, d: &[u64; 360]) -> bool {
+    if is_free(bus) {
+        let l = levels(bus, d);
         let pulled = l.bav | l.hsk | (l.nibble != 15);
-        return !pulled & (requests(b.bus, d[desk::COUNT]) == 0);
+        return !pulled & !is_requesting(bus, d[desk::COUNT]);
     }
     false
 }
 
-// How many units hold a request.
-fn requests(bus: Bus, count: u64) -> u32 {
-    let mut n = 0u32;
+// Whether any of the units holds a request.
+fn is_requesting(bus: Bus, count: u64) -> bool {
+    let n = (count % 17) as usize;
+    let mut so = false;
     let mut i = 0usize;
-    while i < 16 {
-        let u = bus.units[i];
-        let s = u.serial;
-        if s.requesting & ((i as u64) < count) {
-            n = n % 16 + 1;
-        }
+    while i < n {
+        let u = bus.units[i % 16];
+        so = so | u.serial.requesting;
         i += 1;
     }
-    n
-}
-
-// The 256 bytes of a unit's memory from a place on, and back.
-pub fn load(memory: &[u8; 12288], at: usize) -> [u8; 256] {
-    let mut part = [0u8; 256];
-    let mut i = 0usize;
-    while i < 256 {
-        part[i] = memory[at % 12033 + i];
-        i += 1;
-    }
-    part
-}
-
-pub fn store(memory: &mut [u8; 12288], at: usize, part: &[u8; 256]) {
-    let mut i = 0usize;
-    while i < 256 {
-        memory[at % 12033 + i] = part[i];
-        i += 1;
-    }
+    so
 }

@@ -1,29 +1,29 @@
 // Expectations and failures. A failure is said with its script and line, and all of them again at the end.
 use crate::FAILED;
+use crate::FORM;
 use crate::HELD;
 use crate::LINE;
 use crate::LOGGED;
+use crate::OTHER;
 use crate::PENDING;
 use crate::PENDING_LINE;
 use crate::PENDING_START;
 use crate::START;
+use crate::STATUS;
 use crate::UNREACHED;
 use libc::STDOUT_FILENO;
-use script::Statement;
 use script::word;
-use script::word::NONE;
 
 // An expectation of numbers: those that the statement names, and those that were found. What it does not name is 0, and a nibble 15.
 pub fn numbers(
-    d: &mut [u64; 280],
+    d: &mut [u64; 360],
     log: &mut [u8; 16384],
     forms: &[u8],
     name: &[u8],
     text: &[u8],
-    s: Statement,
     found: &[u32; 16],
 ) {
-    let form = s.form;
+    let form = (d[FORM] % 64) as u32;
     let lowest = match form {
         script::PULLS => 3,
         script::LINES => 2,
@@ -33,8 +33,12 @@ pub fn numbers(
     let mut i = 0usize;
     while i < 16 {
         let none = if i == lowest { 15 } else { 0 };
-        let wanted = s.value_or(i, none);
-        let there = if found[i] == NONE { none } else { found[i] };
+        let wanted = crate::value_or(d, i, none);
+        let there = if found[i] == word::NONE {
+            none
+        } else {
+            crate::wide(found[i])
+        };
         holds = holds & (wanted == there);
         i += 1;
     }
@@ -42,21 +46,40 @@ pub fn numbers(
         held(d);
     } else {
         let mut page = [0u8; 4096];
-        other_numbers(d, log, &mut page, forms, name, text, s.form, found);
+        other_numbers(d, log, &mut page, forms, name, text, form, found);
     }
 }
 
-// An expectation of bytes, all of those that were found, or the first of them with the rest as it was lent.
+// An expectation of bytes: all of those that were found, or of lent memory the first, with the rest as it was lent. Entries of a ring
+// are two bytes each: a code and a mark. Data cannot be judged before a command has ended.
 pub fn bytes(
-    d: &mut [u64; 280],
+    d: &mut [u64; 360],
     log: &mut [u8; 16384],
     name: &[u8],
     text: &[u8],
     wanted: &[u8],
     found: &[u8],
-    is_lent: bool,
 ) {
+    let form = (d[FORM] % 64) as u32;
     let n = wanted.len();
+    let mut page = [0u8; 4096];
+    if (form == script::RECEIVED) & (d[STATUS] == OTHER) {
+        let line = d[LINE];
+        let start = d[START];
+        in_words(
+            d,
+            log,
+            &mut page,
+            name,
+            text,
+            line,
+            start,
+            b"; found: no command has ended",
+            0,
+        );
+        return;
+    }
+    let is_lent = (form == script::BUFFER) | (form == script::RESPONSE);
     let holds = if is_lent {
         word::is(wanted, crate::tell::front(found, n)) & is_as_lent(found, n)
     } else {
@@ -65,25 +88,7 @@ pub fn bytes(
     if holds {
         held(d);
     } else {
-        let mut page = [0u8; 4096];
-        other_bytes(d, log, &mut page, name, text, found, false);
-    }
-}
-
-// An expectation of the ring, each entry as two bytes: its code and its mark.
-pub fn ring(
-    d: &mut [u64; 280],
-    log: &mut [u8; 16384],
-    name: &[u8],
-    text: &[u8],
-    wanted: &[u8],
-    found: &[u8],
-) {
-    if word::is(wanted, found) {
-        held(d);
-    } else {
-        let mut page = [0u8; 4096];
-        other_bytes(d, log, &mut page, name, text, found, true);
+        other_bytes(d, log, &mut page, name, text, found, form == script::RING);
     }
 }
 
@@ -107,24 +112,6 @@ fn wide(b: u8) -> u64 {
     b as u64
 }
 
-// Nothing has happened that the expectation could be about.
-pub fn missing(d: &mut [u64; 280], log: &mut [u8; 16384], name: &[u8], text: &[u8]) {
-    let mut page = [0u8; 4096];
-    let line = d[LINE];
-    let start = d[START];
-    in_words(
-        d,
-        log,
-        &mut page,
-        name,
-        text,
-        line,
-        start,
-        b"; found: no command has ended",
-        0,
-    );
-}
-
 // Whether every byte from a place on is still EE.
 fn is_as_lent(s: &[u8], from: usize) -> bool {
     let mut i = from;
@@ -138,7 +125,7 @@ fn is_as_lent(s: &[u8], from: usize) -> bool {
 }
 
 // What the last statement came to must be expected by this one, or it is a failure.
-pub fn settled(d: &mut [u64; 280], log: &mut [u8; 16384], name: &[u8], text: &[u8], form: u32) {
+pub fn settled(d: &mut [u64; 360], log: &mut [u8; 16384], name: &[u8], text: &[u8], form: u32) {
     let what = d[PENDING];
     if (what == 0) | (form == script::BLANK) {
         return;
@@ -184,7 +171,7 @@ pub fn settled(d: &mut [u64; 280], log: &mut [u8; 16384], name: &[u8], text: &[u
 
 // Numbers other than expected: the statement that would hold.
 fn other_numbers(
-    d: &mut [u64; 280],
+    d: &mut [u64; 360],
     log: &mut [u8; 16384],
     page: &mut [u8; 4096],
     forms: &[u8],
@@ -201,7 +188,7 @@ fn other_numbers(
 
 // Bytes other than expected, or entries of the ring.
 fn other_bytes(
-    d: &mut [u64; 280],
+    d: &mut [u64; 360],
     log: &mut [u8; 16384],
     page: &mut [u8; 4096],
     name: &[u8],
@@ -223,7 +210,7 @@ fn other_bytes(
 
 // A failure of a line, in words with a number among them.
 fn in_words(
-    d: &mut [u64; 280],
+    d: &mut [u64; 360],
     log: &mut [u8; 16384],
     page: &mut [u8; 4096],
     name: &[u8],
@@ -250,13 +237,13 @@ fn begun(page: &mut [u8; 4096], name: &[u8], text: &[u8], line: u64, start: u64)
     page::shown(page, c, crate::tell::front(word::part(text, at, end), 120))
 }
 
-fn held(d: &mut [u64; 280]) {
+fn held(d: &mut [u64; 360]) {
     d[HELD] = d[HELD] % 1000000000 + 1;
     page::say(crate::out(d), b"          holds\n");
 }
 
 // A failure is said, and kept for the end while there is room.
-fn failed(d: &mut [u64; 280], log: &mut [u8; 16384], page: &mut [u8; 4096], end: usize) {
+fn failed(d: &mut [u64; 360], log: &mut [u8; 16384], page: &mut [u8; 4096], end: usize) {
     let n = page::letter(page, end, b'\n');
     d[FAILED] = d[FAILED] % 1000000000 + 1;
     page::write(STDOUT_FILENO, page, n);

@@ -4,7 +4,7 @@ pub mod judge;
 pub mod plan;
 pub mod tell;
 
-use script::OTHER;
+use script::Statement;
 
 // The rounds so far, and those of the last run.
 pub const ROUND: usize = 0;
@@ -141,8 +141,23 @@ pub const MARKS: usize = 240;
 // Sixteen words: 1 for a unit that pulls BAV for a request.
 pub const ASKING: usize = 264;
 
-// How many words there are.
-pub const SIZE: usize = 280;
+// The statement that is under way: its form, how many bytes it has, and sixteen words for its values, NONE for what was not given.
+pub const FORM: usize = 41;
+
+pub const BYTES: usize = 42;
+
+pub const VALUES: usize = 280;
+
+// Sixteen words for each of four stand-ins (bench/src/stand_in.rt).
+pub const STAND_IN: usize = 296;
+
+// The most bytes of a stand-in's answer.
+pub const ANSWER: u64 = 1024;
+
+// The value of a statement that was not given, and that of the word behind a bar.
+pub const NONE: u64 = 4294967295;
+
+pub const OTHER: u64 = 257;
 
 // Not a refusal: a run did not come to the end that it was to come to.
 pub const UNREACHED: u64 = 99;
@@ -151,51 +166,76 @@ pub const UNREACHED: u64 = 99;
 pub const FOR_EVER: u64 = 1000000000000;
 
 // The numbers before the first statement, among others that are 0.
-pub fn start(d: &mut [u64; 280]) {
-    d[STATUS] = OTHER as u64;
-    d[REQUEST] = OTHER as u64;
+pub fn start(d: &mut [u64; 360]) {
+    d[STATUS] = OTHER;
+    d[REQUEST] = OTHER;
     d[LENT] = 65535;
     d[LINE] = 1;
-    d[PASS] = script::word::NONE as u64;
+    d[PASS] = NONE;
     d[OUT] = 1;
 }
 
 // The descriptor that is written to.
-pub fn out(d: &[u64; 280]) -> i32 {
+pub fn out(d: &[u64; 360]) -> i32 {
     (d[OUT] % 65536) as i32
 }
 
-// Where the unit with a code stands; 16 where there is none.
-pub fn find(d: &[u64; 280], code: u32) -> usize {
-    let mut i = 0;
+// A statement is under way.
+pub fn stated(d: &mut [u64; 360], s: Statement) {
+    let values = s.values;
+    let mut i = 0usize;
     while i < 16 {
-        if (i as u64) < d[COUNT] {
-            if d[CODES + i] == code as u64 {
-                return i;
-            }
+        d[VALUES + i] = wide(values[i]);
+        i += 1;
+    }
+    d[FORM] = s.form as u64;
+    d[BYTES] = s.length as u64;
+}
+
+fn wide(n: u32) -> u64 {
+    n as u64
+}
+
+// A value of the statement, or a number where it was not given.
+pub fn value_or(d: &[u64; 360], i: usize, other: u64) -> u64 {
+    let v = d[VALUES + i % 16];
+    if v == NONE { other } else { v }
+}
+
+pub fn has(d: &[u64; 360], i: usize) -> bool {
+    d[VALUES + i % 16] != NONE
+}
+
+// Where the unit with a code stands; 16 where there is none.
+pub fn find(d: &[u64; 360], code: u64) -> usize {
+    place_of(d, CODES, d[COUNT], code)
+}
+
+// Where the stand-in with a code stands, OTHER being every code; 16 where there is none.
+pub fn find_stand_in(d: &[u64; 360], code: u64) -> usize {
+    place_of(
+        d,
+        STAND_IN_CODES,
+        d[STAND_INS],
+        if code == OTHER { 0 } else { code },
+    )
+}
+
+// Where a word stands among so many of a row; 16 where it does not.
+fn place_of(d: &[u64; 360], row: usize, count: u64, word: u64) -> usize {
+    let n = (count % 17) as usize;
+    let mut i = 0usize;
+    while i < n {
+        if d[row % 256 + i] == word {
+            return i;
         }
         i += 1;
     }
     16
 }
 
-// Where the stand-in with a code stands, OTHER being every code; 4 where there is none.
-pub fn find_stand_in(d: &[u64; 280], code: u32) -> usize {
-    let own = if code == OTHER { 0 } else { code };
-    let mut i = 0;
-    while i < 4 {
-        if (i as u64) < d[STAND_INS] {
-            if d[STAND_IN_CODES + i] == own as u64 {
-                return i;
-            }
-        }
-        i += 1;
-    }
-    4
-}
-
 // The place of a party's host: that of a unit, 16 for the controller.
-pub fn host(d: &[u64; 280], code: u32) -> usize {
+pub fn host(d: &[u64; 360], code: u64) -> usize {
     if code == OTHER {
         return 16;
     }
@@ -203,7 +243,7 @@ pub fn host(d: &[u64; 280], code: u32) -> usize {
 }
 
 // A call was refused with a number, which the next statement must expect; 0 for one that was not.
-pub fn refused(d: &mut [u64; 280], number: u8) {
+pub fn refused(d: &mut [u64; 360], number: u8) {
     d[REFUSAL] = number as u64;
     if 0 < number {
         awaited(d, number as u64);
@@ -211,14 +251,14 @@ pub fn refused(d: &mut [u64; 280], number: u8) {
 }
 
 // The next statement must expect this.
-pub fn awaited(d: &mut [u64; 280], what: u64) {
+pub fn awaited(d: &mut [u64; 360], what: u64) {
     d[PENDING] = what;
     d[PENDING_LINE] = d[LINE];
     d[PENDING_START] = d[START];
 }
 
 // The hosts that are busy in the next round, a bit for each; then each is busy for one round less.
-pub fn busy_hosts(d: &mut [u64; 280]) -> u32 {
+pub fn busy_hosts(d: &mut [u64; 360]) -> u32 {
     if d[BUSY_HOSTS] == 0 {
         return 0;
     }
@@ -242,8 +282,39 @@ pub fn busy_hosts(d: &mut [u64; 280]) -> u32 {
     hosts
 }
 
+// The host of the statement is busy for so many rounds, or free only in every so many.
+pub fn busy(d: &mut [u64; 360], for_rounds: bool) {
+    let k = host(d, d[VALUES]) % 17;
+    let every = value_or(d, 2, 0);
+    d[BUSY_HOSTS] = 1;
+    if for_rounds {
+        d[BUSY + k] = d[VALUES + 1];
+    } else {
+        d[SINCE + k] = 0;
+        d[FREE + k] = every;
+        d[BUSY + k] = if every == 0 { FOR_EVER } else { 0 };
+    }
+}
+
+// Lines that are held low from outside.
+pub fn hold(d: &mut [u64; 360]) {
+    d[HOLD] = d[VALUES];
+    d[HOLD_BAV] = has(d, 1) as u64;
+    d[HOLD_HSK] = has(d, 2) as u64;
+    d[HOLD_NIBBLE] = value_or(d, 3, 15);
+}
+
+// A round later: one less in which lines are held.
+pub fn later(d: &mut [u64; 360]) {
+    d[ROUND] = d[ROUND] % FOR_EVER + 1;
+    let held = d[HOLD];
+    if 0 < held {
+        d[HOLD] = held - 1;
+    }
+}
+
 // The place of a host that is to raise a request by itself in this round, 16 for none. It is next due so many rounds later.
-pub fn due_host(d: &mut [u64; 280]) -> usize {
+pub fn due_host(d: &mut [u64; 360]) -> usize {
     if d[RAISING_HOSTS] == 0 {
         return 16;
     }
@@ -260,7 +331,7 @@ pub fn due_host(d: &mut [u64; 280]) -> usize {
 }
 
 // A service frame begins: the turn of the unit at a place.
-pub fn turned(d: &mut [u64; 280], at: usize) {
+pub fn turned(d: &mut [u64; 360], at: usize) {
     let mut i = 0usize;
     while i < 16 {
         d[WAITED + i] = d[WAITED + i] % 1000000000 + d[WAITING + i] % 2;

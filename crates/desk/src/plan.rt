@@ -1,18 +1,21 @@
 // What the statements of a script so far make of the bus, and whether a statement can stand where it stands.
 use crate::BEGUN;
+use crate::BYTES;
 use crate::CODES;
 use crate::COUNT;
+use crate::FORM;
 use crate::LINE;
 use crate::LOOP;
 use crate::LOOP_LINE;
 use crate::NEXT;
+use crate::NONE;
+use crate::OTHER;
 use crate::PASS;
 use crate::PASSES;
 use crate::STAND_IN_CODES;
 use crate::STAND_INS;
 use crate::START;
-use script::OTHER;
-use script::Statement;
+use crate::VALUES;
 use script::word;
 
 // What each form needs, a letter for each: c no unit yet, u room for a unit, s room for a stand-in, k a unit with its code, p a unit or
@@ -25,9 +28,9 @@ fn need(form: u32) -> u8 {
 }
 
 // With one statement more; 0, or the number of the reason why it cannot stand here.
-pub fn with(d: &mut [u64; 280], s: Statement) -> u32 {
-    let what = need(s.form);
-    let code = s.value(0);
+pub fn with(d: &mut [u64; 360]) -> u32 {
+    let what = need((d[FORM] % 64) as u32);
+    let code = d[VALUES];
     if (what == b'b') | (what == b'q') {
         d[BEGUN] = 1;
     }
@@ -37,8 +40,8 @@ pub fn with(d: &mut [u64; 280], s: Statement) -> u32 {
         } else {
             0
         },
-        b'u' => unit(d, s),
-        b's' => stand_in(d, code),
+        b'u' => unit(d),
+        b's' => stand_in(d),
         b'k' => if crate::find(d, code) < 16 { 0 } else { 4 },
         b'p' => party(d, code),
         b'q' => party(d, code),
@@ -47,9 +50,9 @@ pub fn with(d: &mut [u64; 280], s: Statement) -> u32 {
         } else {
             5
         },
-        b'a' => if crate::find_stand_in(d, code) == 4 {
+        b'a' => if crate::find_stand_in(d, code) == 16 {
             5
-        } else if standin::MOST < s.length {
+        } else if crate::ANSWER < d[BYTES] {
             6
         } else {
             0
@@ -60,17 +63,18 @@ pub fn with(d: &mut [u64; 280], s: Statement) -> u32 {
     }
 }
 
-fn party(d: &[u64; 280], code: u32) -> u32 {
-    if crate::host(d, code) <= 15 {
-        return 0;
+fn party(d: &[u64; 360], code: u64) -> u32 {
+    if (code == OTHER) | (crate::find(d, code) < 16) {
+        0
+    } else {
+        4
     }
-    if code == OTHER { 0 } else { 4 }
 }
 
 // One more unit. Settings that are refused make none.
-fn unit(d: &mut [u64; 280], s: Statement) -> u32 {
-    let code = s.value(0);
-    let retry = s.value_or(1, 20);
+pub fn unit(d: &mut [u64; 360]) -> u32 {
+    let code = d[VALUES];
+    let retry = crate::value_or(d, 1, 20);
     let n = d[COUNT];
     if 0 < d[BEGUN] {
         return 1;
@@ -82,13 +86,14 @@ fn unit(d: &mut [u64; 280], s: Statement) -> u32 {
         return 3;
     }
     if (0 < code) & (4 <= retry) & (retry <= 65535) {
-        d[CODES + n as usize] = code as u64;
+        d[CODES + n as usize] = code;
         d[COUNT] = n + 1;
     }
     0
 }
 
-fn stand_in(d: &mut [u64; 280], code: u32) -> u32 {
+pub fn stand_in(d: &mut [u64; 360]) -> u32 {
+    let code = d[VALUES];
     let n = d[STAND_INS];
     if 0 < d[BEGUN] {
         return 1;
@@ -99,7 +104,7 @@ fn stand_in(d: &mut [u64; 280], code: u32) -> u32 {
     if crate::find_stand_in(d, code) < 4 {
         return 3;
     }
-    d[STAND_IN_CODES + n as usize] = if code == OTHER { 0 } else { code as u64 };
+    d[STAND_IN_CODES + n as usize] = if code == OTHER { 0 } else { code };
     d[STAND_INS] = n + 1;
     0
 }
@@ -125,7 +130,7 @@ pub fn reason(out: i32, number: u32) {
 }
 
 // The line that begins where the last one ended: its end. The next one begins behind it.
-pub fn next_line(d: &mut [u64; 280], text: &[u8]) -> usize {
+pub fn next_line(d: &mut [u64; 360], text: &[u8]) -> usize {
     let start = d[NEXT];
     let end = word::find(text, (start % 16777216) as usize, b'\n');
     d[START] = start;
@@ -134,20 +139,20 @@ pub fn next_line(d: &mut [u64; 280], text: &[u8]) -> usize {
 }
 
 // Behind a line.
-pub fn past_line(d: &mut [u64; 280]) {
+pub fn past_line(d: &mut [u64; 360]) {
     d[LINE] = d[LINE] % 1000000000 + 1;
 }
 
 // Behind a statement: the next line, or at the end of a repeat its first line again.
-pub fn past(d: &mut [u64; 280], s: Statement) {
+pub fn past(d: &mut [u64; 360]) {
     past_line(d);
-    let form = s.form;
+    let form = (d[FORM] % 64) as u32;
     match form {
         script::REPEAT => {
             d[LOOP] = d[NEXT];
             d[LOOP_LINE] = d[LINE];
-            d[PASSES] = s.value(0) as u64;
-            d[PASS] = s.value_or(1, 1) as u64;
+            d[PASSES] = d[VALUES];
+            d[PASS] = crate::value_or(d, 1, 1);
         }
         script::END => {
             let left = d[PASSES];
@@ -158,7 +163,7 @@ pub fn past(d: &mut [u64; 280], s: Statement) {
                 d[LINE] = d[LOOP_LINE];
             } else {
                 d[LOOP] = 0;
-                d[PASS] = word::NONE as u64;
+                d[PASS] = NONE;
             }
         }
         _ => {}

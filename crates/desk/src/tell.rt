@@ -21,7 +21,7 @@ use turn::Event;
 // What a step of the controller has come to: the stage before and after it, the ring after it, and the response buffer. The code that
 // was handed over, 0 for none.
 pub fn stepped(
-    d: &mut [u64; 280],
+    d: &mut [u64; 360],
     before: Stage,
     after: Stage,
     ring: Ring,
@@ -42,7 +42,7 @@ pub fn stepped(
     }
 }
 
-fn happened(d: &mut [u64; 280], event: Event, response: &[u8]) -> u8 {
+fn happened(d: &mut [u64; 360], event: Event, response: &[u8]) -> u8 {
     match event {
         Event::Nothing => 0,
         Event::Ended(status, n) => {
@@ -67,7 +67,7 @@ fn happened(d: &mut [u64; 280], event: Event, response: &[u8]) -> u8 {
     }
 }
 
-fn refused(d: &mut [u64; 280], number: u8) -> u8 {
+fn refused(d: &mut [u64; 360], number: u8) -> u8 {
     crate::refused(d, number);
     refusal(d, script::RUN);
     0
@@ -95,14 +95,14 @@ fn submitted(out: i32, round: u64, f: Frame) {
 }
 
 // A service frame begins: the entry whose turn it is has moved to the back.
-fn service(d: &mut [u64; 280], after: Stage, ring: Ring) {
+fn service(d: &mut [u64; 360], after: Stage, ring: Ring) {
     let Stage::Sending(f, _, _, _) = after else {
         return;
     };
     let n = ring.len();
     let e = ring.entry(if 0 < n { n - 1 } else { 0 });
     let code = e.code;
-    let at = crate::find(d, code as u32);
+    let at = crate::find(d, code as u64);
     crate::turned(d, at);
     let out = crate::out(d);
     page::tell(
@@ -152,8 +152,8 @@ fn ended(out: i32, round: u64, after: Stage, f: Frame, status: u8) {
 }
 
 // A request is handed over.
-fn handed(d: &mut [u64; 280], code: u8) -> u8 {
-    let at = crate::find(d, code as u32) % 16;
+fn handed(d: &mut [u64; 360], code: u8) -> u8 {
+    let at = crate::find(d, code as u64) % 16;
     d[REQUEST] = code as u64;
     d[REQUESTS] = d[REQUESTS] % 1000000000 + 1;
     d[WAITING + at] = 0;
@@ -180,9 +180,9 @@ pub fn received(out: i32, s: &[u8]) {
 }
 
 // The bytes that a unit gives its host.
-pub fn given(d: &[u64; 280], code: u32, s: &[u8]) {
+pub fn given(d: &[u64; 360], s: &[u8]) {
     let out = crate::out(d);
-    page::tell(out, b"@# gives its host", d[ROUND], code as u64, 0, 0);
+    page::tell(out, b"@# gives its host", d[ROUND], d[crate::VALUES], 0, 0);
     if s.len() == 0 {
         page::say(out, b" nothing");
     }
@@ -198,7 +198,7 @@ pub fn front(s: &[u8], n: usize) -> &[u8] {
 }
 
 // A unit begins to pull BAV, or holds a request.
-pub fn asks(d: &[u64; 280], place: usize, pulls: bool) {
+pub fn asks(d: &[u64; 360], place: usize, pulls: bool) {
     let out = crate::out(d);
     let code = d[CODES + place % 16];
     if pulls {
@@ -208,8 +208,26 @@ pub fn asks(d: &[u64; 280], place: usize, pulls: bool) {
     }
 }
 
+// A request is waited for from now on, with so many entries of the ring before its unit's.
+pub fn awaited(d: &mut [u64; 360], i: usize, ring: Ring) {
+    let at = i % 16;
+    let code = d[CODES + at];
+    let mut n = 0usize;
+    while n < 16 {
+        let e = ring.entry(n);
+        if e.code as u64 == code {
+            break;
+        }
+        n += 1;
+    }
+    d[WAITING + at] = 1;
+    d[WAITED + at] = 0;
+    d[AHEAD + at] = n as u64;
+    asks(d, at, false);
+}
+
 // The last refusal's number and its meaning for the call of a form.
-pub fn refusal(d: &[u64; 280], form: u32) {
+pub fn refusal(d: &[u64; 360], form: u32) {
     let out = crate::out(d);
     let number = d[REFUSAL];
     if number == 0 {

@@ -10,7 +10,7 @@ use script::word;
 const VERDICT: i32 = 9;
 
 // What the words behind `run` ask for: how many scripts, whether frames are pictured, and which word names the dump, 0 for none.
-struct Wanted {
+struct Words {
     scripts: usize,
     pictured: u64,
     dump: usize,
@@ -89,8 +89,8 @@ fn run(forms: &[u8]) -> bool {
 }
 
 // The words behind `run`.
-fn wanted() -> Wanted {
-    let mut w = Wanted {
+fn wanted() -> Words {
+    let mut w = Words {
         scripts: 0,
         pictured: 0,
         dump: 0,
@@ -109,7 +109,7 @@ fn wanted() -> Wanted {
     w
 }
 
-fn with_word(w: Wanted, i: usize) -> Wanted {
+fn with_word(w: Words, i: usize) -> Words {
     let mut name = [0u8; 4096];
     let n = os::arg(i, &mut name);
     let word = &name[..n];
@@ -145,7 +145,7 @@ fn wrong(words: &[u8], word: &[u8]) -> bool {
 }
 
 // Each script in the order of the words; whether all of them were played whole and every expectation held.
-fn scripts(forms: &[u8], w: Wanted, text: &mut [u8; 1048577]) -> bool {
+fn scripts(forms: &[u8], w: Words, text: &mut [u8; 1048577]) -> bool {
     let mut bytes = [0u8; 135168];
     let mut response = [0u8; 65536];
     let mut log = [0u8; 16384];
@@ -154,7 +154,7 @@ fn scripts(forms: &[u8], w: Wanted, text: &mut [u8; 1048577]) -> bool {
 
 fn each(
     forms: &[u8],
-    w: Wanted,
+    w: Words,
     text: &mut [u8; 1048577],
     bytes: &mut [u8; 135168],
     response: &mut [u8; 65536],
@@ -189,7 +189,7 @@ fn each(
 // The script that a word names; an option is passed over.
 fn named(
     forms: &[u8],
-    w: Wanted,
+    w: Words,
     i: usize,
     all: Tally,
     text: &mut [u8; 1048577],
@@ -266,7 +266,7 @@ fn load(name: &[u8], text: &mut [u8]) -> usize {
 // A script is played only if every line of it can be.
 fn played(
     forms: &[u8],
-    w: Wanted,
+    w: Words,
     name: &[u8],
     all: Tally,
     text: &[u8],
@@ -274,7 +274,7 @@ fn played(
     response: &mut [u8; 65536],
     log: &mut [u8; 16384],
 ) -> Tally {
-    let mut plan = [0u64; 280];
+    let mut plan = [0u64; 360];
     let faults = play::faults(forms, name, text, &mut plan, bytes);
     if 0 < faults {
         page::show(STDOUT_FILENO, name);
@@ -287,7 +287,7 @@ fn played(
     }
     page::show(STDOUT_FILENO, name);
     page::say(STDOUT_FILENO, b"\n");
-    let mut d = [0u64; 280];
+    let mut d = [0u64; 360];
     d[desk::DUMP] = (dump % 65536) as u64;
     d[desk::PICTURED] = w.pictured;
     d[desk::LOGGED] = all.logged as u64;
@@ -300,7 +300,7 @@ fn lent(
     forms: &[u8],
     name: &[u8],
     text: &[u8],
-    d: &mut [u64; 280],
+    d: &mut [u64; 360],
     bytes: &mut [u8; 135168],
     response: &mut [u8; 65536],
     log: &mut [u8; 16384],
@@ -321,7 +321,7 @@ fn lent(
 }
 
 // What a script has come to, behind those before it.
-fn summary(name: &[u8], all: Tally, d: &[u64; 280]) -> Tally {
+fn summary(name: &[u8], all: Tally, d: &[u64; 360]) -> Tally {
     page::show(STDOUT_FILENO, name);
     page::tell(
         STDOUT_FILENO,

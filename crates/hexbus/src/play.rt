@@ -1,28 +1,35 @@
 // A script, read as a whole before any of it is played, and played line by line.
-use bench::Bench;
-use bench::calls;
-use bench::hand;
+use bench::controller_calls;
 use bench::look;
+use bench::picture_of;
+use bench::stand_in;
+use bench::unit_calls;
+use bus::Bus;
+use controller::Controller;
+use desk::VALUES;
 use desk::judge;
 use desk::plan;
 use desk::tell;
+use host::Made;
 use libc::STDERR_FILENO;
 use libc::STDOUT_FILENO;
-use script::Statement;
+use line::Lines;
+use ring::Ring;
 use script::word;
+use unit::Unit;
 
 // The longest line.
 const LONGEST: usize = 4096;
 
 // A run until something has happened is at most so long, where the script sets no limit.
-const LIMIT: u32 = 100000;
+const LIMIT: u64 = 100000;
 
 // How many lines of a script cannot be played. The first twenty are said.
 pub fn faults(
     forms: &[u8],
     name: &[u8],
     text: &[u8],
-    d: &mut [u64; 280],
+    d: &mut [u64; 360],
     bytes: &mut [u8; 135168],
 ) -> u64 {
     desk::start(d);
@@ -62,41 +69,40 @@ fn checked(
     forms: &[u8],
     name: &[u8],
     text: &[u8],
-    d: &mut [u64; 280],
+    d: &mut [u64; 360],
     bytes: &mut [u8; 135168],
 ) -> u64 {
     let end = plan::next_line(d, text);
     let line = word::part(text, d[desk::START] as usize, end);
     let s = script::read(forms, line, (d[desk::PASS] % 4294967296) as u32, bytes);
-    if LONGEST < line.len() {
+    let is_long = LONGEST < line.len();
+    if is_long | s.is_wrong {
         if fault(d, name) {
-            page::say(
-                STDOUT_FILENO,
-                b"the line is too long: at most 4,096 bytes\n",
-            );
+            if is_long {
+                page::say(
+                    STDOUT_FILENO,
+                    b"the line is too long: at most 4,096 bytes\n",
+                );
+            } else {
+                script::fault::misread(STDOUT_FILENO, forms, line, s);
+            }
         }
         plan::past_line(d);
         return 1;
     }
-    if s.is_wrong {
-        if fault(d, name) {
-            script::fault::misread(STDOUT_FILENO, forms, line, s);
-        }
-        plan::past_line(d);
-        return 1;
-    }
-    let why = plan::with(d, s);
+    desk::stated(d, s);
+    let why = plan::with(d);
     if 0 < why {
         if fault(d, name) {
             plan::reason(STDOUT_FILENO, why);
         }
     }
-    plan::past(d, s);
+    plan::past(d);
     if s.form == script::BLANK { 0 } else { 1 }
 }
 
 // One more line that cannot be played: whether that is said. In a repeat no more passes follow.
-fn fault(d: &mut [u64; 280], name: &[u8]) -> bool {
+fn fault(d: &mut [u64; 360], name: &[u8]) -> bool {
     let n = d[desk::FAULTS] % 1000000000 + 1;
     d[desk::FAULTS] = n;
     d[desk::PASSES] = 0;
@@ -113,7 +119,7 @@ pub fn whole(
     forms: &[u8],
     name: &[u8],
     text: &[u8],
-    d: &mut [u64; 280],
+    d: &mut [u64; 360],
     bytes: &mut [u8; 135168],
     response: &mut [u8; 65536],
     memory: &mut [u8; 12288],
@@ -121,179 +127,204 @@ pub fn whole(
     log: &mut [u8; 16384],
 ) {
     desk::start(d);
-    let mut b = calls::start();
+    let mut bus = bench::start();
     let mut i = 0u64;
     while i < 1000000000 {
         if text.len() as u64 <= d[desk::NEXT] {
             break;
         }
-        let end = plan::next_line(d, text);
-        let line = word::part(text, d[desk::START] as usize, end);
-        let s = script::read(forms, line, (d[desk::PASS] % 4294967296) as u32, bytes);
-        judge::settled(d, log, name, text, s.form);
-        echo(d, line, s);
-        if s.form <= script::STEP {
-            b = acted(b, d, s, bytes, response, memory, notes);
-        } else if s.form <= script::SHOW_FAILURES {
-            shown(b, d, forms, s.form, response);
-        } else if (script::SAY < s.form) & (s.form < script::BLANK) {
+        let form = stated(forms, name, text, d, bytes, log);
+        if form <= script::STEP {
+            bus = acted(bus, d, bytes, response, memory, notes);
+        } else if form <= script::SHOW_FAILURES {
+            shown(bus, d, forms, response);
+        } else if (script::SAY < form) & (form < script::BLANK) {
             expected(
-                b,
+                bus,
                 d,
                 log,
                 forms,
                 name,
                 text,
-                s,
                 bytes,
                 response,
                 memory,
                 notes,
             );
         }
-        plan::past(d, s);
+        plan::past(d);
         i += 1;
     }
     judge::settled(d, log, name, text, script::SAY);
     if 0 < d[desk::DUMP] {
-        look::dump_end(d);
+        picture_of::dump_end(d);
     }
 }
 
-// A statement as it was written, before what comes of it; the words of `say` alone.
-fn echo(d: &[u64; 280], line: &[u8], s: Statement) {
+// The statement of the next line, said as it was written before what comes of it; of `say` the words alone. Its form.
+fn stated(
+    forms: &[u8],
+    name: &[u8],
+    text: &[u8],
+    d: &mut [u64; 360],
+    bytes: &mut [u8; 135168],
+    log: &mut [u8; 16384],
+) -> u32 {
+    let end = plan::next_line(d, text);
+    let line = word::part(text, d[desk::START] as usize, end);
+    let s = script::read(forms, line, (d[desk::PASS] % 4294967296) as u32, bytes);
+    let form = s.form;
     let out = desk::out(d);
-    if s.form == script::BLANK {
-        return;
-    }
-    if s.form == script::SAY {
+    judge::settled(d, log, name, text, form);
+    desk::stated(d, s);
+    if form == script::SAY {
         let words = word::next(line, s.at);
         page::show(out, word::part(line, words.start, line.len()));
-    } else {
+        page::say(out, b"\n");
+    } else if form < script::BLANK {
         page::say(out, b"> ");
         page::show(out, tell::front(line, 100));
+        page::say(out, b"\n");
     }
-    page::say(out, b"\n");
-    if s.form == script::END {
-        page::tell(out, b"          pass # is done\n", d[desk::PASS], 0, 0, 0);
-    }
+    form
 }
 
 // Calls and rounds.
 fn acted(
-    b: Bench,
-    d: &mut [u64; 280],
-    s: Statement,
+    bus: Bus,
+    d: &mut [u64; 360],
     bytes: &mut [u8; 135168],
     response: &mut [u8; 65536],
     memory: &mut [u8; 12288],
     notes: &mut [u8; 8192],
-) -> Bench {
+) -> Bus {
+    let form = (d[desk::FORM] % 64) as u32;
     desk::refused(d, 0);
     d[desk::REACHED] = 1;
-    let form = s.form;
     match form {
-        script::DO => done(b, d, s, bytes, response, memory, notes),
-        script::ENDED => run(
-            b,
-            d,
-            s.form,
-            s.value_or(0, LIMIT),
-            bytes,
-            response,
-            memory,
-            notes,
-        ),
-        script::QUIET => run(
-            b,
-            d,
-            s.form,
-            s.value_or(0, LIMIT),
-            bytes,
-            response,
-            memory,
-            notes,
-        ),
-        script::UNTIL_FREE => run(
-            b,
-            d,
-            s.form,
-            s.value_or(0, LIMIT),
-            bytes,
-            response,
-            memory,
-            notes,
-        ),
-        script::RUN => run(b, d, s.form, s.value(0), bytes, response, memory, notes),
-        script::STEP => {
-            let next = hand::steps(b, d, s, bytes, response, memory, notes);
-            tell::refusal(d, s.form);
-            next
-        }
+        script::DO => done(bus, d, bytes, response, memory, notes),
+        script::ENDED..=script::RUN => run(bus, d, form, bytes, response, memory, notes),
+        script::STEP => stepped(bus, d, bytes, response, memory, notes),
         _ => {
-            let next = called(b, d, s, bytes, response, memory, notes);
-            tell::refusal(d, s.form);
+            let next = called(bus, d, bytes, response, memory, notes);
+            tell::refusal(d, form);
             next
         }
     }
 }
 
+// A call of a unit's host, of the application, or what is set for rounds to come.
 fn called(
-    b: Bench,
-    d: &mut [u64; 280],
-    s: Statement,
+    bus: Bus,
+    d: &mut [u64; 360],
     bytes: &mut [u8; 135168],
     response: &mut [u8; 65536],
     memory: &mut [u8; 12288],
     notes: &mut [u8; 8192],
-) -> Bench {
-    let form = s.form;
+) -> Bus {
+    let form = (d[desk::FORM] % 64) as u32;
+    let is_unit = (form == script::RESTART) & (d[VALUES] < 256);
+    if is_unit | ((script::FEED <= form) & (form <= script::RAISE)) {
+        let i = desk::find(d, d[VALUES]) % 16;
+        let ring = bench::ring_of(bus);
+        let u = unit_called(bus.units[i], d, i, ring, bytes, memory, notes);
+        return bench::with_unit(bus, i, u);
+    }
     match form {
-        script::SUBMIT => calls::submit(b, d, s, bytes, response),
-        script::FORCE => calls::submit(b, d, s, bytes, response),
-        script::ANSWER => calls::answer(b, d, s, bytes),
-        script::FEED => calls::feed(b, d, s, bytes, memory),
-        script::TAKE => {
-            let next = calls::take(b, d, s, memory, notes);
-            tell::given(
-                d,
-                s.value(0),
-                part_of(notes, bench::TAKEN, d[desk::TAKEN] as usize),
-            );
-            next
+        script::UNIT => made(bus, d),
+        script::ANSWER => {
+            stand_in::answer(d, bytes);
+            bus
         }
-        script::RESTART => calls::restarted(b, d, s.value(0), memory),
-        _ => set(b, d, s),
+        script::SUBMIT => submitted(bus, d, bytes, response),
+        script::FORCE => submitted(bus, d, bytes, response),
+        _ => bench::with_controller(bus, set(bench::controller_of(bus), d)),
     }
 }
 
-fn set(b: Bench, d: &mut [u64; 280], s: Statement) -> Bench {
-    let form = s.form;
-    match form {
-        script::CONTROLLER => calls::make_controller(b, d, s.value_or(0, application::TIMEOUT)),
-        script::UNIT => calls::make_unit(b, d, s),
-        script::STAND_IN => calls::make_stand_in(b, d, s),
-        script::ACKNOWLEDGE => calls::acknowledge(b, d, s.value(0)),
-        script::RAISE => calls::raise(b, d, s),
-        _ => {
-            calls::set(d, s);
-            b
+fn submitted(
+    bus: Bus,
+    d: &mut [u64; 360],
+    bytes: &mut [u8; 135168],
+    response: &mut [u8; 65536],
+) -> Bus {
+    let c = controller_calls::submit(bench::controller_of(bus), d, bytes, response);
+    bench::with_controller(bus, c)
+}
+
+fn made(bus: Bus, d: &mut [u64; 360]) -> Bus {
+    let retry = (desk::value_or(d, 1, 20) % 4294967296) as u32;
+    plan::unit(d);
+    match host::make(unit_calls::own(d), retry) {
+        Made::New(u) => bus.with(u),
+        Made::Setting => {
+            desk::refused(d, 5);
+            bus
         }
     }
+}
+
+fn unit_called(
+    u: Unit,
+    d: &mut [u64; 360],
+    i: usize,
+    ring: Ring,
+    bytes: &[u8; 135168],
+    memory: &mut [u8; 12288],
+    notes: &mut [u8; 8192],
+) -> Unit {
+    let form = (d[desk::FORM] % 64) as u32;
+    match form {
+        script::FEED => unit_calls::feed(u, d, i, bytes, memory),
+        script::TAKE => {
+            let next = unit_calls::take(u, d, i, memory, notes);
+            tell::given(d, part_of(notes, bench::TAKEN, d[desk::TAKEN] as usize));
+            next
+        }
+        script::RAISE => if desk::has(d, 1) {
+            d[desk::EVERY + i % 16] = d[VALUES + 1];
+            d[desk::DUE + i % 16] = d[desk::ROUND];
+            d[desk::RAISING_HOSTS] = 1;
+            u
+        } else {
+            unit_calls::raise(u, d, i, ring)
+        },
+        _ => unit_calls::restarted(u, i, memory),
+    }
+}
+
+// A call of the application, or what hosts and lines do from now on.
+fn set(c: Controller, d: &mut [u64; 360]) -> Controller {
+    let form = (d[desk::FORM] % 64) as u32;
+    match form {
+        script::CONTROLLER => return controller_calls::make(c, d, desk::value_or(d, 0, 200)),
+        script::RESTART => {
+            d[desk::SUBMITTED] = 0;
+            return controller_calls::make(c, d, c.timeout as u64);
+        }
+        script::ACKNOWLEDGE => return controller_calls::acknowledged(c, d, unit_calls::own(d)),
+        script::STAND_IN => {
+            plan::stand_in(d);
+        }
+        script::EACH => d[desk::ACKNOWLEDGES] = 1,
+        script::BY_HAND => d[desk::ACKNOWLEDGES] = 0,
+        script::HOLD => desk::hold(d),
+        _ => desk::busy(d, form == script::BUSY),
+    }
+    c
 }
 
 // Waits until the bus is free, submits, and runs until the command has ended.
 fn done(
-    b: Bench,
-    d: &mut [u64; 280],
-    s: Statement,
+    bus: Bus,
+    d: &mut [u64; 360],
     bytes: &mut [u8; 135168],
     response: &mut [u8; 65536],
     memory: &mut [u8; 12288],
     notes: &mut [u8; 8192],
-) -> Bench {
+) -> Bus {
     let free = ran(
-        b,
+        bus,
         d,
         script::UNTIL_FREE,
         LIMIT,
@@ -305,35 +336,35 @@ fn done(
     if d[desk::REACHED] == 0 {
         return free;
     }
-    let next = calls::submit(free, d, s, bytes, response);
-    tell::refusal(d, s.form);
+    let next = submitted(free, d, bytes, response);
+    tell::refusal(d, script::DO);
     if 0 < d[desk::REFUSAL] {
         return next;
     }
-    run(
-        next,
-        d,
-        script::ENDED,
-        LIMIT,
-        bytes,
-        response,
-        memory,
-        notes,
-    )
+    run(next, d, script::DO, bytes, response, memory, notes)
 }
 
 // A run, and how long it was.
 fn run(
-    b: Bench,
-    d: &mut [u64; 280],
-    until: u32,
-    most: u32,
+    bus: Bus,
+    d: &mut [u64; 360],
+    form: u32,
     bytes: &[u8; 135168],
     response: &mut [u8; 65536],
     memory: &mut [u8; 12288],
     notes: &mut [u8; 8192],
-) -> Bench {
-    let next = ran(b, d, until, most, bytes, response, memory, notes);
+) -> Bus {
+    let most = if form == script::DO {
+        LIMIT
+    } else {
+        desk::value_or(d, 0, LIMIT)
+    };
+    let until = if form == script::DO {
+        script::ENDED
+    } else {
+        form
+    };
+    let next = ran(bus, d, until, most, bytes, response, memory, notes);
     page::tell(
         desk::out(d),
         b"@# rounds\n",
@@ -347,142 +378,175 @@ fn run(
 
 // Rounds up to so many, or until the end that a form names.
 fn ran(
-    bench: Bench,
-    d: &mut [u64; 280],
+    first: Bus,
+    d: &mut [u64; 360],
     until: u32,
-    most: u32,
+    most: u64,
     bytes: &[u8; 135168],
     response: &mut [u8; 65536],
     memory: &mut [u8; 12288],
     notes: &mut [u8; 8192],
-) -> Bench {
-    let mut b = bench;
-    let mut over = is_over(b, d, until);
-    let mut i = 0u32;
+) -> Bus {
+    let mut bus = first;
+    let mut over = is_over(bus, d, until);
+    let mut i = 0u64;
     while i < most {
         if over {
             break;
         }
-        b = bench::round(b, d, bytes, response, memory, notes);
-        over = is_over(b, d, until);
+        bus = bench::round(bus, d, bytes, response, memory, notes);
+        over = is_over(bus, d, until);
         i += 1;
         if i % 1000000 == 0 {
-            page::tell(
-                STDERR_FILENO,
-                b"hexbus: # of # rounds\n",
-                i as u64,
-                most as u64,
-                0,
-                0,
-            );
+            page::tell(STDERR_FILENO, b"hexbus: # of # rounds\n", i, most, 0, 0);
         }
     }
-    d[desk::RAN] = i as u64;
+    d[desk::RAN] = i;
     if !over & (until != script::RUN) {
         d[desk::REACHED] = 0;
         desk::awaited(d, desk::UNREACHED);
         page::say(desk::out(d), b"          not reached\n");
     }
-    b
+    bus
 }
 
-fn is_over(b: Bench, d: &[u64; 280], until: u32) -> bool {
+fn is_over(bus: Bus, d: &[u64; 360], until: u32) -> bool {
     match until {
         script::RUN => false,
         script::ENDED => d[desk::SUBMITTED] == 0,
-        script::UNTIL_FREE => bench::is_free(b.bus),
-        _ => bench::is_quiet(b, d),
+        script::UNTIL_FREE => bench::is_free(bus),
+        _ => bench::is_quiet(bus, d),
     }
 }
 
-fn shown(b: Bench, d: &mut [u64; 280], forms: &[u8], form: u32, response: &[u8]) {
+// Steps of one party by hand.
+fn stepped(
+    first: Bus,
+    d: &mut [u64; 360],
+    bytes: &[u8; 135168],
+    response: &mut [u8; 65536],
+    memory: &mut [u8; 12288],
+    notes: &mut [u8; 8192],
+) -> Bus {
+    let times = desk::value_or(d, 5, 1);
+    let mut bus = first;
+    let mut i = 0u64;
+    while i < times {
+        d[desk::ROUND] = d[desk::ROUND] % desk::FOR_EVER + 1;
+        d[desk::REFUSAL] = 0;
+        bus = one_step(bus, d, bytes, response, memory);
+        picture_of::round(bus, d, notes);
+        i += 1;
+    }
+    d[desk::RAN] = times;
+    bus
+}
+
+fn one_step(
+    bus: Bus,
+    d: &mut [u64; 360],
+    bytes: &[u8; 135168],
+    response: &mut [u8; 65536],
+    memory: &mut [u8; 12288],
+) -> Bus {
+    let seen = Lines {
+        bav: desk::has(d, 1),
+        hsk: desk::has(d, 2),
+        nibble: (desk::value_or(d, 3, 15) % 256) as u8,
+    };
+    if d[VALUES] < 256 {
+        let i = desk::find(d, d[VALUES]) % 16;
+        let u = unit_calls::step(bus.units[i], d, i, seen, memory);
+        tell::refusal(d, script::STEP);
+        return bench::with_unit(bus, i, u);
+    }
+    let before = bench::stage_of(bus);
+    let s = controller_calls::step(bench::controller_of(bus), d, seen, bytes, response);
+    let outcome = s.outcome;
+    bench::concluded(
+        bench::with_controller(bus, s.controller),
+        d,
+        before,
+        outcome,
+        response,
+    )
+}
+
+fn shown(bus: Bus, d: &mut [u64; 360], forms: &[u8], response: &[u8]) {
     let out = desk::out(d);
+    let form = (d[desk::FORM] % 64) as u32;
     match form {
-        script::SHOW_UNITS => look::units(b, d, forms),
-        script::SHOW_RING => look::ring(b.bus, d),
+        script::SHOW_UNITS => look::units(bus, d, forms),
+        script::SHOW_RING => look::ring(bus, d),
         script::SHOW_DATA => tell::received(out, tell::front(response, d[desk::RECEIVED] as usize)),
         script::SHOW_LINES => d[desk::PICTURED] = 1 - d[desk::PICTURED] % 2,
         script::SHOW_FAILURES => d[desk::OUT] = 1 - d[desk::OUT] % 2,
+        script::END => page::tell(out, b"          pass #\n", d[desk::PASS], 0, 0, 0),
         _ => {}
     }
 }
 
 // An expectation: of bytes, or of numbers.
 fn expected(
-    b: Bench,
-    d: &mut [u64; 280],
+    bus: Bus,
+    d: &mut [u64; 360],
     log: &mut [u8; 16384],
     forms: &[u8],
     name: &[u8],
     text: &[u8],
-    s: Statement,
     bytes: &[u8],
     response: &[u8],
     memory: &[u8],
     notes: &mut [u8; 8192],
 ) {
-    let wanted = tell::front(bytes, s.length);
-    let form = s.form;
+    let form = (d[desk::FORM] % 64) as u32;
+    let wanted = tell::front(bytes, d[desk::BYTES] as usize);
+    if form == script::RING {
+        let n = look::entries(bus, notes);
+        judge::bytes(
+            d,
+            log,
+            name,
+            text,
+            wanted,
+            part_of(notes, bench::ENTRIES, n),
+        );
+    } else if is_of_bytes(form) {
+        let found = found(d, form, response, memory, notes);
+        judge::bytes(d, log, name, text, wanted, found);
+    } else {
+        let found = look::found(bus, d);
+        judge::numbers(d, log, forms, name, text, &found);
+    }
+}
+
+fn is_of_bytes(form: u32) -> bool {
     match form {
-        script::RING => {
-            let n = look::entries(b.bus, notes);
-            judge::ring(
-                d,
-                log,
-                name,
-                text,
-                wanted,
-                part_of(notes, bench::ENTRIES, n),
-            );
-        }
-        script::TAKEN => {
-            let n = d[desk::TAKEN] as usize;
-            judge::bytes(
-                d,
-                log,
-                name,
-                text,
-                wanted,
-                part_of(notes, bench::TAKEN, n),
-                false,
-            );
-        }
-        script::HEARD => {
-            let i = desk::find_stand_in(d, s.value(0));
-            let n = look::heard(b, i);
-            judge::bytes(
-                d,
-                log,
-                name,
-                text,
-                wanted,
-                part_of(notes, 1024 * (i % 4), n),
-                false,
-            );
-        }
-        script::BUFFER => {
-            let i = desk::find(d, s.value(0));
-            judge::bytes(
-                d,
-                log,
-                name,
-                text,
-                wanted,
-                part_of(memory, 768 * (i % 16), 256),
-                true,
-            );
-        }
-        script::RESPONSE => judge::bytes(d, log, name, text, wanted, response, true),
-        script::RECEIVED => if d[desk::STATUS] == script::OTHER as u64 {
-            judge::missing(d, log, name, text);
-        } else {
-            let n = d[desk::RECEIVED] as usize;
-            judge::bytes(d, log, name, text, wanted, tell::front(response, n), false);
-        },
-        _ => {
-            let found = look::found(b, d, s);
-            judge::numbers(d, log, forms, name, text, s, &found);
-        }
+        script::RECEIVED => true,
+        script::TAKEN => true,
+        script::BUFFER => true,
+        script::RESPONSE => true,
+        script::HEARD => true,
+        _ => false,
+    }
+}
+
+// The bytes that an expectation is about.
+fn found<'a>(
+    d: &[u64; 360],
+    form: u32,
+    response: &'a [u8],
+    memory: &'a [u8],
+    notes: &'a [u8],
+) -> &'a [u8] {
+    let i = desk::find(d, d[VALUES]) % 16;
+    let k = desk::find_stand_in(d, d[VALUES]) % 4;
+    match form {
+        script::RECEIVED => tell::front(response, d[desk::RECEIVED] as usize),
+        script::TAKEN => part_of(notes, bench::TAKEN, d[desk::TAKEN] as usize),
+        script::BUFFER => part_of(memory, 768 * i, 256),
+        script::HEARD => part_of(notes, 1024 * k, stand_in::heard(d, k)),
+        _ => response,
     }
 }
 

@@ -131,3 +131,4 @@ busy-hosts-spec =
     loop-less
     loop-again
     returns-2)
+

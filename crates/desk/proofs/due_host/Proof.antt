@@ -99,3 +99,4 @@ due-host-spec =
     loop-less
     loop-again
     returns-3)
+

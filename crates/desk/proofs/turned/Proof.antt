@@ -111,3 +111,4 @@ turned-spec =
     element-write-d-2
     returns
     returns-2)
+

@@ -63,3 +63,4 @@ entries-spec =
     loop-less
     loop-again
     returns)
+

@@ -48,3 +48,4 @@ is-as-lent-spec =
     loop-less
     loop-again
     returns-2)
+

@@ -8,13 +8,20 @@ use Rattle.desk.proofs.judge.numbers.Reads as reads
 use Rattle.desk.proofs.judge.numbers.Lts as lts
 use Rattle.desk.proofs.judge.held.Reads as held-reads
 use Rattle.desk.proofs.judge.other_numbers.Reads as other-numbers-reads
-use Rattle.script.proofs.Statement.value_or.Reads as value-or-reads
+use Rattle.desk.proofs.value_or.Reads as value-or-reads
+use Rattle.desk.proofs.wide.Reads as wide-reads
 
 abbrev Inv-loop : tie.InvT-loop
-Inv-loop d log forms name text s found form lowest holds₀ i₀ holds i = Unit {0}
+Inv-loop d log forms name text found form lowest holds₀ i₀ holds i = Unit {0}
 
 abbrev μ-loop : tie.MeasureT-loop
-μ-loop d log forms name text s found form lowest holds₀ i₀ holds i = 16 - i
+μ-loop d log forms name text found form lowest holds₀ i₀ holds i = 16 - i
+
+element-copy-out-form : tie.Need-element-copy-out-form Inv-loop μ-loop
+element-copy-out-form c = search needs
+
+cast-form : tie.Need-cast-form Inv-loop μ-loop
+cast-form c = search needs
 
 loop-holds : tie.Need-loop-holds Inv-loop μ-loop
 loop-holds c = search needs
@@ -28,11 +35,14 @@ mul-if2 c = search needs
 element-copy-out-if2 : tie.Need-element-copy-out-if2 Inv-loop μ-loop
 element-copy-out-if2 c = search needs
 
-mul-there : tie.Need-mul-there Inv-loop μ-loop
-mul-there c = search needs
+mul-wide : tie.Need-mul-wide Inv-loop μ-loop
+mul-wide c = search needs
 
-element-copy-out-there : tie.Need-element-copy-out-there Inv-loop μ-loop
-element-copy-out-there c = search needs
+element-copy-out-wide : tie.Need-element-copy-out-wide Inv-loop μ-loop
+element-copy-out-wide c = search needs
+
+wide-requires : tie.Need-wide-requires Inv-loop μ-loop
+wide-requires c κs = search needs
 
 add-i : tie.Need-add-i Inv-loop μ-loop
 add-i c = search needs
@@ -61,12 +71,15 @@ numbers-spec =
     (tie.spec
     Inv-loop
     μ-loop
+    element-copy-out-form
+    cast-form
     loop-holds
     value-or-requires
     mul-if2
     element-copy-out-if2
-    mul-there
-    element-copy-out-there
+    mul-wide
+    element-copy-out-wide
+    wide-requires
     add-i
     loop-less
     loop-again
@@ -74,3 +87,4 @@ numbers-spec =
     other-numbers-requires
     returns
     returns-2)
+

@@ -79,3 +79,4 @@ ring-spec =
     slice-aggregate-say-2
     say-requires-2
     returns)
+

@@ -2,31 +2,28 @@
 use borrow.Author.Needs.{needs}
 use Prim.Native.Nat.{_-_}
 use native.Mathlib.Omega.{arith}
-use Rattle.desk.proofs.find.Statement.{statement}
-use Rattle.desk.proofs.find.Tie as tie
-use Rattle.desk.proofs.find.Reads as reads
-use Rattle.desk.proofs.find.Lts as lts
+use Rattle.desk.proofs.place_of.Statement.{statement}
+use Rattle.desk.proofs.place_of.Tie as tie
+use Rattle.desk.proofs.place_of.Reads as reads
+use Rattle.desk.proofs.place_of.Lts as lts
 
 abbrev Inv-loop : tie.InvT-loop
-Inv-loop d code i₀ i = Unit {0}
+Inv-loop d row count word n i₀ i = Unit {0}
 
 abbrev μ-loop : tie.MeasureT-loop
-μ-loop d code i₀ i = 16 - i
+μ-loop d row count word n i₀ i = n - i
 
 loop-holds : tie.Need-loop-holds Inv-loop μ-loop
 loop-holds c = search needs
 
+add-if1 : tie.Need-add-if1 Inv-loop μ-loop
+add-if1 c = search needs
+
+mul-if1 : tie.Need-mul-if1 Inv-loop μ-loop
+mul-if1 c = search needs
+
 element-copy-out-if1 : tie.Need-element-copy-out-if1 Inv-loop μ-loop
 element-copy-out-if1 c = search needs
-
-add-if2 : tie.Need-add-if2 Inv-loop μ-loop
-add-if2 c = search needs
-
-mul-if2 : tie.Need-mul-if2 Inv-loop μ-loop
-mul-if2 c = search needs
-
-element-copy-out-if2 : tie.Need-element-copy-out-if2 Inv-loop μ-loop
-element-copy-out-if2 c = search needs
 
 returns : tie.Need-returns Inv-loop μ-loop
 returns c = search needs
@@ -43,19 +40,19 @@ loop-again c = search needs
 returns-2 : tie.Need-returns-2 Inv-loop μ-loop
 returns-2 c = search needs
 
-pub find-spec : {M : Type 1} → statement M
-find-spec =
+pub place-of-spec : {M : Type 1} → statement M
+place-of-spec =
     tie.close
     (tie.spec
     Inv-loop
     μ-loop
     loop-holds
+    add-if1
+    mul-if1
     element-copy-out-if1
-    add-if2
-    mul-if2
-    element-copy-out-if2
     returns
     add-i
     loop-less
     loop-again
     returns-2)
+

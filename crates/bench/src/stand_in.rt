@@ -1,0 +1,236 @@
+// Stand-ins for units: each hears commands to its code and answers as a script says, through the listener and the sender that every party
+// has. The state of one is sixteen words of the desk.
+use crate::ANSWERS;
+use desk::STAND_IN;
+use line::Lines;
+use line::Listener;
+use line::Sender;
+
+// Its words: what it does, the nibbles that it has heard of a command and placed of its answer, those of the last command that it has
+// heard, for how many rounds more it waits or holds HSK, and the nibble that it has placed.
+const ACT: usize = 0;
+
+const HEARD: usize = 1;
+
+const SENT: usize = 2;
+
+const LAST: usize = 3;
+
+const WAITS: usize = 4;
+
+const HOLDS: usize = 5;
+
+const NIBBLE: usize = 6;
+
+// How it answers: so many bytes, cut after so many nibbles, so many rounds after the command; at which nibble, of command and answer
+// together, it holds HSK, and for how many rounds more than it must.
+const LENGTH: usize = 8;
+
+const CUT: usize = 9;
+
+const AFTER: usize = 10;
+
+const AT: usize = 11;
+
+const SLOW: usize = 12;
+
+// What it does: it hears, its listener ready, holding or waiting; it waits before its answer; it answers, its sender next, placed or
+// kept; it is silent.
+const PAUSING: u64 = 3;
+
+const ANSWERING: u64 = 4;
+
+const SILENT: u64 = 7;
+
+// What the stand-in of the statement answers from now on. What it has heard is forgotten.
+pub fn answer(d: &mut [u64; 360], bytes: &mut [u8; 135168]) {
+    let i = desk::find_stand_in(d, d[desk::VALUES]) % 4;
+    let at = STAND_IN + 16 * i;
+    let n = d[desk::BYTES] % 1025;
+    d[at + AFTER] = desk::value_or(d, 1, 2);
+    d[at + CUT] = desk::value_or(d, 2, 65535);
+    d[at + SLOW] = desk::value_or(d, 3, 0);
+    d[at + HOLDS] = d[at + SLOW];
+    d[at + AT] = desk::value_or(d, 4, 0);
+    d[at + LENGTH] = n;
+    d[at + LAST] = 0;
+    crate::controller_calls::copy(bytes, ANSWERS + 1024 * i, n as usize);
+}
+
+// How many whole bytes of its present or last command a stand-in has heard and noted.
+pub fn heard(d: &[u64; 360], i: usize) -> usize {
+    let at = STAND_IN + 16 * (i % 4);
+    let nibbles = if d[at + HEARD] == 0 {
+        d[at + LAST]
+    } else {
+        d[at + HEARD]
+    };
+    let n = nibbles / 2;
+    if n < 1024 { n as usize } else { 1024 }
+}
+
+// Levels with the pulls of stand-ins, and of what holds lines low from outside.
+pub fn wired(d: &[u64; 360], levels: Lines) -> Lines {
+    let n = (d[desk::STAND_INS] % 5) as usize;
+    let mut l = levels;
+    let mut i = 0usize;
+    while i < n {
+        l = line::wired(l, pulls(d, i));
+        i += 1;
+    }
+    if 0 < d[desk::HOLD] {
+        let held = Lines {
+            bav: d[desk::HOLD_BAV] == 1,
+            hsk: d[desk::HOLD_HSK] == 1,
+            nibble: (d[desk::HOLD_NIBBLE] % 16) as u8,
+        };
+        return line::wired(l, held);
+    }
+    l
+}
+
+// What one pulls.
+pub fn pulls(d: &[u64; 360], i: usize) -> Lines {
+    let at = STAND_IN + 16 * (i % 4);
+    let act = d[at + ACT];
+    let ear = listener(act);
+    let sender = sender(act, d[at + NIBBLE]);
+    Lines {
+        bav: false,
+        hsk: ear.hsk() | sender.hsk(),
+        nibble: sender.nibble(),
+    }
+}
+
+fn listener(act: u64) -> Listener {
+    match act {
+        1 => Listener::Holding,
+        2 => Listener::Waiting,
+        _ => Listener::Ready,
+    }
+}
+
+fn hears(ear: Listener) -> u64 {
+    match ear {
+        Listener::Ready => 0,
+        Listener::Holding => 1,
+        Listener::Waiting => 2,
+    }
+}
+
+fn sender(act: u64, nibble: u64) -> Sender {
+    let n = (nibble % 16) as u8;
+    match act {
+        5 => Sender::Placed(n),
+        6 => Sender::Kept(n),
+        _ => Sender::Next,
+    }
+}
+
+fn sends(sender: Sender) -> u64 {
+    match sender {
+        Sender::Next => 4,
+        Sender::Placed(_) => 5,
+        Sender::Kept(_) => 6,
+    }
+}
+
+// A round of each.
+pub fn steps(d: &mut [u64; 360], seen: Lines, notes: &mut [u8; 8192], bytes: &[u8; 135168]) {
+    let n = (d[desk::STAND_INS] % 5) as usize;
+    let mut i = 0usize;
+    while i < n {
+        step(d, i, seen, notes, bytes);
+        i += 1;
+    }
+}
+
+// A round of one. BAV seen high is looked at before everything else: it is ready for the next command.
+fn step(d: &mut [u64; 360], i: usize, seen: Lines, notes: &mut [u8; 8192], bytes: &[u8; 135168]) {
+    let at = STAND_IN + 16 * (i % 4);
+    let act = d[at + ACT];
+    let holds = d[at + HOLDS];
+    let here = d[at + HEARD] % 1000000 + d[at + SENT] % 1000000;
+    if !seen.bav {
+        if 0 < d[at + HEARD] {
+            d[at + LAST] = d[at + HEARD];
+        }
+        d[at + ACT] = 0;
+        d[at + HEARD] = 0;
+        d[at + SENT] = 0;
+        d[at + HOLDS] = d[at + SLOW];
+        return;
+    }
+    if 0 < holds {
+        if (here == d[at + AT]) & ((act == 1) | (act == 5)) {
+            d[at + HOLDS] = holds - 1;
+            return;
+        }
+    }
+    match act {
+        0..=2 => hear(d, i, seen, notes),
+        PAUSING => {
+            let left = d[at + WAITS];
+            if left <= 1 {
+                place(d, i, bytes);
+            } else {
+                d[at + WAITS] = left - 1;
+            }
+        }
+        ANSWERING => place(d, i, bytes),
+        5..=6 => {
+            let next = sender(act, d[at + NIBBLE]).step(seen.hsk, 15);
+            d[at + ACT] = sends(next);
+        }
+        _ => {}
+    }
+}
+
+// A round of the command. Behind the two nibbles of another code it sits out.
+fn hear(d: &mut [u64; 360], i: usize, seen: Lines, notes: &mut [u8; 8192]) {
+    let at = STAND_IN + 16 * (i % 4);
+    let base = 1024 * (i % 4);
+    let code = d[desk::STAND_IN_CODES + i % 4];
+    let ear = listener(d[at + ACT]);
+    let n = d[at + HEARD];
+    let first = notes[base] as u64;
+    if (n == 2) & (0 < code) & (0 < first) & (first != code) {
+        d[at + ACT] = SILENT;
+        return;
+    }
+    if ear.taken(seen.hsk) {
+        d[at + HEARD] = n % 1000000 + 1;
+        note(notes, base, n, seen.nibble);
+    }
+    let next = ear.step(seen.hsk, false);
+    let length = field::value_of(notes[base + 7], notes[base + 8]) as u64;
+    d[at + ACT] = hears(next);
+    if next.is_ready() & (18 <= n) & (n / 2 == 9 + length % 65536) {
+        d[at + ACT] = PAUSING;
+        d[at + WAITS] = d[at + AFTER];
+    }
+}
+
+// Nibble i of a command is noted, the low nibble of a byte first.
+fn note(notes: &mut [u8; 8192], base: usize, i: u64, nibble: u8) {
+    if i < 2048 {
+        let place = base % 4096 + i as usize / 2;
+        let low = if i % 2 == 0 { nibble } else { notes[place] };
+        let high = if i % 2 == 0 { 0 } else { nibble };
+        notes[place] = field::byte_of(low, high);
+    }
+}
+
+// It places the next nibble of its answer, if there is one.
+fn place(d: &mut [u64; 360], i: usize, bytes: &[u8; 135168]) {
+    let at = STAND_IN + 16 * (i % 4);
+    let n = d[at + SENT] % 1000000;
+    if (d[at + LENGTH] <= n / 2) | (d[at + CUT] <= n) {
+        d[at + ACT] = SILENT;
+        return;
+    }
+    let byte = bytes[ANSWERS + 1024 * (i % 4) + n as usize / 2 % 1024];
+    d[at + SENT] = n + 1;
+    d[at + NIBBLE] = field::nibble(byte, n as usize) as u64;
+    d[at + ACT] = 5;
+}
