@@ -43,7 +43,8 @@ fn flag(so: bool) -> u32 {
 
 // Numbers of the desk. That of a unit stands behind its code.
 fn of_desk(d: &[u64; 360], form: u32) -> [u32; 16] {
-    let at = desk::find(d, d[VALUES]) % 16;
+    let code = d[VALUES];
+    let at = desk::find(d, code) % 16;
     let place = match form {
         script::STATUS => desk::STATUS,
         script::REQUEST => desk::REQUEST,

@@ -44,7 +44,8 @@ const SILENT: u64 = 7;
 
 // What the stand-in of the statement answers from now on. What it has heard is forgotten.
 pub fn answer(d: &mut [u64; 360], bytes: &mut [u8; 135168]) {
-    let i = desk::find_stand_in(d, d[desk::VALUES]) % 4;
+    let code = d[desk::VALUES];
+    let i = desk::find_stand_in(d, code) % 4;
     let at = STAND_IN + 16 * i;
     let n = d[desk::BYTES] % 1025;
     d[at + AFTER] = desk::value_or(d, 1, 2);
@@ -190,10 +191,10 @@ fn step(d: &mut [u64; 360], i: usize, seen: Lines, notes: &mut [u8; 8192], bytes
 fn hear(d: &mut [u64; 360], i: usize, seen: Lines, notes: &mut [u8; 8192]) {
     let at = STAND_IN + 16 * (i % 4);
     let base = 1024 * (i % 4);
-    let code = d[desk::STAND_IN_CODES + i % 4];
+    let code = (d[desk::STAND_IN_CODES + i % 4] % 256) as u8;
     let ear = listener(d[at + ACT]);
     let n = d[at + HEARD];
-    let first = notes[base] as u64;
+    let first = notes[base];
     if (n == 2) & (0 < code) & (0 < first) & (first != code) {
         d[at + ACT] = SILENT;
         return;

@@ -284,7 +284,8 @@ pub fn busy_hosts(d: &mut [u64; 360]) -> u32 {
 
 // The host of the statement is busy for so many rounds, or free only in every so many.
 pub fn busy(d: &mut [u64; 360], for_rounds: bool) {
-    let k = host(d, d[VALUES]) % 17;
+    let code = d[VALUES];
+    let k = host(d, code) % 17;
     let every = value_or(d, 2, 0);
     d[BUSY_HOSTS] = 1;
     if for_rounds {

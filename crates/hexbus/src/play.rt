@@ -223,9 +223,10 @@ fn called(
     notes: &mut [u8; 8192],
 ) -> Bus {
     let form = (d[desk::FORM] % 64) as u32;
-    let is_unit = (form == script::RESTART) & (d[VALUES] < 256);
+    let code = d[VALUES];
+    let is_unit = (form == script::RESTART) & (code < 256);
     if is_unit | ((script::FEED <= form) & (form <= script::RAISE)) {
-        let i = desk::find(d, d[VALUES]) % 16;
+        let i = desk::find(d, code) % 16;
         let ring = bench::ring_of(bus);
         let u = unit_called(bus.units[i], d, i, ring, bytes, memory, notes);
         return bench::with_unit(bus, i, u);
@@ -296,13 +297,15 @@ fn unit_called(
 // A call of the application, or what hosts and lines do from now on.
 fn set(c: Controller, d: &mut [u64; 360]) -> Controller {
     let form = (d[desk::FORM] % 64) as u32;
+    let timeout = desk::value_or(d, 0, 200);
+    let own = unit_calls::own(d);
     match form {
-        script::CONTROLLER => return controller_calls::make(c, d, desk::value_or(d, 0, 200)),
+        script::CONTROLLER => return controller_calls::make(c, d, timeout),
         script::RESTART => {
             d[desk::SUBMITTED] = 0;
             return controller_calls::make(c, d, c.timeout as u64);
         }
-        script::ACKNOWLEDGE => return controller_calls::acknowledged(c, d, unit_calls::own(d)),
+        script::ACKNOWLEDGE => return controller_calls::acknowledged(c, d, own),
         script::STAND_IN => {
             plan::stand_in(d);
         }
@@ -454,8 +457,9 @@ fn one_step(
         hsk: desk::has(d, 2),
         nibble: (desk::value_or(d, 3, 15) % 256) as u8,
     };
-    if d[VALUES] < 256 {
-        let i = desk::find(d, d[VALUES]) % 16;
+    let code = d[VALUES];
+    if code < 256 {
+        let i = desk::find(d, code) % 16;
         let u = unit_calls::step(bus.units[i], d, i, seen, memory);
         tell::refusal(d, script::STEP);
         return bench::with_unit(bus, i, u);
@@ -539,8 +543,9 @@ fn found<'a>(
     memory: &'a [u8],
     notes: &'a [u8],
 ) -> &'a [u8] {
-    let i = desk::find(d, d[VALUES]) % 16;
-    let k = desk::find_stand_in(d, d[VALUES]) % 4;
+    let code = d[VALUES];
+    let i = desk::find(d, code) % 16;
+    let k = desk::find_stand_in(d, code) % 4;
     match form {
         script::RECEIVED => tell::front(response, d[desk::RECEIVED] as usize),
         script::TAKEN => part_of(notes, bench::TAKEN, d[desk::TAKEN] as usize),

@@ -131,4 +131,3 @@ busy-hosts-spec =
     loop-less
     loop-again
     returns-2)
-

@@ -99,4 +99,3 @@ due-host-spec =
     loop-less
     loop-again
     returns-3)
-

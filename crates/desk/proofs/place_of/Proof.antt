@@ -55,4 +55,3 @@ place-of-spec =
     loop-less
     loop-again
     returns-2)
-

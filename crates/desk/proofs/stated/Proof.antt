@@ -76,4 +76,3 @@ stated-spec =
     element-write-d-2
     element-write-d-3
     returns)
-

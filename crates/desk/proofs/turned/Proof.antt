@@ -111,4 +111,3 @@ turned-spec =
     element-write-d-2
     returns
     returns-2)
-

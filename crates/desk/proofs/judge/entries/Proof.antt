@@ -63,4 +63,3 @@ entries-spec =
     loop-less
     loop-again
     returns)
-

@@ -48,4 +48,3 @@ is-as-lent-spec =
     loop-less
     loop-again
     returns-2)
-

@@ -87,4 +87,3 @@ numbers-spec =
     other-numbers-requires
     returns
     returns-2)
-

@@ -101,4 +101,3 @@ awaited-spec =
     element-write-d-3
     asks-requires
     returns)
-

@@ -79,4 +79,3 @@ ring-spec =
     slice-aggregate-say-2
     say-requires-2
     returns)
-

@@ -1,0 +1,50 @@
+-- What is left to go through grows less.
+use borrow.Author.Needs.{needs}
+use Prim.Native.Nat.{_-_}
+use native.Mathlib.Omega.{arith}
+use Rattle.bench.proofs.stand_in.steps.Statement.{statement}
+use Rattle.bench.proofs.stand_in.steps.Tie as tie
+use Rattle.bench.proofs.stand_in.steps.Reads as reads
+use Rattle.bench.proofs.stand_in.steps.Lts as lts
+use Rattle.bench.proofs.stand_in.step.Reads as step-reads
+
+abbrev Inv-loop : tie.InvT-loop
+Inv-loop d₀ seen notes₀ bytes n i₀ d notes i = Unit {0}
+
+abbrev μ-loop : tie.MeasureT-loop
+μ-loop d₀ seen notes₀ bytes n i₀ d notes i = n - i
+
+element-copy-out-n : tie.Need-element-copy-out-n Inv-loop μ-loop
+element-copy-out-n c = search needs
+
+loop-holds : tie.Need-loop-holds Inv-loop μ-loop
+loop-holds c = search needs
+
+step-requires : tie.Need-step-requires Inv-loop μ-loop
+step-requires c κs = search needs
+
+add-i : tie.Need-add-i Inv-loop μ-loop
+add-i c = search needs
+
+loop-less : tie.Need-loop-less Inv-loop μ-loop
+loop-less c = search needs
+
+loop-again : tie.Need-loop-again Inv-loop μ-loop
+loop-again c = search needs
+
+returns : tie.Need-returns Inv-loop μ-loop
+returns c = search needs
+
+pub steps-spec : {M : Type 1} → statement M
+steps-spec =
+    tie.close
+    (tie.spec
+    Inv-loop
+    μ-loop
+    element-copy-out-n
+    loop-holds
+    step-requires
+    add-i
+    loop-less
+    loop-again
+    returns)
