@@ -288,11 +288,15 @@ fn played(
     page::show(STDOUT_FILENO, name);
     page::say(STDOUT_FILENO, b"\n");
     let mut d = [0u64; 360];
-    d[desk::DUMP] = (dump % 65536) as u64;
+    d[desk::DUMP] = number_of(dump);
     d[desk::PICTURED] = w.pictured;
     d[desk::LOGGED] = all.logged as u64;
     lent(forms, name, text, &mut d, bytes, response, log);
     summary(name, all, &d)
+}
+
+fn number_of(file: i32) -> u64 {
+    if 0 <= file { file as u64 } else { 0 }
 }
 
 // The memory of units and of notes, for one script.

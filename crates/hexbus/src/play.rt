@@ -279,7 +279,8 @@ fn unit_called(
         script::FEED => unit_calls::feed(u, d, i, bytes, memory),
         script::TAKE => {
             let next = unit_calls::take(u, d, i, memory, notes);
-            tell::given(d, part_of(notes, bench::TAKEN, d[desk::TAKEN] as usize));
+            let n = d[desk::TAKEN] as usize;
+            tell::given(d, part_of(notes, bench::TAKEN, n));
             next
         }
         script::RAISE => if desk::has(d, 1) {
@@ -505,53 +506,42 @@ fn expected(
 ) {
     let form = (d[desk::FORM] % 64) as u32;
     let wanted = tell::front(bytes, d[desk::BYTES] as usize);
-    if form == script::RING {
-        let n = look::entries(bus, notes);
-        judge::bytes(
-            d,
-            log,
-            name,
-            text,
-            wanted,
-            part_of(notes, bench::ENTRIES, n),
-        );
-    } else if is_of_bytes(form) {
-        let found = found(d, form, response, memory, notes);
-        judge::bytes(d, log, name, text, wanted, found);
-    } else {
-        let found = look::found(bus, d);
-        judge::numbers(d, log, forms, name, text, &found);
-    }
-}
-
-fn is_of_bytes(form: u32) -> bool {
     match form {
-        script::RECEIVED => true,
-        script::TAKEN => true,
-        script::BUFFER => true,
-        script::RESPONSE => true,
-        script::HEARD => true,
-        _ => false,
-    }
-}
-
-// The bytes that an expectation is about.
-fn found<'a>(
-    d: &[u64; 360],
-    form: u32,
-    response: &'a [u8],
-    memory: &'a [u8],
-    notes: &'a [u8],
-) -> &'a [u8] {
-    let code = d[VALUES];
-    let i = desk::find(d, code) % 16;
-    let k = desk::find_stand_in(d, code) % 4;
-    match form {
-        script::RECEIVED => tell::front(response, d[desk::RECEIVED] as usize),
-        script::TAKEN => part_of(notes, bench::TAKEN, d[desk::TAKEN] as usize),
-        script::BUFFER => part_of(memory, 768 * i, 256),
-        script::HEARD => part_of(notes, 1024 * k, stand_in::heard(d, k)),
-        _ => response,
+        script::RING => {
+            let n = look::entries(bus, notes);
+            judge::bytes(
+                d,
+                log,
+                name,
+                text,
+                wanted,
+                part_of(notes, bench::ENTRIES, n),
+            );
+        }
+        script::TAKEN => {
+            let n = d[desk::TAKEN] as usize;
+            judge::bytes(d, log, name, text, wanted, part_of(notes, bench::TAKEN, n));
+        }
+        script::HEARD => {
+            let code = d[VALUES];
+            let k = desk::find_stand_in(d, code) % 4;
+            let n = stand_in::heard(d, k);
+            judge::bytes(d, log, name, text, wanted, part_of(notes, 1024 * k, n));
+        }
+        script::BUFFER => {
+            let code = d[VALUES];
+            let i = desk::find(d, code) % 16;
+            judge::bytes(d, log, name, text, wanted, part_of(memory, 768 * i, 256));
+        }
+        script::RECEIVED => {
+            let n = d[desk::RECEIVED] as usize;
+            judge::bytes(d, log, name, text, wanted, tell::front(response, n));
+        }
+        script::RESPONSE => judge::bytes(d, log, name, text, wanted, response),
+        _ => {
+            let found = look::found(bus, d);
+            judge::numbers(d, log, forms, name, text, &found);
+        }
     }
 }
 

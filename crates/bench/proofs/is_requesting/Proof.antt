@@ -1,11 +1,8 @@
 -- What is left to go through grows less.
 use borrow.Author.Needs.{needs}
 use Prim.Native.Nat.{_-_}
-use native.Mathlib.Omega.{arith}
 use Rattle.bench.proofs.is_requesting.Statement.{statement}
 use Rattle.bench.proofs.is_requesting.Tie as tie
-use Rattle.bench.proofs.is_requesting.Reads as reads
-use Rattle.bench.proofs.is_requesting.Lts as lts
 
 abbrev Inv-loop : tie.InvT-loop
 Inv-loop count bus n so₀ i₀ so i = Unit {0}

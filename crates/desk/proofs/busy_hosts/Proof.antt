@@ -1,11 +1,8 @@
 -- What is left to go through grows less.
 use borrow.Author.Needs.{needs}
 use Prim.Native.Nat.{_-_}
-use native.Mathlib.Omega.{arith}
 use Rattle.desk.proofs.busy_hosts.Statement.{statement}
 use Rattle.desk.proofs.busy_hosts.Tie as tie
-use Rattle.desk.proofs.busy_hosts.Reads as reads
-use Rattle.desk.proofs.busy_hosts.Lts as lts
 
 abbrev Inv-loop : tie.InvT-loop
 Inv-loop d₀ hosts₀ i₀ d hosts i = Unit {0}

@@ -1,11 +1,8 @@
 -- What is left to go through grows less.
 use borrow.Author.Needs.{needs}
 use Prim.Native.Nat.{_-_}
-use native.Mathlib.Omega.{arith}
 use Rattle.desk.proofs.due_host.Statement.{statement}
 use Rattle.desk.proofs.due_host.Tie as tie
-use Rattle.desk.proofs.due_host.Reads as reads
-use Rattle.desk.proofs.due_host.Lts as lts
 
 abbrev Inv-loop : tie.InvT-loop
 Inv-loop d₀ i₀ d i = Unit {0}

@@ -1,11 +1,8 @@
 -- What is left to go through grows less.
 use borrow.Author.Needs.{needs}
 use Prim.Native.Nat.{_-_}
-use native.Mathlib.Omega.{arith}
 use Rattle.desk.proofs.place_of.Statement.{statement}
 use Rattle.desk.proofs.place_of.Tie as tie
-use Rattle.desk.proofs.place_of.Reads as reads
-use Rattle.desk.proofs.place_of.Lts as lts
 
 abbrev Inv-loop : tie.InvT-loop
 Inv-loop d row count word n i₀ i = Unit {0}

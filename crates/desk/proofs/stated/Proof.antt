@@ -1,12 +1,8 @@
 -- What is left to go through grows less.
 use borrow.Author.Needs.{needs}
 use Prim.Native.Nat.{_-_}
-use native.Mathlib.Omega.{arith}
 use Rattle.desk.proofs.stated.Statement.{statement}
 use Rattle.desk.proofs.stated.Tie as tie
-use Rattle.desk.proofs.stated.Reads as reads
-use Rattle.desk.proofs.stated.Lts as lts
-use Rattle.desk.proofs.wide.Reads as wide-reads
 
 abbrev Inv-loop : tie.InvT-loop
 Inv-loop d₀ s values i₀ d i = Unit {0}

@@ -1,11 +1,8 @@
 -- What is left to go through grows less.
 use borrow.Author.Needs.{needs}
 use Prim.Native.Nat.{_-_}
-use native.Mathlib.Omega.{arith}
 use Rattle.desk.proofs.turned.Statement.{statement}
 use Rattle.desk.proofs.turned.Tie as tie
-use Rattle.desk.proofs.turned.Reads as reads
-use Rattle.desk.proofs.turned.Lts as lts
 
 abbrev Inv-loop : tie.InvT-loop
 Inv-loop d₀ at i₀ d i = Unit {0}

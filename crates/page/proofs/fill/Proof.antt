@@ -3,13 +3,8 @@ use borrow.Author.Needs.{needs}
 use Prim.Native.Nat.{_-_}
 use lib.ListN.{length}
 use mathlib.Core.Path.{_≡_}
-use native.Mathlib.Omega.{arith}
 use Rattle.page.proofs.fill.Statement.{statement}
 use Rattle.page.proofs.fill.Tie as tie
-use Rattle.page.proofs.fill.Reads as reads
-use Rattle.page.proofs.fill.Lts as lts
-use Rattle.page.proofs.names.is_sign.Reads as is-sign-reads
-use Rattle.page.proofs.names.sign.Reads as sign-reads
 
 abbrev Inv-loop : tie.InvT-loop
 Inv-loop page₀ n words numbers at₀ k₀ i₀ page at k i = (length page ≡ length page₀)

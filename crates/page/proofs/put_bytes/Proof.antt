@@ -3,13 +3,8 @@ use borrow.Author.Needs.{needs}
 use Prim.Native.Nat.{_-_}
 use lib.ListN.{length}
 use mathlib.Core.Path.{_≡_}
-use native.Mathlib.Omega.{arith}
 use Rattle.page.proofs.put_bytes.Statement.{statement}
 use Rattle.page.proofs.put_bytes.Tie as tie
-use Rattle.page.proofs.put_bytes.Reads as reads
-use Rattle.page.proofs.put_bytes.Lts as lts
-use Rattle.page.proofs.hex.Reads as hex-reads
-use Rattle.page.proofs.letter.Reads as letter-reads
 
 abbrev Inv-loop : tie.InvT-loop
 Inv-loop page₀ n s at₀ i₀ page at i = (length page ≡ length page₀)

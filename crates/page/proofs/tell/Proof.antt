@@ -1,12 +1,7 @@
 -- Each place is in range.
 use borrow.Author.Needs.{needs}
-use native.Mathlib.Omega.{arith}
 use Rattle.page.proofs.tell.Statement.{statement}
 use Rattle.page.proofs.tell.Tie as tie
-use Rattle.page.proofs.tell.Reads as reads
-use Rattle.page.proofs.tell.Lts as lts
-use Rattle.page.proofs.fill.Reads as fill-reads
-use Rattle.page.proofs.write.Reads as write-reads
 
 slice-aggregate-fill : tie.Need-slice-aggregate-fill
 slice-aggregate-fill c = search needs

@@ -1,15 +1,8 @@
 -- What is left to go through grows less.
 use borrow.Author.Needs.{needs}
 use Prim.Native.Nat.{_-_}
-use native.Mathlib.Omega.{arith}
 use Rattle.script.proofs.lead_of.Statement.{statement}
 use Rattle.script.proofs.lead_of.Tie as tie
-use Rattle.script.proofs.lead_of.Reads as reads
-use Rattle.script.proofs.lead_of.Lts as lts
-use Rattle.script.proofs.is_name.Reads as is-name-reads
-use Rattle.script.proofs.word.is.Reads as is-reads
-use Rattle.script.proofs.word.letters.Reads as letters-reads
-use Rattle.script.proofs.word.next.Reads as next-reads
 
 abbrev Inv-loop : tie.InvT-loop
 Inv-loop form from line lead₀ lead = Unit {0}

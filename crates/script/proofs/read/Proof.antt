@@ -1,20 +1,8 @@
 -- What is left to go through grows less.
 use borrow.Author.Needs.{needs}
 use Prim.Native.Nat.{_-_}
-use native.Mathlib.Omega.{arith}
 use Rattle.script.proofs.read.Statement.{statement}
 use Rattle.script.proofs.read.Tie as tie
-use Rattle.script.proofs.read.Reads as reads
-use Rattle.script.proofs.read.Lts as lts
-use Rattle.script.proofs.Statement.new.Reads as new-reads
-use Rattle.script.proofs.Statement.values.Reads as values-reads
-use Rattle.script.proofs.better.Reads as better-reads
-use Rattle.script.proofs.lead_of.Reads as lead-of-reads
-use Rattle.script.proofs.no_form.Reads as no-form-reads
-use Rattle.script.proofs.word.Word.is_none.Reads as is-none-reads
-use Rattle.script.proofs.word.find.Reads as find-reads
-use Rattle.script.proofs.word.next.Reads as next-reads
-use Rattle.script.proofs.word.part.Reads as part-reads
 
 abbrev Inv-loop : tie.InvT-loop
 Inv-loop forms line pass bytes₀ first best₀ at₀ k₀ bytes best at k = Unit {0}

@@ -2,11 +2,8 @@
 use borrow.Author.Needs.{needs}
 use Prim.Native.Nat.{_-_}
 use lib.ListN.{length}
-use native.Mathlib.Omega.{arith}
 use Rattle.script.proofs.text.Statement.{statement}
 use Rattle.script.proofs.text.Tie as tie
-use Rattle.script.proofs.text.Reads as reads
-use Rattle.script.proofs.text.Lts as lts
 
 abbrev Inv-loop : tie.InvT-loop
 Inv-loop bytes₀ n letters k₀ i₀ bytes k i = Unit {0}

@@ -1,16 +1,8 @@
 -- What is left to go through grows less.
 use borrow.Author.Needs.{needs}
 use Prim.Native.Nat.{_-_}
-use native.Mathlib.Omega.{arith}
 use Rattle.script.proofs.value_of.Statement.{statement}
 use Rattle.script.proofs.value_of.Tie as tie
-use Rattle.script.proofs.value_of.Reads as reads
-use Rattle.script.proofs.value_of.Lts as lts
-use Rattle.script.proofs.is_name.Reads as is-name-reads
-use Rattle.script.proofs.number.Reads as number-reads
-use Rattle.script.proofs.word.find.Reads as find-reads
-use Rattle.script.proofs.word.is.Reads as is-reads
-use Rattle.script.proofs.word.part.Reads as part-reads
 
 abbrev Inv-loop : tie.InvT-loop
 Inv-loop kind w pass at₀ j₀ at j = Unit {0}

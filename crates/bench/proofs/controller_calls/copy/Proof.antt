@@ -1,11 +1,8 @@
 -- What is left to go through grows less.
 use borrow.Author.Needs.{needs}
 use Prim.Native.Nat.{_-_}
-use native.Mathlib.Omega.{arith}
 use Rattle.bench.proofs.controller_calls.copy.Statement.{statement}
 use Rattle.bench.proofs.controller_calls.copy.Tie as tie
-use Rattle.bench.proofs.controller_calls.copy.Reads as reads
-use Rattle.bench.proofs.controller_calls.copy.Lts as lts
 
 abbrev Inv-loop : tie.InvT-loop
 Inv-loop bytes₀ to n i₀ bytes i = Unit {0}

@@ -1,14 +1,8 @@
 -- What is left to go through grows less.
 use borrow.Author.Needs.{needs}
 use Prim.Native.Nat.{_-_}
-use native.Mathlib.Omega.{arith}
 use Rattle.bench.proofs.look.entries.Statement.{statement}
 use Rattle.bench.proofs.look.entries.Tie as tie
-use Rattle.bench.proofs.look.entries.Reads as reads
-use Rattle.bench.proofs.look.entries.Lts as lts
-use Rattle.bench.proofs.ring_of.Reads as ring-of-reads
-use Rattle.ring.proofs.Ring.entry.Reads as entry-reads
-use Rattle.ring.proofs.Ring.len.Reads as len-reads
 
 abbrev Inv-loop : tie.InvT-loop
 Inv-loop notes₀ r i₀ notes i = Unit {0}

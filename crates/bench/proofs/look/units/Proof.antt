@@ -1,12 +1,8 @@
 -- What is left to go through grows less.
 use borrow.Author.Needs.{needs}
 use Prim.Native.Nat.{_-_}
-use native.Mathlib.Omega.{arith}
 use Rattle.bench.proofs.look.units.Statement.{statement}
 use Rattle.bench.proofs.look.units.Tie as tie
-use Rattle.bench.proofs.look.units.Reads as reads
-use Rattle.bench.proofs.look.units.Lts as lts
-use Rattle.bench.proofs.look.show_unit.Reads as show-unit-reads
 
 abbrev Inv-loop : tie.InvT-loop
 Inv-loop d forms bus n i₀ i = Unit {0}

@@ -1,14 +1,8 @@
 -- What is left to go through grows less.
 use borrow.Author.Needs.{needs}
 use Prim.Native.Nat.{_-_}
-use native.Mathlib.Omega.{arith}
 use Rattle.bench.proofs.picture_of.dump_head.Statement.{statement}
 use Rattle.bench.proofs.picture_of.dump_head.Tie as tie
-use Rattle.bench.proofs.picture_of.dump_head.Reads as reads
-use Rattle.bench.proofs.picture_of.dump_head.Lts as lts
-use Rattle.bench.proofs.picture_of.dump.Reads as dump-reads
-use Rattle.bench.proofs.picture_of.kept.Reads as kept-reads
-use Rattle.picture.proofs.dump.head.Reads as head-reads
 
 abbrev Inv-loop : tie.InvT-loop
 Inv-loop d marks codes₀ i₀ codes i = Unit {0}

@@ -1,11 +1,8 @@
 -- What is left to go through grows less.
 use borrow.Author.Needs.{needs}
 use Prim.Native.Nat.{_-_}
-use native.Mathlib.Omega.{arith}
 use Rattle.bench.proofs.picture_of.exchanged.Statement.{statement}
 use Rattle.bench.proofs.picture_of.exchanged.Tie as tie
-use Rattle.bench.proofs.picture_of.exchanged.Reads as reads
-use Rattle.bench.proofs.picture_of.exchanged.Lts as lts
 
 abbrev Inv-loop : tie.InvT-loop
 Inv-loop d₀ before₀ after i₀ d before i = Unit {0}

@@ -1,15 +1,8 @@
 -- What is left to go through grows less.
 use borrow.Author.Needs.{needs}
 use Prim.Native.Nat.{_-_}
-use native.Mathlib.Omega.{arith}
 use Rattle.bench.proofs.picture_of.marks.Statement.{statement}
 use Rattle.bench.proofs.picture_of.marks.Tie as tie
-use Rattle.bench.proofs.picture_of.marks.Reads as reads
-use Rattle.bench.proofs.picture_of.marks.Lts as lts
-use Rattle.bench.proofs.levels.Reads as levels-reads
-use Rattle.bench.proofs.stand_in.pulls.Reads as stand-in-pulls-reads
-use Rattle.controller.proofs.pulls.Reads as pulls-reads
-use Rattle.picture.proofs.mark.Reads as mark-reads
 use Rattle.unit.proofs.pulls.Reads as pulls-reads′
 
 abbrev Inv-loop : tie.InvT-loop

@@ -1,11 +1,8 @@
 -- What is left to go through grows less.
 use borrow.Author.Needs.{needs}
 use Prim.Native.Nat.{_-_}
-use native.Mathlib.Omega.{arith}
 use Rattle.bench.proofs.picture_of.noted.Statement.{statement}
 use Rattle.bench.proofs.picture_of.noted.Tie as tie
-use Rattle.bench.proofs.picture_of.noted.Reads as reads
-use Rattle.bench.proofs.picture_of.noted.Lts as lts
 
 abbrev Inv-loop : tie.InvT-loop
 Inv-loop notes₀ strip i₀ notes i = Unit {0}

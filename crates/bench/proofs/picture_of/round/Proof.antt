@@ -1,14 +1,8 @@
 -- What is left to go through grows less.
 use borrow.Author.Needs.{needs}
 use Prim.Native.Nat.{_-_}
-use native.Mathlib.Omega.{arith}
 use Rattle.bench.proofs.picture_of.round.Statement.{statement}
 use Rattle.bench.proofs.picture_of.round.Tie as tie
-use Rattle.bench.proofs.picture_of.round.Reads as reads
-use Rattle.bench.proofs.picture_of.round.Lts as lts
-use Rattle.bench.proofs.picture_of.marks.Reads as marks-reads
-use Rattle.bench.proofs.picture_of.pictured.Reads as pictured-reads
-use Rattle.desk.proofs.tell.asks.Reads as asks-reads
 
 abbrev Inv-loop : tie.InvT-loop
 Inv-loop d₀ notes bus n i₀ d i = Unit {0}

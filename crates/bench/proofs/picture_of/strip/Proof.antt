@@ -1,15 +1,8 @@
 -- What is left to go through grows less.
 use borrow.Author.Needs.{needs}
 use Prim.Native.Nat.{_-_}
-use native.Mathlib.Omega.{arith}
 use Rattle.bench.proofs.picture_of.strip.Statement.{statement}
 use Rattle.bench.proofs.picture_of.strip.Tie as tie
-use Rattle.bench.proofs.picture_of.strip.Reads as reads
-use Rattle.bench.proofs.picture_of.strip.Lts as lts
-use Rattle.bench.proofs.picture_of.noted.Reads as noted-reads
-use Rattle.desk.proofs.out.Reads as out-reads
-use Rattle.picture.proofs.strip.column.Reads as column-reads
-use Rattle.picture.proofs.strip.show.Reads as show-reads
 
 abbrev Inv-loop : tie.InvT-loop
 Inv-loop d notes after strip₀ i₀ strip i = Unit {0}

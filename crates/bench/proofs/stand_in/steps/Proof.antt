@@ -1,12 +1,8 @@
 -- What is left to go through grows less.
 use borrow.Author.Needs.{needs}
 use Prim.Native.Nat.{_-_}
-use native.Mathlib.Omega.{arith}
 use Rattle.bench.proofs.stand_in.steps.Statement.{statement}
 use Rattle.bench.proofs.stand_in.steps.Tie as tie
-use Rattle.bench.proofs.stand_in.steps.Reads as reads
-use Rattle.bench.proofs.stand_in.steps.Lts as lts
-use Rattle.bench.proofs.stand_in.step.Reads as step-reads
 
 abbrev Inv-loop : tie.InvT-loop
 Inv-loop d₀ seen notes₀ bytes n i₀ d notes i = Unit {0}

@@ -1,13 +1,8 @@
 -- What is left to go through grows less.
 use borrow.Author.Needs.{needs}
 use Prim.Native.Nat.{_-_}
-use native.Mathlib.Omega.{arith}
 use Rattle.bench.proofs.stand_in.wired.Statement.{statement}
 use Rattle.bench.proofs.stand_in.wired.Tie as tie
-use Rattle.bench.proofs.stand_in.wired.Reads as reads
-use Rattle.bench.proofs.stand_in.wired.Lts as lts
-use Rattle.bench.proofs.stand_in.pulls.Reads as pulls-reads
-use Rattle.line.proofs.wired.Reads as wired-reads
 
 abbrev Inv-loop : tie.InvT-loop
 Inv-loop d n l₀ i₀ l i = Unit {0}

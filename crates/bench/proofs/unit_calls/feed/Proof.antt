@@ -1,15 +1,8 @@
 -- What is left to go through grows less.
 use borrow.Author.Needs.{needs}
 use Prim.Native.Nat.{_-_}
-use native.Mathlib.Omega.{arith}
 use Rattle.bench.proofs.unit_calls.feed.Statement.{statement}
 use Rattle.bench.proofs.unit_calls.feed.Tie as tie
-use Rattle.bench.proofs.unit_calls.feed.Reads as reads
-use Rattle.bench.proofs.unit_calls.feed.Lts as lts
-use Rattle.bench.proofs.unit_calls.fed.Reads as fed-reads
-use Rattle.bench.proofs.unit_calls.load.Reads as load-reads
-use Rattle.bench.proofs.unit_calls.store.Reads as store-reads
-use Rattle.desk.proofs.refused.Reads as refused-reads
 
 abbrev Inv-loop : tie.InvT-loop
 Inv-loop d i bytes memory at n input₀ given₀ k₀ input given k = Unit {0}

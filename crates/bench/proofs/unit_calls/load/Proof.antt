@@ -1,11 +1,8 @@
 -- What is left to go through grows less.
 use borrow.Author.Needs.{needs}
 use Prim.Native.Nat.{_-_}
-use native.Mathlib.Omega.{arith}
 use Rattle.bench.proofs.unit_calls.load.Statement.{statement}
 use Rattle.bench.proofs.unit_calls.load.Tie as tie
-use Rattle.bench.proofs.unit_calls.load.Reads as reads
-use Rattle.bench.proofs.unit_calls.load.Lts as lts
 
 abbrev Inv-loop : tie.InvT-loop
 Inv-loop memory at part₀ i₀ part i = Unit {0}

@@ -1,14 +1,8 @@
 -- What is left to go through grows less.
 use borrow.Author.Needs.{needs}
 use Prim.Native.Nat.{_-_}
-use native.Mathlib.Omega.{arith}
 use Rattle.bench.proofs.unit_calls.take.Statement.{statement}
 use Rattle.bench.proofs.unit_calls.take.Tie as tie
-use Rattle.bench.proofs.unit_calls.take.Reads as reads
-use Rattle.bench.proofs.unit_calls.take.Lts as lts
-use Rattle.bench.proofs.unit_calls.load.Reads as load-reads
-use Rattle.desk.proofs.value_or.Reads as value-or-reads
-use Rattle.host.proofs.take.Reads as take-reads
 
 abbrev Inv-loop : tie.InvT-loop
 Inv-loop d i memory notes₀ output most u₀ n₀ notes u n = Unit {0}

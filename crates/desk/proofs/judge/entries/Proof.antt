@@ -2,14 +2,8 @@
 use borrow.Author.Needs.{needs}
 use Prim.Native.Nat.{_-_}
 use lib.ListN.{length}
-use native.Mathlib.Omega.{arith}
 use Rattle.desk.proofs.judge.entries.Statement.{statement}
 use Rattle.desk.proofs.judge.entries.Tie as tie
-use Rattle.desk.proofs.judge.entries.Reads as reads
-use Rattle.desk.proofs.judge.entries.Lts as lts
-use Rattle.desk.proofs.judge.wide.Reads as wide-reads
-use Rattle.page.proofs.fill.Reads as fill-reads
-use Rattle.page.proofs.letter.Reads as letter-reads
 
 abbrev Inv-loop : tie.InvT-loop
 Inv-loop page₀ n found at₀ i₀ t8 page at i = Unit {0}

@@ -2,11 +2,8 @@
 use borrow.Author.Needs.{needs}
 use Prim.Native.Nat.{_-_}
 use lib.ListN.{length}
-use native.Mathlib.Omega.{arith}
 use Rattle.desk.proofs.judge.is_as_lent.Statement.{statement}
 use Rattle.desk.proofs.judge.is_as_lent.Tie as tie
-use Rattle.desk.proofs.judge.is_as_lent.Reads as reads
-use Rattle.desk.proofs.judge.is_as_lent.Lts as lts
 
 abbrev Inv-loop : tie.InvT-loop
 Inv-loop s from i₀ i = Unit {0}

@@ -1,15 +1,8 @@
 -- What is left to go through grows less.
 use borrow.Author.Needs.{needs}
 use Prim.Native.Nat.{_-_}
-use native.Mathlib.Omega.{arith}
 use Rattle.desk.proofs.judge.numbers.Statement.{statement}
 use Rattle.desk.proofs.judge.numbers.Tie as tie
-use Rattle.desk.proofs.judge.numbers.Reads as reads
-use Rattle.desk.proofs.judge.numbers.Lts as lts
-use Rattle.desk.proofs.judge.held.Reads as held-reads
-use Rattle.desk.proofs.judge.other_numbers.Reads as other-numbers-reads
-use Rattle.desk.proofs.value_or.Reads as value-or-reads
-use Rattle.desk.proofs.wide.Reads as wide-reads
 
 abbrev Inv-loop : tie.InvT-loop
 Inv-loop d log forms name text found form lowest holds₀ i₀ holds i = Unit {0}

@@ -1,13 +1,8 @@
 -- What is left to go through grows less.
 use borrow.Author.Needs.{needs}
 use Prim.Native.Nat.{_-_}
-use native.Mathlib.Omega.{arith}
 use Rattle.desk.proofs.tell.awaited.Statement.{statement}
 use Rattle.desk.proofs.tell.awaited.Tie as tie
-use Rattle.desk.proofs.tell.awaited.Reads as reads
-use Rattle.desk.proofs.tell.awaited.Lts as lts
-use Rattle.desk.proofs.tell.asks.Reads as asks-reads
-use Rattle.ring.proofs.Ring.entry.Reads as entry-reads
 
 abbrev Inv-loop : tie.InvT-loop
 Inv-loop d i ring at code n₀ n = Unit {0}

@@ -1,15 +1,8 @@
 -- What is left to go through grows less.
 use borrow.Author.Needs.{needs}
 use Prim.Native.Nat.{_-_}
-use native.Mathlib.Omega.{arith}
 use Rattle.desk.proofs.tell.ring.Statement.{statement}
 use Rattle.desk.proofs.tell.ring.Tie as tie
-use Rattle.desk.proofs.tell.ring.Reads as reads
-use Rattle.desk.proofs.tell.ring.Lts as lts
-use Rattle.page.proofs.say.Reads as say-reads
-use Rattle.page.proofs.tell.Reads as tell-reads
-use Rattle.ring.proofs.Ring.entry.Reads as entry-reads
-use Rattle.ring.proofs.Ring.len.Reads as len-reads
 
 abbrev Inv-loop : tie.InvT-loop
 Inv-loop out r i₀ t6 t7 t8 i = Unit {0}

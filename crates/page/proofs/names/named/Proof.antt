@@ -3,14 +3,8 @@ use borrow.Author.Needs.{needs}
 use Prim.Native.Nat.{_-_}
 use lib.ListN.{length}
 use mathlib.Core.Path.{_≡_}
-use native.Mathlib.Omega.{arith}
 use Rattle.page.proofs.names.named.Statement.{statement}
 use Rattle.page.proofs.names.named.Tie as tie
-use Rattle.page.proofs.names.named.Reads as reads
-use Rattle.page.proofs.names.named.Lts as lts
-use Rattle.page.proofs.digit.Reads as digit-reads
-use Rattle.page.proofs.hex.Reads as hex-reads
-use Rattle.page.proofs.names.letter_if.Reads as letter-if-reads
 
 abbrev Inv-loop : tie.InvT-loop
 Inv-loop page₀ n b list at₀ high low here₀ first₀ second₀ i₀ page at here first second i = (length page ≡ length page₀)

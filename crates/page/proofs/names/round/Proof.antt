@@ -3,14 +3,8 @@ use borrow.Author.Needs.{needs}
 use Prim.Native.Nat.{_-_}
 use lib.ListN.{length}
 use mathlib.Core.Path.{_≡_}
-use native.Mathlib.Omega.{arith}
 use Rattle.page.proofs.names.round.Statement.{statement}
 use Rattle.page.proofs.names.round.Tie as tie
-use Rattle.page.proofs.names.round.Reads as reads
-use Rattle.page.proofs.names.round.Lts as lts
-use Rattle.io.proofs.decimal.Reads as decimal-reads
-use Rattle.page.proofs.letter.Reads as letter-reads
-use Rattle.page.proofs.words.Reads as words-reads
 
 abbrev Inv-loop : tie.InvT-loop
 Inv-loop page₀ n number digits k at₀ i₀ t8 page at i = (length page ≡ length page₀)

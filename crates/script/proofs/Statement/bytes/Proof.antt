@@ -2,16 +2,8 @@
 use borrow.Author.Needs.{needs}
 use Prim.Native.Nat.{_-_}
 use lib.ListN.{length}
-use native.Mathlib.Omega.{arith}
 use Rattle.script.proofs.Statement.bytes.Statement.{statement}
 use Rattle.script.proofs.Statement.bytes.Tie as tie
-use Rattle.script.proofs.Statement.bytes.Reads as reads
-use Rattle.script.proofs.Statement.bytes.Lts as lts
-use Rattle.script.proofs.Statement.more.Reads as more-reads
-use Rattle.script.proofs.Statement.wrong.Reads as wrong-reads
-use Rattle.script.proofs.word.Word.is_none.Reads as is-none-reads
-use Rattle.script.proofs.word.letters.Reads as letters-reads
-use Rattle.script.proofs.word.next.Reads as next-reads
 
 abbrev Inv-loop : tie.InvT-loop
 Inv-loop f line pass bytes₀ s₀ i₀ bytes s i = Unit {0}

@@ -1,19 +1,8 @@
 -- What is left to go through grows less.
 use borrow.Author.Needs.{needs}
 use Prim.Native.Nat.{_-_}
-use native.Mathlib.Omega.{arith}
 use Rattle.script.proofs.Statement.entries.Statement.{statement}
 use Rattle.script.proofs.Statement.entries.Tie as tie
-use Rattle.script.proofs.Statement.entries.Reads as reads
-use Rattle.script.proofs.Statement.entries.Lts as lts
-use Rattle.script.proofs.Statement.wrong.Reads as wrong-reads
-use Rattle.script.proofs.run.Reads as run-reads
-use Rattle.script.proofs.value_of.Reads as value-of-reads
-use Rattle.script.proofs.word.Word.is_none.Reads as is-none-reads
-use Rattle.script.proofs.word.find.Reads as find-reads
-use Rattle.script.proofs.word.letters.Reads as letters-reads
-use Rattle.script.proofs.word.next.Reads as next-reads
-use Rattle.script.proofs.word.part.Reads as part-reads
 
 abbrev Inv-loop : tie.InvT-loop
 Inv-loop f line pass bytes₀ s₀ i₀ t13 bytes s i = Unit {0}

@@ -1,20 +1,8 @@
 -- What is left to go through grows less.
 use borrow.Author.Needs.{needs}
 use Prim.Native.Nat.{_-_}
-use native.Mathlib.Omega.{arith}
 use Rattle.script.proofs.Statement.option.Statement.{statement}
 use Rattle.script.proofs.Statement.option.Tie as tie
-use Rattle.script.proofs.Statement.option.Reads as reads
-use Rattle.script.proofs.Statement.option.Lts as lts
-use Rattle.script.proofs.Statement.with_value.Reads as with-value-reads
-use Rattle.script.proofs.Statement.wrong.Reads as wrong-reads
-use Rattle.script.proofs.inner.Reads as inner-reads
-use Rattle.script.proofs.is_name.Reads as is-name-reads
-use Rattle.script.proofs.word.Word.is_none.Reads as is-none-reads
-use Rattle.script.proofs.word.find.Reads as find-reads
-use Rattle.script.proofs.word.is.Reads as is-reads
-use Rattle.script.proofs.word.letters.Reads as letters-reads
-use Rattle.script.proofs.word.next.Reads as next-reads
 
 abbrev Inv-loop : tie.InvT-loop
 Inv-loop self form from first line w pass bytes₀ name s₀ at₀ k₀ bytes s at k = Unit {0}

@@ -1,14 +1,8 @@
 -- What is left to go through grows less.
 use borrow.Author.Needs.{needs}
 use Prim.Native.Nat.{_-_}
-use native.Mathlib.Omega.{arith}
 use Rattle.script.proofs.Statement.options.Statement.{statement}
 use Rattle.script.proofs.Statement.options.Tie as tie
-use Rattle.script.proofs.Statement.options.Reads as reads
-use Rattle.script.proofs.Statement.options.Lts as lts
-use Rattle.script.proofs.Statement.option.Reads as option-reads
-use Rattle.script.proofs.word.Word.is_none.Reads as is-none-reads
-use Rattle.script.proofs.word.next.Reads as next-reads
 
 abbrev Inv-loop : tie.InvT-loop
 Inv-loop form from k line pass bytes₀ s₀ i₀ bytes s i = Unit {0}

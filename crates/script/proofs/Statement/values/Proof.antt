@@ -1,17 +1,8 @@
 -- What is left to go through grows less.
 use borrow.Author.Needs.{needs}
 use Prim.Native.Nat.{_-_}
-use native.Mathlib.Omega.{arith}
 use Rattle.script.proofs.Statement.values.Statement.{statement}
 use Rattle.script.proofs.Statement.values.Tie as tie
-use Rattle.script.proofs.Statement.values.Reads as reads
-use Rattle.script.proofs.Statement.values.Lts as lts
-use Rattle.script.proofs.Statement.ended.Reads as ended-reads
-use Rattle.script.proofs.Statement.options.Reads as options-reads
-use Rattle.script.proofs.Statement.with_value.Reads as with-value-reads
-use Rattle.script.proofs.word.Word.is_none.Reads as is-none-reads
-use Rattle.script.proofs.word.letter.Reads as letter-reads
-use Rattle.script.proofs.word.next.Reads as next-reads
 
 abbrev Inv-loop : tie.InvT-loop
 Inv-loop form from line pass bytes₀ s₀ at₀ k₀ bytes s at k = Unit {0}

@@ -1,18 +1,8 @@
 -- What is left to go through grows less.
 use borrow.Author.Needs.{needs}
 use Prim.Native.Nat.{_-_}
-use native.Mathlib.Omega.{arith}
 use Rattle.script.proofs.fault.next_words.Statement.{statement}
 use Rattle.script.proofs.fault.next_words.Tie as tie
-use Rattle.script.proofs.fault.next_words.Reads as reads
-use Rattle.script.proofs.fault.next_words.Lts as lts
-use Rattle.page.proofs.say.Reads as say-reads
-use Rattle.script.proofs.lead_of.Reads as lead-of-reads
-use Rattle.script.proofs.word.find.Reads as find-reads
-use Rattle.script.proofs.word.is.Reads as is-reads
-use Rattle.script.proofs.word.letters.Reads as letters-reads
-use Rattle.script.proofs.word.next.Reads as next-reads
-use Rattle.script.proofs.word.part.Reads as part-reads
 
 abbrev Inv-loop : tie.InvT-loop
 Inv-loop out forms line words last₀ at₀ k₀ t12 last at k = Unit {0}

@@ -1,14 +1,8 @@
 -- What is left to go through grows less.
 use borrow.Author.Needs.{needs}
 use Prim.Native.Nat.{_-_}
-use native.Mathlib.Omega.{arith}
 use Rattle.script.proofs.fault.put_word.Statement.{statement}
 use Rattle.script.proofs.fault.put_word.Tie as tie
-use Rattle.script.proofs.fault.put_word.Reads as reads
-use Rattle.script.proofs.fault.put_word.Lts as lts
-use Rattle.page.proofs.words.Reads as words-reads
-use Rattle.script.proofs.word.find.Reads as find-reads
-use Rattle.script.proofs.word.part.Reads as part-reads
 
 abbrev Inv-loop : tie.InvT-loop
 Inv-loop page n kind place at₀ j₀ at j = Unit {0}

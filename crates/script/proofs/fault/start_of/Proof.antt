@@ -1,12 +1,8 @@
 -- What is left to go through grows less.
 use borrow.Author.Needs.{needs}
 use Prim.Native.Nat.{_-_}
-use native.Mathlib.Omega.{arith}
 use Rattle.script.proofs.fault.start_of.Statement.{statement}
 use Rattle.script.proofs.fault.start_of.Tie as tie
-use Rattle.script.proofs.fault.start_of.Reads as reads
-use Rattle.script.proofs.fault.start_of.Lts as lts
-use Rattle.script.proofs.word.find.Reads as find-reads
 
 abbrev Inv-loop : tie.InvT-loop
 Inv-loop forms form at₀ k₀ at k = Unit {0}

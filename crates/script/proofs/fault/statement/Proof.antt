@@ -1,23 +1,8 @@
 -- What is left to go through grows less.
 use borrow.Author.Needs.{needs}
 use Prim.Native.Nat.{_-_}
-use native.Mathlib.Omega.{arith}
 use Rattle.script.proofs.fault.statement.Statement.{statement}
 use Rattle.script.proofs.fault.statement.Tie as tie
-use Rattle.script.proofs.fault.statement.Reads as reads
-use Rattle.script.proofs.fault.statement.Lts as lts
-use Rattle.page.proofs.letter.Reads as letter-reads
-use Rattle.page.proofs.words.Reads as words-reads
-use Rattle.script.proofs.fault.put_value.Reads as put-value-reads
-use Rattle.script.proofs.fault.start_of.Reads as start-of-reads
-use Rattle.script.proofs.inner.Reads as inner-reads
-use Rattle.script.proofs.is_name.Reads as is-name-reads
-use Rattle.script.proofs.word.Word.is_none.Reads as is-none-reads
-use Rattle.script.proofs.word.find.Reads as find-reads
-use Rattle.script.proofs.word.letter.Reads as word-letter-reads
-use Rattle.script.proofs.word.letters.Reads as letters-reads
-use Rattle.script.proofs.word.next.Reads as next-reads
-use Rattle.script.proofs.word.part.Reads as part-reads
 
 abbrev Inv-loop : tie.InvT-loop
 Inv-loop page₀ n forms form values start row at₀ from₀ k₀ i₀ page at from k i = Unit {0}

@@ -2,12 +2,8 @@
 use borrow.Author.Needs.{needs}
 use Prim.Native.Nat.{_-_}
 use lib.ListN.{length}
-use native.Mathlib.Omega.{arith}
 use Rattle.script.proofs.word.decimal.Statement.{statement}
 use Rattle.script.proofs.word.decimal.Tie as tie
-use Rattle.script.proofs.word.decimal.Reads as reads
-use Rattle.script.proofs.word.decimal.Lts as lts
-use Rattle.script.proofs.word.digit.Reads as digit-reads
 
 abbrev Inv-loop : tie.InvT-loop
 Inv-loop w value₀ i₀ value i = Unit {0}

@@ -2,11 +2,8 @@
 use borrow.Author.Needs.{needs}
 use Prim.Native.Nat.{_-_}
 use lib.ListN.{length}
-use native.Mathlib.Omega.{arith}
 use Rattle.script.proofs.word.find.Statement.{statement}
 use Rattle.script.proofs.word.find.Tie as tie
-use Rattle.script.proofs.word.find.Reads as reads
-use Rattle.script.proofs.word.find.Lts as lts
 
 abbrev Inv-loop : tie.InvT-loop
 Inv-loop line from b i₀ i = Unit {0}

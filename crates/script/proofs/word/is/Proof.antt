@@ -2,12 +2,8 @@
 use borrow.Author.Needs.{needs}
 use Prim.Native.Nat.{_-_}
 use lib.ListN.{length}
-use native.Mathlib.Omega.{arith}
 use Rattle.script.proofs.word.is.Statement.{statement}
 use Rattle.script.proofs.word.is.Tie as tie
-use Rattle.script.proofs.word.is.Reads as reads
-use Rattle.script.proofs.word.is.Lts as lts
-use Rattle.script.proofs.word.letter.Reads as letter-reads
 
 abbrev Inv-loop : tie.InvT-loop
 Inv-loop w name i₀ i = Unit {0}

@@ -2,12 +2,8 @@
 use borrow.Author.Needs.{needs}
 use Prim.Native.Nat.{_-_}
 use lib.ListN.{length}
-use native.Mathlib.Omega.{arith}
 use Rattle.script.proofs.word.past.Statement.{statement}
 use Rattle.script.proofs.word.past.Tie as tie
-use Rattle.script.proofs.word.past.Reads as reads
-use Rattle.script.proofs.word.past.Lts as lts
-use Rattle.script.proofs.word.is_end.Reads as is-end-reads
 
 abbrev Inv-loop : tie.InvT-loop
 Inv-loop line from what i₀ i = Unit {0}

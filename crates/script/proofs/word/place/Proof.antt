@@ -1,15 +1,8 @@
 -- What is left to go through grows less.
 use borrow.Author.Needs.{needs}
 use Prim.Native.Nat.{_-_}
-use native.Mathlib.Omega.{arith}
 use Rattle.script.proofs.word.place.Statement.{statement}
 use Rattle.script.proofs.word.place.Tie as tie
-use Rattle.script.proofs.word.place.Reads as reads
-use Rattle.script.proofs.word.place.Lts as lts
-use Rattle.script.proofs.word.Word.is_none.Reads as is-none-reads
-use Rattle.script.proofs.word.is.Reads as is-reads
-use Rattle.script.proofs.word.letters.Reads as letters-reads
-use Rattle.script.proofs.word.next.Reads as next-reads
 
 abbrev Inv-loop : tie.InvT-loop
 Inv-loop list w at₀ i₀ at i = Unit {0}
