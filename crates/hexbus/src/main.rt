@@ -295,8 +295,16 @@ fn played(
     summary(name, all, &d)
 }
 
+// A descriptor as a number, 0 for one that is none of a file or over 254.
 fn number_of(file: i32) -> u64 {
-    if 0 <= file { file as u64 } else { 0 }
+    let mut k = 3u8;
+    while k < 255 {
+        if k as i32 == file {
+            return k as u64;
+        }
+        k += 1;
+    }
+    0
 }
 
 // The memory of units and of notes, for one script.
