@@ -1,5 +1,5 @@
 // Stand-ins for units: each hears commands to its code and answers as a script says, through the listener and the sender that every party
-// has. The state of one is sixteen words of the desk.
+// has. The state of one is sixteen words of the desk, which a round works on in an array of its own.
 use crate::ANSWERS;
 use desk::STAND_IN;
 use line::Lines;
@@ -46,26 +46,41 @@ const SILENT: u64 = 7;
 pub fn answer(d: &mut [u64; 360], bytes: &mut [u8; 135168]) {
     let code = d[desk::VALUES];
     let i = desk::find_stand_in(d, code) % 4;
-    let at = STAND_IN + 16 * i;
     let n = d[desk::BYTES] % 1025;
-    d[at + AFTER] = desk::value_or(d, 1, 2);
-    d[at + CUT] = desk::value_or(d, 2, 65535);
-    d[at + SLOW] = desk::value_or(d, 3, 0);
-    d[at + HOLDS] = d[at + SLOW];
-    d[at + AT] = desk::value_or(d, 4, 0);
-    d[at + LENGTH] = n;
-    d[at + LAST] = 0;
+    let mut s = load(d, i);
+    s[AFTER] = desk::value_or(d, 1, 2);
+    s[CUT] = desk::value_or(d, 2, 65535);
+    s[SLOW] = desk::value_or(d, 3, 0);
+    s[HOLDS] = s[SLOW];
+    s[AT] = desk::value_or(d, 4, 0);
+    s[LENGTH] = n;
+    s[LAST] = 0;
+    save(d, i, &s);
     crate::controller_calls::copy(bytes, ANSWERS + 1024 * i, n as usize);
+}
+
+fn load(d: &[u64; 360], place: usize) -> [u64; 16] {
+    let mut s = [0u64; 16];
+    let mut i = 0usize;
+    while i < 16 {
+        s[i] = d[STAND_IN + 16 * (place % 4) + i];
+        i += 1;
+    }
+    s
+}
+
+fn save(d: &mut [u64; 360], place: usize, s: &[u64; 16]) {
+    let mut i = 0usize;
+    while i < 16 {
+        d[STAND_IN + 16 * (place % 4) + i] = s[i];
+        i += 1;
+    }
 }
 
 // How many whole bytes of its present or last command a stand-in has heard and noted.
 pub fn heard(d: &[u64; 360], i: usize) -> usize {
-    let at = STAND_IN + 16 * (i % 4);
-    let nibbles = if d[at + HEARD] == 0 {
-        d[at + LAST]
-    } else {
-        d[at + HEARD]
-    };
+    let s = load(d, i);
+    let nibbles = if s[HEARD] == 0 { s[LAST] } else { s[HEARD] };
     let n = nibbles / 2;
     if n < 1024 { n as usize } else { 1024 }
 }
@@ -92,10 +107,9 @@ pub fn wired(d: &[u64; 360], levels: Lines) -> Lines {
 
 // What one pulls.
 pub fn pulls(d: &[u64; 360], i: usize) -> Lines {
-    let at = STAND_IN + 16 * (i % 4);
-    let act = d[at + ACT];
-    let ear = listener(act);
-    let sender = sender(act, d[at + NIBBLE]);
+    let s = load(d, i);
+    let ear = listener(s[ACT]);
+    let sender = sender(s[ACT], s[NIBBLE]);
     Lines {
         bav: false,
         hsk: ear.hsk() | sender.hsk(),
@@ -141,74 +155,80 @@ pub fn steps(d: &mut [u64; 360], seen: Lines, notes: &mut [u8; 8192], bytes: &[u
     let n = (d[desk::STAND_INS] % 5) as usize;
     let mut i = 0usize;
     while i < n {
-        step(d, i, seen, notes, bytes);
+        let code = (d[desk::STAND_IN_CODES + i % 4] % 256) as u8;
+        let mut s = load(d, i);
+        step(&mut s, i, code, seen, notes, bytes);
+        save(d, i, &s);
         i += 1;
     }
 }
 
 // A round of one. BAV seen high is looked at before everything else: it is ready for the next command.
-fn step(d: &mut [u64; 360], i: usize, seen: Lines, notes: &mut [u8; 8192], bytes: &[u8; 135168]) {
-    let at = STAND_IN + 16 * (i % 4);
-    let act = d[at + ACT];
-    let holds = d[at + HOLDS];
-    let here = d[at + HEARD] % 1000000 + d[at + SENT] % 1000000;
+fn step(
+    s: &mut [u64; 16],
+    i: usize,
+    code: u8,
+    seen: Lines,
+    notes: &mut [u8; 8192],
+    bytes: &[u8; 135168],
+) {
+    let act = s[ACT];
+    let holds = s[HOLDS];
+    let left = s[WAITS];
+    let here = s[HEARD] % 1000000 + s[SENT] % 1000000;
     if !seen.bav {
-        if 0 < d[at + HEARD] {
-            d[at + LAST] = d[at + HEARD];
-        }
-        d[at + ACT] = 0;
-        d[at + HEARD] = 0;
-        d[at + SENT] = 0;
-        d[at + HOLDS] = d[at + SLOW];
+        released(s);
         return;
     }
     if 0 < holds {
-        if (here == d[at + AT]) & ((act == 1) | (act == 5)) {
-            d[at + HOLDS] = holds - 1;
+        if (here == s[AT]) & ((act == 1) | (act == 5)) {
+            s[HOLDS] = holds - 1;
             return;
         }
     }
     match act {
-        0..=2 => hear(d, i, seen, notes),
-        PAUSING => {
-            let left = d[at + WAITS];
-            if left <= 1 {
-                place(d, i, bytes);
-            } else {
-                d[at + WAITS] = left - 1;
-            }
-        }
-        ANSWERING => place(d, i, bytes),
-        5..=6 => {
-            let next = sender(act, d[at + NIBBLE]).step(seen.hsk, 15);
-            d[at + ACT] = sends(next);
-        }
+        0..=2 => hear(s, i, code, seen, notes),
+        PAUSING => if 1 < left {
+            s[WAITS] = left - 1;
+        } else {
+            place(s, i, bytes);
+        },
+        ANSWERING => place(s, i, bytes),
+        5..=6 => s[ACT] = sends(sender(act, s[NIBBLE]).step(seen.hsk, 15)),
         _ => {}
     }
 }
 
+fn released(s: &mut [u64; 16]) {
+    if 0 < s[HEARD] {
+        s[LAST] = s[HEARD];
+    }
+    s[ACT] = 0;
+    s[HEARD] = 0;
+    s[SENT] = 0;
+    s[HOLDS] = s[SLOW];
+}
+
 // A round of the command. Behind the two nibbles of another code it sits out.
-fn hear(d: &mut [u64; 360], i: usize, seen: Lines, notes: &mut [u8; 8192]) {
-    let at = STAND_IN + 16 * (i % 4);
+fn hear(s: &mut [u64; 16], i: usize, code: u8, seen: Lines, notes: &mut [u8; 8192]) {
     let base = 1024 * (i % 4);
-    let code = (d[desk::STAND_IN_CODES + i % 4] % 256) as u8;
-    let ear = listener(d[at + ACT]);
-    let n = d[at + HEARD];
+    let ear = listener(s[ACT]);
+    let n = s[HEARD];
     let first = notes[base];
     if (n == 2) & (0 < code) & (0 < first) & (first != code) {
-        d[at + ACT] = SILENT;
+        s[ACT] = SILENT;
         return;
     }
     if ear.taken(seen.hsk) {
-        d[at + HEARD] = n % 1000000 + 1;
+        s[HEARD] = n % 1000000 + 1;
         note(notes, base, n, seen.nibble);
     }
     let next = ear.step(seen.hsk, false);
     let length = field::value_of(notes[base + 7], notes[base + 8]) as u64;
-    d[at + ACT] = hears(next);
+    s[ACT] = hears(next);
     if next.is_ready() & (18 <= n) & (n / 2 == 9 + length % 65536) {
-        d[at + ACT] = PAUSING;
-        d[at + WAITS] = d[at + AFTER];
+        s[ACT] = PAUSING;
+        s[WAITS] = s[AFTER];
     }
 }
 
@@ -223,15 +243,15 @@ fn note(notes: &mut [u8; 8192], base: usize, i: u64, nibble: u8) {
 }
 
 // It places the next nibble of its answer, if there is one.
-fn place(d: &mut [u64; 360], i: usize, bytes: &[u8; 135168]) {
-    let at = STAND_IN + 16 * (i % 4);
-    let n = d[at + SENT] % 1000000;
-    if (d[at + LENGTH] <= n / 2) | (d[at + CUT] <= n) {
-        d[at + ACT] = SILENT;
+fn place(s: &mut [u64; 16], i: usize, bytes: &[u8; 135168]) {
+    let n = s[SENT] % 1000000;
+    let k = n as usize;
+    if (s[LENGTH] <= n / 2) | (s[CUT] <= n) {
+        s[ACT] = SILENT;
         return;
     }
-    let byte = bytes[ANSWERS + 1024 * (i % 4) + n as usize / 2 % 1024];
-    d[at + SENT] = n + 1;
-    d[at + NIBBLE] = field::nibble(byte, n as usize) as u64;
-    d[at + ACT] = 5;
+    let byte = bytes[ANSWERS + 1024 * (i % 4) + k / 2 % 1024];
+    s[SENT] = n + 1;
+    s[NIBBLE] = (field::nibble(byte, k) % 16) as u64;
+    s[ACT] = 5;
 }

@@ -84,4 +84,3 @@ asked-spec =
     slice-aggregate-wrong
     wrong-requires
     returns-3)
-

@@ -23,4 +23,3 @@ pub main-spec : {M : Type 1} → statement M
 main-spec =
     tie.close
     (tie.spec asked-requires slice-aggregate-write-all write-all-requires returns returns-2)
-

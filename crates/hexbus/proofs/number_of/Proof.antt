@@ -49,4 +49,3 @@ number-of-spec =
     loop-less
     loop-again
     returns-2)
-

@@ -48,4 +48,3 @@ run-spec =
     returns-3
     scripts-requires
     returns-4)
-

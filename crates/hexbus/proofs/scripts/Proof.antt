@@ -12,4 +12,3 @@ returns c = search needs
 
 pub scripts-spec : {M : Type 1} → statement M
 scripts-spec = tie.close (tie.spec each-requires returns)
-

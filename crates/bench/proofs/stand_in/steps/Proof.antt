@@ -1,6 +1,7 @@
 -- What is left to go through grows less.
 use borrow.Author.Needs.{needs}
 use Prim.Native.Nat.{_-_}
+use native.Mathlib.Omega.{arith}
 use Rattle.bench.proofs.stand_in.steps.Statement.{statement}
 use Rattle.bench.proofs.stand_in.steps.Tie as tie
 
@@ -16,8 +17,26 @@ element-copy-out-n c = search needs
 loop-holds : tie.Need-loop-holds Inv-loop μ-loop
 loop-holds c = search needs
 
+add-code : tie.Need-add-code Inv-loop μ-loop
+add-code c = search needs
+
+mul-code : tie.Need-mul-code Inv-loop μ-loop
+mul-code c = search needs
+
+element-copy-out-code : tie.Need-element-copy-out-code Inv-loop μ-loop
+element-copy-out-code c = search needs
+
+cast-code : tie.Need-cast-code Inv-loop μ-loop
+cast-code c = search needs
+
+load-requires : tie.Need-load-requires Inv-loop μ-loop
+load-requires c κs = search needs
+
 step-requires : tie.Need-step-requires Inv-loop μ-loop
 step-requires c κs = search needs
+
+save-requires : tie.Need-save-requires Inv-loop μ-loop
+save-requires c κs = search needs
 
 add-i : tie.Need-add-i Inv-loop μ-loop
 add-i c = search needs
@@ -39,8 +58,15 @@ steps-spec =
     μ-loop
     element-copy-out-n
     loop-holds
+    add-code
+    mul-code
+    element-copy-out-code
+    cast-code
+    load-requires
     step-requires
+    save-requires
     add-i
     loop-less
     loop-again
     returns)
+

@@ -1,6 +1,7 @@
 -- What is left to go through grows less.
 use borrow.Author.Needs.{needs}
 use Prim.Native.Nat.{_-_}
+use native.Mathlib.Omega.{arith}
 use Rattle.bench.proofs.stand_in.wired.Statement.{statement}
 use Rattle.bench.proofs.stand_in.wired.Tie as tie
 
@@ -76,3 +77,4 @@ wired-spec =
     wired-requires-2
     returns
     returns-2)
+
