@@ -1,32 +1,24 @@
 // The bus of a script and its rounds, with stand-ins for units and lines that are held from outside. The units' memory, the bytes of
 // statements and answers, the response buffer and what is noted of a run are lent: they stay where they are.
-pub mod controller_calls;
 pub mod look;
 pub mod picture_of;
 pub mod stand_in;
-pub mod unit_calls;
 
+use application::Acknowledging;
 use bus::Bus;
 use bus::Rounded;
 use controller::Controller;
 use controller::Stepping;
+use desk::COMMAND_BYTES;
 use desk::tell;
 use frame::Stage;
+use host::Raised;
 use line::Lines;
 use ring::Ring;
 use unit::Unit;
 
-// Where the bytes of the command that was submitted last begin among the bytes, behind those of a statement; behind them stand the
-// answers of stand-ins, 1,024 bytes each.
-pub const SUBMITTED: usize = 65536;
-
-pub const ANSWERS: usize = 131072;
-
-// Where the strip, the bytes that were taken and the entries of a ring begin among the notes, behind what stand-ins have heard, 1,024
-// bytes each.
+// Where the strip and the entries of a ring begin among the notes, behind what stand-ins have heard, 1,024 bytes each.
 pub const STRIP: usize = 4096;
-
-pub const TAKEN: usize = 4608;
 
 pub const ENTRIES: usize = 4864;
 
@@ -54,9 +46,39 @@ pub fn round(
 
 // The host of a unit raises a request by itself.
 fn raised(bus: Bus, d: &mut [u64; 360], i: usize) -> Bus {
-    let next = unit_calls::raise(bus.units[i % 16], d, i, ring_of(bus));
+    let next = raise(bus.units[i % 16], d, i, ring_of(bus));
     tell::refusal(d, script::RAISE);
     with_unit(bus, i, next)
+}
+
+// It raises a request, or from now on one every so many rounds. Raising again changes nothing.
+pub fn raise(u: Unit, d: &mut [u64; 360], i: usize, ring: Ring) -> Unit {
+    let s = u.serial;
+    match host::raise(u) {
+        Raised::Held(v) => {
+            if !s.requesting {
+                tell::awaited(d, i, ring);
+            }
+            v
+        }
+        Raised::NotEnabled => {
+            desk::refused(d, 7);
+            u
+        }
+    }
+}
+
+// The application acknowledges the request of a code.
+pub fn acknowledged(c: Controller, d: &mut [u64; 360], code: u8) -> Controller {
+    let acknowledged = application::acknowledge(c, code);
+    let outcome = acknowledged.outcome;
+    match outcome {
+        Acknowledging::Cleared => acknowledged.controller,
+        Acknowledging::NotMarked => {
+            desk::refused(d, 8);
+            c
+        }
+    }
 }
 
 fn stepped(
@@ -90,8 +112,8 @@ fn bus_round(
     memory: &mut [u8; 12288],
 ) -> Rounded {
     let lent = (d[desk::LENT] % 65536) as usize;
-    let end = SUBMITTED + (d[desk::LENGTH] % 65536) as usize;
-    let data = script::word::part(bytes, SUBMITTED, end);
+    let end = COMMAND_BYTES + (d[desk::LENGTH] % 65536) as usize;
+    let data = script::word::part(bytes, COMMAND_BYTES, end);
     if lent <= response.len() {
         return bus.round(seen, hosts, data, &mut response[0..lent], memory);
     }
@@ -112,7 +134,7 @@ pub fn concluded(
 ) -> Bus {
     let code = tell::stepped(d, before, stage_of(bus), ring_of(bus), outcome, response);
     if (0 < code) & (d[desk::ACKNOWLEDGES] == 1) {
-        let c = controller_calls::acknowledged(controller_of(bus), d, code);
+        let c = acknowledged(controller_of(bus), d, code);
         return with_controller(bus, c);
     }
     bus

@@ -1,6 +1,6 @@
 // Stand-ins for units: each hears commands to its code and answers as a script says, through the listener and the sender that every party
 // has. The state of one is sixteen words of the desk, which a round works on in an array of its own.
-use crate::ANSWERS;
+use desk::ANSWER_BYTES;
 use desk::STAND_IN;
 use line::Lines;
 use line::Listener;
@@ -56,7 +56,7 @@ pub fn answer(d: &mut [u64; 360], bytes: &mut [u8; 135168]) {
     s[LENGTH] = n;
     s[LAST] = 0;
     save(d, i, &s);
-    crate::controller_calls::copy(bytes, ANSWERS + 1024 * i, n as usize);
+    desk::copy(bytes, ANSWER_BYTES + 1024 * i, n as usize);
 }
 
 fn load(d: &[u64; 360], place: usize) -> [u64; 16] {
@@ -250,7 +250,7 @@ fn place(s: &mut [u64; 16], i: usize, bytes: &[u8; 135168]) {
         s[ACT] = SILENT;
         return;
     }
-    let byte = bytes[ANSWERS + 1024 * (i % 4) + k / 2 % 1024];
+    let byte = bytes[ANSWER_BYTES + 1024 * (i % 4) + k / 2 % 1024];
     s[SENT] = n + 1;
     s[NIBBLE] = (field::nibble(byte, k) % 16) as u64;
     s[ACT] = 5;

@@ -2,6 +2,7 @@
 // themselves, what came of the last calls, and what is counted.
 pub mod judge;
 pub mod plan;
+pub mod reading;
 pub mod tell;
 
 use script::Statement;
@@ -153,6 +154,12 @@ pub const STAND_IN: usize = 296;
 
 // The most bytes of a stand-in's answer.
 pub const ANSWER: u64 = 1024;
+
+// Where, among the bytes, those of the command that was submitted last begin, behind those of a statement; and where, behind them, the
+// answers of stand-ins do, 1,024 bytes each.
+pub const COMMAND_BYTES: usize = 65536;
+
+pub const ANSWER_BYTES: usize = 131072;
 
 // The value of a statement that was not given, and that of the word behind a bar.
 pub const NONE: u64 = 4294967295;
@@ -340,5 +347,14 @@ pub fn turned(d: &mut [u64; 360], at: usize) {
     }
     if at < 16 {
         d[TURNS + at] = d[TURNS + at] % 1000000000 + 1;
+    }
+}
+
+// So many bytes of the statement go to a place behind them.
+pub fn copy(bytes: &mut [u8; 135168], to: usize, n: usize) {
+    let mut i = 0usize;
+    while i < n {
+        bytes[(to % 135168 + i % 65536) % 135168] = bytes[i % 65536];
+        i += 1;
     }
 }

@@ -275,7 +275,7 @@ fn played(
     log: &mut [u8; 16384],
 ) -> Tally {
     let mut plan = [0u64; 360];
-    let faults = play::faults(forms, name, text, &mut plan, bytes);
+    let faults = desk::reading::faults(forms, name, text, &mut plan, bytes);
     if 0 < faults {
         page::show(STDOUT_FILENO, name);
         page::say(STDOUT_FILENO, b": nothing was run\n\n");

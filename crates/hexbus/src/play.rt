@@ -1,10 +1,10 @@
-// A script, read as a whole before any of it is played, and played line by line.
-use bench::controller_calls;
+// A script without faults, played line by line.
 use bench::look;
 use bench::picture_of;
 use bench::stand_in;
-use bench::unit_calls;
 use bus::Bus;
+use calls::controller_calls;
+use calls::unit_calls;
 use controller::Controller;
 use desk::VALUES;
 use desk::judge;
@@ -12,107 +12,13 @@ use desk::plan;
 use desk::tell;
 use host::Made;
 use libc::STDERR_FILENO;
-use libc::STDOUT_FILENO;
 use line::Lines;
 use ring::Ring;
 use script::word;
 use unit::Unit;
 
-// The longest line.
-const LONGEST: usize = 4096;
-
 // A run until something has happened is at most so long, where the script sets no limit.
 const LIMIT: u64 = 100000;
-
-// How many lines of a script cannot be played. The first twenty are said.
-pub fn faults(
-    forms: &[u8],
-    name: &[u8],
-    text: &[u8],
-    d: &mut [u64; 360],
-    bytes: &mut [u8; 135168],
-) -> u64 {
-    desk::start(d);
-    let mut statements = 0u64;
-    let mut i = 0u64;
-    while i < 1000000000 {
-        if text.len() as u64 <= d[desk::NEXT] {
-            break;
-        }
-        statements = statements % 2 | checked(forms, name, text, d, bytes);
-        i += 1;
-    }
-    if 0 < d[desk::LOOP] {
-        fault(d, name);
-        page::say(STDOUT_FILENO, b"a repeat has no end before the script's\n");
-    }
-    if statements == 0 {
-        fault(d, name);
-        page::say(STDOUT_FILENO, b"the script has no statement\n");
-    }
-    if 20 < d[desk::FAULTS] {
-        page::show(STDOUT_FILENO, name);
-        page::tell(
-            STDOUT_FILENO,
-            b": # such lines in all\n",
-            d[desk::FAULTS],
-            0,
-            0,
-            0,
-        );
-    }
-    d[desk::FAULTS]
-}
-
-// The next line; 1 where it has a statement.
-fn checked(
-    forms: &[u8],
-    name: &[u8],
-    text: &[u8],
-    d: &mut [u64; 360],
-    bytes: &mut [u8; 135168],
-) -> u64 {
-    let end = plan::next_line(d, text);
-    let line = word::part(text, d[desk::START] as usize, end);
-    let s = script::read(forms, line, (d[desk::PASS] % 4294967296) as u32, bytes);
-    let is_long = LONGEST < line.len();
-    if is_long | s.is_wrong {
-        if fault(d, name) {
-            if is_long {
-                page::say(
-                    STDOUT_FILENO,
-                    b"the line is too long: at most 4,096 bytes\n",
-                );
-            } else {
-                script::fault::misread(STDOUT_FILENO, forms, line, s);
-            }
-        }
-        plan::past_line(d);
-        return 1;
-    }
-    desk::stated(d, s);
-    let why = plan::with(d);
-    if 0 < why {
-        if fault(d, name) {
-            plan::reason(STDOUT_FILENO, why);
-        }
-    }
-    plan::past(d);
-    if s.form == script::BLANK { 0 } else { 1 }
-}
-
-// One more line that cannot be played: whether that is said. In a repeat no more passes follow.
-fn fault(d: &mut [u64; 360], name: &[u8]) -> bool {
-    let n = d[desk::FAULTS] % 1000000000 + 1;
-    d[desk::FAULTS] = n;
-    d[desk::PASSES] = 0;
-    if 20 < n {
-        return false;
-    }
-    page::show(STDOUT_FILENO, name);
-    page::tell(STDOUT_FILENO, b": line #: ", d[desk::LINE], 0, 0, 0);
-    true
-}
 
 // Plays a script without faults.
 pub fn whole(
@@ -280,7 +186,7 @@ fn unit_called(
         script::TAKE => {
             let next = unit_calls::take(u, d, i, memory, notes);
             let n = d[desk::TAKEN] as usize;
-            tell::given(d, part_of(notes, bench::TAKEN, n));
+            tell::given(d, part_of(notes, calls::TAKEN, n));
             next
         }
         script::RAISE => if desk::has(d, 1) {
@@ -289,7 +195,7 @@ fn unit_called(
             d[desk::RAISING_HOSTS] = 1;
             u
         } else {
-            unit_calls::raise(u, d, i, ring)
+            bench::raise(u, d, i, ring)
         },
         _ => unit_calls::restarted(u, i, memory),
     }
@@ -306,7 +212,7 @@ fn set(c: Controller, d: &mut [u64; 360]) -> Controller {
             d[desk::SUBMITTED] = 0;
             return controller_calls::make(c, d, c.timeout as u64);
         }
-        script::ACKNOWLEDGE => return controller_calls::acknowledged(c, d, own),
+        script::ACKNOWLEDGE => return bench::acknowledged(c, d, own),
         script::STAND_IN => {
             plan::stand_in(d);
         }
@@ -520,7 +426,7 @@ fn expected(
         }
         script::TAKEN => {
             let n = d[desk::TAKEN] as usize;
-            judge::bytes(d, log, name, text, wanted, part_of(notes, bench::TAKEN, n));
+            judge::bytes(d, log, name, text, wanted, part_of(notes, calls::TAKEN, n));
         }
         script::HEARD => {
             let code = d[VALUES];

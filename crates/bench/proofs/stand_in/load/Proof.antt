@@ -65,4 +65,3 @@ load-spec =
     loop-less
     loop-again
     returns)
-

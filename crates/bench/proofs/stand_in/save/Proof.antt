@@ -65,4 +65,3 @@ save-spec =
     loop-less
     loop-again
     returns)
-

@@ -69,4 +69,3 @@ steps-spec =
     loop-less
     loop-again
     returns)
-

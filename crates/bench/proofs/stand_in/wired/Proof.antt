@@ -77,4 +77,3 @@ wired-spec =
     wired-requires-2
     returns
     returns-2)
-

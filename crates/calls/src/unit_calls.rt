@@ -2,10 +2,8 @@
 use desk::VALUES;
 use host::Fed;
 use host::Made;
-use host::Raised;
 use host::Taken;
 use line::Lines;
-use ring::Ring;
 use unit::Stepped;
 use unit::Unit;
 
@@ -108,23 +106,6 @@ pub fn take(
     }
     d[desk::TAKEN] = n as u64;
     u
-}
-
-// It raises a request, or from now on one every so many rounds. Raising again changes nothing.
-pub fn raise(u: Unit, d: &mut [u64; 360], i: usize, ring: Ring) -> Unit {
-    let s = u.serial;
-    match host::raise(u) {
-        Raised::Held(v) => {
-            if !s.requesting {
-                desk::tell::awaited(d, i, ring);
-            }
-            v
-        }
-        Raised::NotEnabled => {
-            desk::refused(d, 7);
-            u
-        }
-    }
 }
 
 // It is switched off and on: new, with the settings that it had, its command buffer EE.

@@ -1,8 +1,8 @@
 -- What is left to go through grows less.
 use borrow.Author.Needs.{needs}
 use Prim.Native.Nat.{_-_}
-use Rattle.bench.proofs.unit_calls.store.Statement.{statement}
-use Rattle.bench.proofs.unit_calls.store.Tie as tie
+use Rattle.calls.proofs.unit_calls.store.Statement.{statement}
+use Rattle.calls.proofs.unit_calls.store.Tie as tie
 
 abbrev Inv-loop : tie.InvT-loop
 Inv-loop memory₀ at part i₀ memory i = Unit {0}

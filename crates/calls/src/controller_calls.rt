@@ -1,10 +1,9 @@
 // The calls of the application that a script makes, and steps of the controller by hand. What came of a call stands on the desk.
-use crate::SUBMITTED;
-use application::Acknowledging;
 use application::Making;
 use application::Submitting;
 use controller::Controller;
 use controller::Stepped;
+use desk::COMMAND_BYTES;
 use desk::VALUES;
 use desk::tell;
 use frame::Stage;
@@ -19,19 +18,6 @@ pub fn make(c: Controller, d: &mut [u64; 360], timeout: u64) -> Controller {
         Making::New => made.controller,
         Making::Setting => {
             desk::refused(d, 5);
-            c
-        }
-    }
-}
-
-// The application acknowledges the request of a code.
-pub fn acknowledged(c: Controller, d: &mut [u64; 360], code: u8) -> Controller {
-    let acknowledged = application::acknowledge(c, code);
-    let outcome = acknowledged.outcome;
-    match outcome {
-        Acknowledging::Cleared => acknowledged.controller,
-        Acknowledging::NotMarked => {
-            desk::refused(d, 8);
             c
         }
     }
@@ -143,24 +129,15 @@ fn waiting(c: Controller, command: Command, length: u64) -> Controller {
 fn keep(d: &[u64; 360], bytes: &mut [u8; 135168], attributes: u64, front: usize) {
     let length = desk::value_or(d, 11, 0);
     if 0 < front {
-        bytes[SUBMITTED] = (length % 256) as u8;
-        bytes[SUBMITTED + 1] = (length / 256 % 256) as u8;
-        bytes[SUBMITTED + 2] = (attributes % 256) as u8;
+        bytes[COMMAND_BYTES] = (length % 256) as u8;
+        bytes[COMMAND_BYTES + 1] = (length / 256 % 256) as u8;
+        bytes[COMMAND_BYTES + 2] = (attributes % 256) as u8;
     }
-    copy(
+    desk::copy(
         bytes,
-        SUBMITTED + front % 4,
+        COMMAND_BYTES + front % 4,
         (d[desk::BYTES] % 65537) as usize,
     );
-}
-
-// So many bytes of the statement go to a place behind them.
-pub fn copy(bytes: &mut [u8; 135168], to: usize, n: usize) {
-    let mut i = 0usize;
-    while i < n {
-        bytes[(to % 135168 + i % 65536) % 135168] = bytes[i % 65536];
-        i += 1;
-    }
 }
 
 fn fill(response: &mut [u8; 65536]) {
@@ -180,7 +157,7 @@ pub fn step(
     response: &mut [u8],
 ) -> Stepped {
     let own = desk::has(d, 7);
-    let start = if own { 0 } else { SUBMITTED };
+    let start = if own { 0 } else { COMMAND_BYTES };
     let length = if own { d[desk::BYTES] } else { d[desk::LENGTH] };
     let data = script::word::part(bytes, start, start % 65537 + (length % 65537) as usize);
     let lent = (desk::value_or(d, 6, d[desk::LENT]) % 65536) as usize;

@@ -1,8 +1,8 @@
 -- What is left to go through grows less.
 use borrow.Author.Needs.{needs}
 use Prim.Native.Nat.{_-_}
-use Rattle.hexbus.proofs.play.faults.Statement.{statement}
-use Rattle.hexbus.proofs.play.faults.Tie as tie
+use Rattle.desk.proofs.reading.faults.Statement.{statement}
+use Rattle.desk.proofs.reading.faults.Tie as tie
 
 abbrev Inv-loop : tie.InvT-loop
 Inv-loop forms name text d₀ bytes₀ statements₀ i₀ t8 t9 t10 d bytes statements i = Unit {0}

@@ -1,8 +1,8 @@
 -- What is left to go through grows less.
 use borrow.Author.Needs.{needs}
 use Prim.Native.Nat.{_-_}
-use Rattle.bench.proofs.unit_calls.take.Statement.{statement}
-use Rattle.bench.proofs.unit_calls.take.Tie as tie
+use Rattle.calls.proofs.unit_calls.take.Statement.{statement}
+use Rattle.calls.proofs.unit_calls.take.Tie as tie
 
 abbrev Inv-loop : tie.InvT-loop
 Inv-loop d i memory notes₀ output most u₀ n₀ notes u n = Unit {0}

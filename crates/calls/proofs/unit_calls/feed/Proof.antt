@@ -1,8 +1,8 @@
 -- What is left to go through grows less.
 use borrow.Author.Needs.{needs}
 use Prim.Native.Nat.{_-_}
-use Rattle.bench.proofs.unit_calls.feed.Statement.{statement}
-use Rattle.bench.proofs.unit_calls.feed.Tie as tie
+use Rattle.calls.proofs.unit_calls.feed.Statement.{statement}
+use Rattle.calls.proofs.unit_calls.feed.Tie as tie
 
 abbrev Inv-loop : tie.InvT-loop
 Inv-loop d i bytes memory at n input₀ given₀ k₀ input given k = Unit {0}

@@ -1,8 +1,8 @@
 -- What is left to go through grows less.
 use borrow.Author.Needs.{needs}
 use Prim.Native.Nat.{_-_}
-use Rattle.bench.proofs.controller_calls.fill.Statement.{statement}
-use Rattle.bench.proofs.controller_calls.fill.Tie as tie
+use Rattle.calls.proofs.controller_calls.fill.Statement.{statement}
+use Rattle.calls.proofs.controller_calls.fill.Tie as tie
 
 abbrev Inv-loop : tie.InvT-loop
 Inv-loop response₀ i₀ response i = Unit {0}
