@@ -44,14 +44,19 @@ pub fn round(
     stepped(bus, d, bytes, response, memory, notes)
 }
 
-// The host of a unit raises a request by itself.
+// The host of a unit raises a request by itself. A refusal before it in the same run stands.
 fn raised(bus: Bus, d: &mut [u64; 360], i: usize) -> Bus {
+    let refusal = d[desk::REFUSAL];
+    d[desk::REFUSAL] = 0;
     let next = raise(bus.units[i % 16], d, i, ring_of(bus));
     tell::refusal(d, script::RAISE);
+    if d[desk::REFUSAL] == 0 {
+        d[desk::REFUSAL] = refusal;
+    }
     with_unit(bus, i, next)
 }
 
-// It raises a request, or from now on one every so many rounds. Raising again changes nothing.
+// The host of a unit raises a request. Raising again changes nothing.
 pub fn raise(u: Unit, d: &mut [u64; 360], i: usize, ring: Ring) -> Unit {
     let s = u.serial;
     match host::raise(u) {
