@@ -1,7 +1,8 @@
 // A script is read as a whole before any of it is played.
 use crate::plan;
 use libc::STDOUT_FILENO;
-use script::word;
+use script::FORM;
+use script::IS_WRONG;
 
 // The longest line.
 const LONGEST: usize = 4096;
@@ -11,8 +12,8 @@ pub fn faults(
     forms: &[u8],
     name: &[u8],
     text: &[u8],
-    d: &mut [u64; 360],
-    bytes: &mut [u8; 135168],
+    d: &mut [u64; 448],
+    bytes: &mut [u8; 159744],
 ) -> u64 {
     crate::start(d);
     let mut statements = 0u64;
@@ -24,13 +25,17 @@ pub fn faults(
         statements = statements % 2 | checked(forms, name, text, d, bytes);
         i += 1;
     }
+    ended(d, name, statements);
+    d[crate::FAULTS]
+}
+
+// What can be said of a script only at its end.
+fn ended(d: &mut [u64; 448], name: &[u8], statements: u64) {
     if 0 < d[crate::LOOP] {
-        fault(d, name);
-        page::say(STDOUT_FILENO, b"a repeat has no end before the script's\n");
+        wrong(d, name, 10);
     }
     if statements == 0 {
-        fault(d, name);
-        page::say(STDOUT_FILENO, b"the script has no statement\n");
+        wrong(d, name, 11);
     }
     if 20 < d[crate::FAULTS] {
         page::show(STDOUT_FILENO, name);
@@ -43,7 +48,6 @@ pub fn faults(
             0,
         );
     }
-    d[crate::FAULTS]
 }
 
 // The next line; 1 where it has a statement.
@@ -51,40 +55,44 @@ fn checked(
     forms: &[u8],
     name: &[u8],
     text: &[u8],
-    d: &mut [u64; 360],
-    bytes: &mut [u8; 135168],
+    d: &mut [u64; 448],
+    bytes: &mut [u8; 159744],
 ) -> u64 {
     let end = plan::next_line(d, text);
     let line = word::part(text, d[crate::START] as usize, end);
-    let s = script::read(forms, line, (d[crate::PASS] % 4294967296) as u32, bytes);
-    let is_long = LONGEST < line.len();
-    if is_long | s.is_wrong {
-        if fault(d, name) {
-            if is_long {
-                page::say(
-                    STDOUT_FILENO,
-                    b"the line is too long: at most 4,096 bytes\n",
-                );
-            } else {
-                script::fault::misread(STDOUT_FILENO, forms, line, s);
-            }
-        }
-        plan::past_line(d);
+    let pass = d[crate::PASS];
+    script::read(forms, line, pass, d, bytes);
+    if (LONGEST < line.len()) | (d[IS_WRONG] == 1) {
+        misread(forms, name, line, d);
         return 1;
     }
-    crate::stated(d, s);
     let why = plan::with(d);
+    wrong(d, name, why);
+    plan::past(d);
+    if d[FORM] == script::BLANK { 0 } else { 1 }
+}
+
+// A line that is no statement.
+fn misread(forms: &[u8], name: &[u8], line: &[u8], d: &mut [u64; 448]) {
+    if LONGEST < line.len() {
+        wrong(d, name, 9);
+    } else if counted(d, name) {
+        fault::misread(STDOUT_FILENO, forms, line, d);
+    }
+    plan::past_line(d);
+}
+
+// One more line that cannot be played, for a reason; none where that is 0.
+fn wrong(d: &mut [u64; 448], name: &[u8], why: u64) {
     if 0 < why {
-        if fault(d, name) {
+        if counted(d, name) {
             plan::reason(STDOUT_FILENO, why);
         }
     }
-    plan::past(d);
-    if s.form == script::BLANK { 0 } else { 1 }
 }
 
 // One more line that cannot be played: whether that is said. In a repeat no more passes follow.
-fn fault(d: &mut [u64; 360], name: &[u8]) -> bool {
+fn counted(d: &mut [u64; 448], name: &[u8]) -> bool {
     let n = d[crate::FAULTS] % 1000000000 + 1;
     d[crate::FAULTS] = n;
     d[crate::PASSES] = 0;

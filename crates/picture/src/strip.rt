@@ -4,12 +4,16 @@ use crate::ALL;
 
 pub const WIDTH: usize = 96;
 
-// One column more behind n, from the marks of a round; how many there are then. The strip keeps the mark of the lines, and who pulls.
-pub fn column(strip: &mut [u8; 384], n: usize, marks: &[u8; 22]) -> usize {
+// One column more behind n of a strip that begins at a place, from the marks of a round; how many there are then. The strip keeps the
+// mark of the lines, and who pulls.
+pub fn column(strip: &mut [u8], at: usize, n: usize, marks: &[u8; 22]) -> usize {
+    let place = at % 1048576 + n % 96;
     if n < WIDTH {
-        strip[n] = marks[ALL];
-        strip[WIDTH + n] = holder(marks);
-        return n + 1;
+        if place + WIDTH < strip.len() {
+            strip[place] = marks[ALL];
+            strip[place + WIDTH] = holder(marks);
+            return n + 1;
+        }
     }
     n
 }
@@ -30,11 +34,11 @@ fn holder(marks: &[u8; 22]) -> u8 {
 const LETTERS: [u8; 22] = *b"abcdefghijklmnopC wxyz";
 
 // The picture of the n rounds up to this one.
-pub fn show(out: i32, strip: &[u8; 384], n: usize, last: u64) {
+pub fn show(out: i32, strip: &[u8], at: usize, n: usize, last: u64) {
     let mut page = [b'\n'; 512];
     let start = named(&mut page, 0, b"          rounds ", first(n, last));
     let to = named(&mut page, start, b" to ", last);
-    let end = rows(&mut page, to, strip, n % 97);
+    let end = rows(&mut page, to, strip, at, n % 97);
     crate::sent(out, &page, 0, end % 512 + 1);
 }
 
@@ -52,26 +56,30 @@ fn named(page: &mut [u8], n: usize, words: &[u8], number: u64) -> usize {
     page::decimal(page, at, number)
 }
 
-fn rows(page: &mut [u8], n: usize, strip: &[u8; 384], columns: usize) -> usize {
+fn rows(page: &mut [u8], n: usize, strip: &[u8], first: usize, columns: usize) -> usize {
     let end = 4 * (columns % 97 + 15);
     let mut at = n;
     let mut i = 0;
     while i < end {
-        at = page::letter(page, at, cell(strip, columns, i));
+        at = page::letter(page, at, cell(strip, first, columns, i));
         i += 1;
     }
     at
 }
 
 // Letter i of the four rows, each with its name before it.
-fn cell(strip: &[u8; 384], columns: usize, i: usize) -> u8 {
+fn cell(strip: &[u8], first: usize, columns: usize, i: usize) -> u8 {
     let width = columns % 97 + 15;
     let row = i / width % 4;
     let column = i % width % 111;
     if column < 15 {
         return NAMES[15 * row + column];
     }
-    shown(row, strip[row / 3 * WIDTH + column - 15])
+    let at = first % 1048576 + row / 3 * WIDTH + column - 15;
+    if at < strip.len() {
+        return shown(row, strip[at]);
+    }
+    b' '
 }
 
 const NAMES: [u8; 60] = *b"\n          BAV \n          HSK \n          D   \n          by  ";

@@ -1,118 +1,136 @@
-// The statements of a script, one to a line. A line is read by the forms alone, without any knowledge of a bus; what it comes to is a
-// statement by value, and its bytes stand in lent memory. The forms are a table that is also the page of help.
-pub mod fault;
-pub mod word;
-
-use word::NONE;
+// The statements of a script, one to a line. A line is read by the forms alone, without any knowledge of a bus; what it comes to stands in
+// words that a caller lends, and its bytes in lent memory. The forms are a table that is also the page of help.
 use word::Word;
 
+// Where a statement stands in the lent words.
+pub const VALUES: usize = word::VALUES;
+
+pub const FORM: usize = word::FORM;
+
+pub const BYTES: usize = word::BYTES;
+
+pub const AT: usize = word::AT;
+
+pub const IS_WRONG: usize = word::IS_WRONG;
+
+pub const WORD: usize = word::WORD;
+
+pub const WORD_END: usize = word::WORD_END;
+
+pub const WANT: usize = word::WANT;
+
+pub const WANT_END: usize = word::WANT_END;
+
+// No value.
+pub const NONE: u64 = word::NONE;
+
 // The place of each form in the table.
-pub const CONTROLLER: u32 = 0;
+pub const CONTROLLER: u64 = 0;
 
-pub const UNIT: u32 = 1;
+pub const UNIT: u64 = 1;
 
-pub const STAND_IN: u32 = 2;
+pub const STAND_IN: u64 = 2;
 
-pub const ANSWER: u32 = 3;
+pub const ANSWER: u64 = 3;
 
-pub const SUBMIT: u32 = 4;
+pub const SUBMIT: u64 = 4;
 
-pub const FORCE: u32 = 5;
+pub const FORCE: u64 = 5;
 
-pub const DO: u32 = 6;
+pub const DO: u64 = 6;
 
-pub const EACH: u32 = 7;
+pub const EACH: u64 = 7;
 
-pub const BY_HAND: u32 = 8;
+pub const BY_HAND: u64 = 8;
 
-pub const ACKNOWLEDGE: u32 = 9;
+pub const ACKNOWLEDGE: u64 = 9;
 
-pub const FEED: u32 = 10;
+pub const FEED: u64 = 10;
 
-pub const TAKE: u32 = 11;
+pub const TAKE: u64 = 11;
 
-pub const RAISE: u32 = 12;
+pub const RAISE: u64 = 12;
 
-pub const BUSY: u32 = 13;
+pub const BUSY: u64 = 13;
 
-pub const FREE: u32 = 14;
+pub const FREE: u64 = 14;
 
-pub const HOLD: u32 = 15;
+pub const HOLD: u64 = 15;
 
-pub const RESTART: u32 = 16;
+pub const RESTART: u64 = 16;
 
-pub const ENDED: u32 = 17;
+pub const ENDED: u64 = 17;
 
-pub const QUIET: u32 = 18;
+pub const QUIET: u64 = 18;
 
-pub const UNTIL_FREE: u32 = 19;
+pub const UNTIL_FREE: u64 = 19;
 
-pub const RUN: u32 = 20;
+pub const RUN: u64 = 20;
 
-pub const STEP: u32 = 21;
+pub const STEP: u64 = 21;
 
-pub const REPEAT: u32 = 22;
+pub const REPEAT: u64 = 22;
 
-pub const END: u32 = 23;
+pub const END: u64 = 23;
 
-pub const SHOW_UNITS: u32 = 24;
+pub const SHOW_UNITS: u64 = 24;
 
-pub const SHOW_RING: u32 = 25;
+pub const SHOW_RING: u64 = 25;
 
-pub const SHOW_DATA: u32 = 26;
+pub const SHOW_DATA: u64 = 26;
 
-pub const SHOW_LINES: u32 = 27;
+pub const SHOW_LINES: u64 = 27;
 
-pub const SHOW_FAILURES: u32 = 28;
+pub const SHOW_FAILURES: u64 = 28;
 
-pub const SAY: u32 = 29;
+pub const SAY: u64 = 29;
 
-pub const STATUS: u32 = 30;
+pub const STATUS: u64 = 30;
 
-pub const RECEIVED: u32 = 31;
+pub const RECEIVED: u64 = 31;
 
-pub const TAKEN: u32 = 32;
+pub const TAKEN: u64 = 32;
 
-pub const RING: u32 = 33;
+pub const RING: u64 = 33;
 
-pub const REQUEST: u32 = 34;
+pub const REQUEST: u64 = 34;
 
-pub const REQUESTS: u32 = 35;
+pub const REQUESTS: u64 = 35;
 
-pub const REFUSAL: u32 = 36;
+pub const REFUSAL: u64 = 36;
 
-pub const UNREACHED: u32 = 37;
+pub const UNREACHED: u64 = 37;
 
-pub const TURNS: u32 = 38;
+pub const TURNS: u64 = 38;
 
-pub const WAITED: u32 = 39;
+pub const WAITED: u64 = 39;
 
-pub const QUEUED: u32 = 40;
+pub const QUEUED: u64 = 40;
 
-pub const IS_QUIET: u32 = 41;
+pub const IS_QUIET: u64 = 41;
 
-pub const ROUND: u32 = 42;
+pub const ROUND: u64 = 42;
 
-pub const ROUNDS: u32 = 43;
+pub const ROUNDS: u64 = 43;
 
-pub const LOOKS: u32 = 44;
+pub const LOOKS: u64 = 44;
 
-pub const PHASE: u32 = 45;
+pub const PHASE: u64 = 45;
 
-pub const PULLS: u32 = 46;
+pub const PULLS: u64 = 46;
 
-pub const LINES: u32 = 47;
+pub const LINES: u64 = 47;
 
-pub const BUFFER: u32 = 48;
+pub const BUFFER: u64 = 48;
 
-pub const RESPONSE: u32 = 49;
+pub const RESPONSE: u64 = 49;
 
-pub const HEARD: u32 = 50;
+pub const HEARD: u64 = 50;
 
-pub const STANDS: u32 = 51;
+pub const STANDS: u64 = 51;
 
 // A line without a statement.
-pub const BLANK: u32 = 52;
+pub const BLANK: u64 = word::BLANK;
 
 // The forms, at the front of a page; how many letters they have. A word in capitals is a kind of value, a bar stands between words one
 // of which is meant, and what stands in brackets may be left out.
@@ -177,414 +195,242 @@ expect controller [free] [submitted]
 }
 
 // The value of the second of two words between which a bar stands; a kind before it has the values of a number.
-pub const OTHER: u32 = 257;
+pub const OTHER: u64 = 257;
 
 // The most bytes of a statement.
 pub const MOST: usize = 65536;
 
-pub struct Statement {
-    // Its form, by its place; BLANK for none.
-    pub form: u32,
-    // The values in the order of the form, NONE for what was not given, 1 for a name without a value.
-    pub values: [u32; 16],
-    // How many bytes were read.
-    pub length: usize,
-    // Where the last word ended.
-    pub at: usize,
-    // For a line that is no statement: the word that was read, and the part of the forms that says what was expected.
-    pub is_wrong: bool,
-    pub word: Word,
-    pub want: Word,
-}
+// More bytes than a statement has: a word was misread.
+const TOO_MANY: usize = 131072;
 
-// What the first words of a line and of a form have in common.
-struct Lead {
-    fits: bool,
-    words: u32,
-    // Where the form goes on, and where the last word of the line ended.
-    form: usize,
+// The form of a line: its place, where it goes on behind the words that the line has too, and its end.
+struct Fit {
+    form: u64,
+    from: usize,
+    end: usize,
+    // Without a form, the most words that the line and a form have in common; NONE for a line without a word.
+    words: u64,
+    // Where the last of these words ended in the line.
     at: usize,
 }
 
-// The statement of a line, its bytes at the front of the lent memory. `$` stands for the number of the pass.
-pub fn read(forms: &[u8], line: &[u8], pass: u32, bytes: &mut [u8; 135168]) -> Statement {
-    let first = word::next(line, 0);
-    if first.is_none() {
-        return Statement::new(BLANK, first, 0);
-    }
-    let mut best = Lead {
-        fits: false,
+// What a form asks for: a kind, none for a name without a value, and the place of its value. A named value stands behind its name.
+struct Asked {
+    start: usize,
+    end: usize,
+    place: usize,
+    is_named: bool,
+}
+
+// How far a line was read, and the part of the form that the next word was read by.
+struct Reading {
+    at: usize,
+    start: usize,
+    end: usize,
+    is_wrong: bool,
+    // The first letter of the kind that takes the rest of the line, 0 for none, and how many bytes that came to.
+    rest: u8,
+    length: usize,
+}
+
+// Where the next word of a line and of its form is read, and the place of the value that it has.
+struct Step {
+    at: usize,
+    from: usize,
+    place: usize,
+}
+
+// The statement of a line, in the first words of those that are lent, and its bytes at the front of the lent memory. `$` stands for the
+// number of the pass, NONE outside a repeat.
+pub fn read(forms: &[u8], line: &[u8], pass: u64, d: &mut [u64; 448], bytes: &mut [u8; 159744]) {
+    let fit = fit_of(forms, line);
+    clear(d, fit.words);
+    let form = word::part(forms, 0, fit.end);
+    let values = read_values(form, fit, line, pass, d);
+    let r = read_rest(line, values, pass, bytes);
+    store(d, words_of(fit, r, word::next(line, r.at)));
+}
+
+// The first form that begins as the line does, if none before it has more words in common with the line.
+fn fit_of(forms: &[u8], line: &[u8]) -> Fit {
+    let mut fit = Fit {
+        form: BLANK,
+        from: 0,
+        end: 0,
         words: 0,
-        form: 0,
         at: 0,
     };
+    let first = word::next(line, 0);
+    if first.end <= first.start {
+        fit.words = NONE;
+        return fit;
+    }
     let mut at = 0;
-    let mut k = 0u32;
+    let mut k = 0u64;
     while k < BLANK {
         let end = word::find(forms, at, b'\n');
-        let lead = lead_of(word::part(forms, 0, end), at, line);
-        if lead.fits & (best.words <= lead.words) {
-            let s = Statement::new(k, first, lead.at);
-            return s.values(word::part(forms, 0, end), lead.form, line, pass, bytes);
+        let lead = word::lead_of(word::part(forms, 0, end), at, line);
+        if fit.words <= lead.words {
+            fit.words = lead.words;
+            fit.at = lead.at;
+            if lead.fits {
+                return Fit {
+                    form: k,
+                    from: lead.form,
+                    end,
+                    words: NONE,
+                    at: lead.at,
+                };
+            }
         }
-        best = better(best, lead);
         at = end % 65536 + 1;
         k += 1;
     }
-    no_form(line, best)
+    fit
 }
 
-fn better(a: Lead, b: Lead) -> Lead {
-    if (a.form == 0) | (a.words < b.words) {
-        return b;
+// No value was given; without a form the first has how many words are those of one.
+fn clear(d: &mut [u64; 448], first: u64) {
+    let mut i = 0usize;
+    while i < 16 {
+        d[i] = NONE;
+        i += 1;
     }
-    a
+    d[VALUES] = first;
 }
 
-// No form begins as the line does: the first word that none has.
-fn no_form(line: &[u8], best: Lead) -> Statement {
-    let w = word::next(line, best.at);
-    let mut s = Statement::new(BLANK, w, best.at);
-    s.values[0] = best.words;
-    s.wrong(w, w)
+// What stands behind the values of a statement.
+fn store(d: &mut [u64; 448], words: [u64; 8]) {
+    let mut i = 0usize;
+    while i < 8 {
+        d[FORM + i] = words[i];
+        i += 1;
+    }
 }
 
-// The words of a form up to its first value, which the line must have too. The form begins at a place and ends with the slice.
-fn lead_of(form: &[u8], from: usize, line: &[u8]) -> Lead {
-    let mut lead = Lead {
-        fits: true,
-        words: 0,
-        form: from,
-        at: 0,
+// These words, in their order. A word that was misread is the next one.
+fn words_of(fit: Fit, r: Reading, next: Word) -> [u64; 8] {
+    let is_wrong = r.is_wrong | (fit.words < NONE);
+    let wrong = if is_wrong { 1 } else { 0 };
+    [
+        fit.form,
+        r.length as u64,
+        r.at as u64,
+        wrong,
+        next.start as u64,
+        next.end as u64,
+        r.start as u64,
+        r.end as u64,
+    ]
+}
+
+// Stores the values that a form has, up to a kind that takes the rest of the line. Sixty-four options are read at most.
+fn read_values(form: &[u8], fit: Fit, line: &[u8], pass: u64, d: &mut [u64; 448]) -> Reading {
+    let mut s = Step {
+        at: fit.at,
+        from: fit.from,
+        place: 0,
     };
-    while lead.words < 4 {
-        let f = word::next(form, lead.form);
-        let name = word::letters(form, f);
-        let w = word::next(line, lead.at);
-        if is_name(name) {
-            if word::is(word::letters(line, w), name) {
-                lead.form = f.end;
-                lead.at = w.end;
-                lead.words += 1;
-            } else {
-                lead.fits = false;
-                lead.form = f.start;
-                return lead;
-            }
+    let mut count = 0usize;
+    while count < 64 + s.place % 16 {
+        let w = word::next(line, s.at);
+        let f = word::next(form, s.from);
+        let is_option = word::letter(form, f.start) == b'[';
+        let is_over = w.end <= w.start;
+        if (f.end <= f.start) | is_option & is_over {
+            return read_to(s.at, f.start, f.start, !is_over, 0);
+        }
+        let asked = if is_option {
+            option(form, f.start, s.place, word::letters(line, w))
         } else {
-            return lead;
-        }
-    }
-    lead
-}
-
-// Whether a word of a form stands for itself.
-fn is_name(word: &[u8]) -> bool {
-    let b = word::letter(word, 0);
-    (b'a' <= b) & (b <= b'z') & (word::find(word, 0, b'|') == word.len())
-}
-
-impl Statement {
-    fn new(form: u32, word: Word, at: usize) -> Statement {
-        Statement {
-            form,
-            values: [NONE; 16],
-            length: 0,
-            at,
-            is_wrong: false,
-            word,
-            want: word,
-        }
-    }
-
-    fn wrong(self, word: Word, want: Word) -> Statement {
-        let mut s = self;
-        s.is_wrong = true;
-        s.word = word;
-        s.want = want;
-        s
-    }
-
-    pub fn value(self, i: usize) -> u32 {
-        let values = self.values;
-        values[i % 16]
-    }
-
-    // A value, or a number where it was not given.
-    pub fn value_or(self, i: usize, other: u32) -> u32 {
-        let v = self.value(i);
-        if v == NONE { other } else { v }
-    }
-
-    pub fn has(self, i: usize) -> bool {
-        self.value(i) != NONE
-    }
-
-    // With the values that a form has from a place on.
-    fn values(
-        self,
-        form: &[u8],
-        from: usize,
-        line: &[u8],
-        pass: u32,
-        bytes: &mut [u8; 135168],
-    ) -> Statement {
-        let mut s = self;
-        let mut at = from;
-        let mut k = 0;
-        while k < 16 {
-            let f = word::next(form, at);
-            let b = word::letter(form, f.start);
-            if f.is_none() {
-                return s.ended(line, f);
+            Asked {
+                start: f.start,
+                end: f.end,
+                place: s.place,
+                is_named: false,
             }
-            if b == b'[' {
-                return s.options(form, f.start, k, line, pass, bytes);
-            }
-            s = s.with_value(form, f, k, line, pass, bytes);
-            if s.is_wrong {
-                return s;
-            }
-            at = f.end;
-            k += 1;
-        }
-        s
-    }
-
-    // Nothing more stands on the line, but for the words that are to be said.
-    fn ended(self, line: &[u8], want: Word) -> Statement {
-        let w = word::next(line, self.at);
-        if w.is_none() | (self.form == SAY) {
-            return self;
-        }
-        self.wrong(w, want)
-    }
-
-    // With the value that a word of the form asks for.
-    fn with_value(
-        self,
-        form: &[u8],
-        f: Word,
-        k: usize,
-        line: &[u8],
-        pass: u32,
-        bytes: &mut [u8; 135168],
-    ) -> Statement {
-        let kind = word::letters(form, f);
-        let mut s = self;
-        if word::letter(kind, 1) == b'Y' {
-            if word::letter(kind, 4) == b'S' {
-                s.values[k % 16] = 1;
-                return s.bytes(f, line, pass, bytes);
-            }
-        }
-        if word::letter(kind, 0) == b'E' {
-            return s.entries(f, line, pass, bytes);
-        }
-        if word::letter(kind, 0) == b'W' {
-            return s;
-        }
-        let w = word::next(line, self.at);
-        let v = value_of(kind, word::letters(line, w), pass);
-        if v == NONE {
-            return self.wrong(w, f);
-        }
-        s.values[k % 16] = v;
-        s.at = w.end;
-        s
-    }
-
-    // With what may be left out, in any order.
-    fn options(
-        self,
-        form: &[u8],
-        from: usize,
-        k: usize,
-        line: &[u8],
-        pass: u32,
-        bytes: &mut [u8; 135168],
-    ) -> Statement {
-        let mut s = self;
-        let mut i = 0u32;
-        while i < 64 {
-            let w = word::next(line, s.at);
-            if w.is_none() {
-                return s;
-            }
-            s = s.option(form, from, k, line, w, pass, bytes);
-            if s.is_wrong {
-                return s;
-            }
-            i += 1;
-        }
-        s
-    }
-
-    // With the option that a word names. An option without a name is its value.
-    fn option(
-        self,
-        form: &[u8],
-        from: usize,
-        first: usize,
-        line: &[u8],
-        w: Word,
-        pass: u32,
-        bytes: &mut [u8; 135168],
-    ) -> Statement {
-        let name = word::letters(line, w);
-        let mut s = self;
-        let mut at = from;
-        let mut k = first;
-        while k < 16 {
-            let f = inner(form, word::next(form, at));
-            let close = word::find(form, f.start, b']');
-            let known = word::letters(form, f);
-            let alone = f.end == close;
-            if f.is_none() {
-                break;
-            }
-            if alone & !is_name(known) {
-                return s.with_value(form, f, k, line, pass, bytes);
-            }
-            if word::is(name, known) {
-                s.at = w.end;
-                if alone {
-                    s.values[k] = 1;
-                    return s;
-                }
-                return s.with_value(
-                    form,
-                    inner(form, word::next(form, f.end)),
-                    k,
-                    line,
-                    pass,
-                    bytes,
-                );
-            }
-            at = close % 65536 + 1;
-            k += 1;
-        }
-        self.wrong(
-            w,
-            Word {
-                start: from,
-                end: form.len(),
-            },
-        )
-    }
-
-    // Bytes to the end of the line: in hexadecimal, each perhaps with a star and how often it stands, or a plus and how many count up
-    // from it; or text in quotes.
-    fn bytes(self, f: Word, line: &[u8], pass: u32, bytes: &mut [u8; 135168]) -> Statement {
-        let mut s = self;
-        let mut i = 0;
-        while i < line.len() {
-            let w = word::next(line, s.at);
-            if w.is_none() {
-                break;
-            }
-            s = s.more(f, word::letters(line, w), w, pass, bytes);
-            if s.is_wrong {
-                return s;
-            }
-            i += 1;
-        }
-        if i == 0 {
-            return s.wrong(word::next(line, s.at), f);
-        }
-        s
-    }
-
-    fn more(
-        self,
-        f: Word,
-        letters: &[u8],
-        w: Word,
-        pass: u32,
-        bytes: &mut [u8; 135168],
-    ) -> Statement {
-        let mut s = self;
-        let n = letters.len();
-        let star = word::find(letters, 0, b'*');
-        let plus = word::find(letters, 0, b'+');
-        let sign = if plus < n { plus } else { star };
-        let many = if sign < n {
-            word::decimal(&letters[sign + 1..])
-        } else {
-            1
         };
-        let b = if word::is(letters, b"$") {
-            pass
-        } else {
-            word::byte(word::part(letters, 0, sign))
-        };
-        s.at = w.end;
-        let is_text = word::letter(letters, 0) == b'"';
-        if is_text {
-            s.length = text(bytes, self.length, letters);
-        } else {
-            if (b == NONE) | (65536 < many) {
-                return s.wrong(w, f);
-            }
-            s.length = run(bytes, self.length, b, many, plus < n);
-        }
-        if MOST < s.length {
-            return s.wrong(w, f);
-        }
-        s
-    }
-
-    // The entries of a ring to the end of the line: codes, marked ones with a star. Each comes to two bytes, its code and its mark.
-    fn entries(self, f: Word, line: &[u8], pass: u32, bytes: &mut [u8; 135168]) -> Statement {
-        let mut s = self;
-        let mut i = 0u32;
-        while i < 17 {
-            let w = word::next(line, s.at);
-            if w.is_none() {
-                return s;
-            }
-            let letters = word::letters(line, w);
-            let star = word::find(letters, 0, b'*');
-            let code = value_of(b"CODE", word::part(letters, 0, star), pass);
-            let marked = star < letters.len();
-            if code == NONE {
-                return s.wrong(w, f);
-            }
+        if asked.is_named {
             s.at = w.end;
-            s.length = run(bytes, s.length, code, 1, false);
-            s.length = run(bytes, s.length, if marked { 1 } else { 0 }, 1, false);
-            i += 1;
         }
-        s.wrong(word::next(line, s.at), f)
+        let kind = word::part(form, asked.start, asked.end);
+        let rest = rest_of(kind);
+        let v = word::next(line, s.at);
+        let value = value_of(kind, rest, word::letters(line, v), pass);
+        d[asked.place % 16] = value;
+        if (value == NONE) | (0 < rest) {
+            return read_to(s.at, asked.start, asked.end, rest == 0, rest);
+        }
+        s.at = v.end;
+        if !is_option {
+            s.from = f.end;
+            s.place = s.place % 16 + 1;
+        }
+        count += 1;
     }
+    read_to(s.at, 0, 0, false, 0)
 }
 
-// A word without the brackets around it.
-fn inner(form: &[u8], f: Word) -> Word {
-    let start = if word::letter(form, f.start) == b'[' {
-        f.start % 65536 + 1
-    } else {
-        f.start
-    };
-    let close = word::find(form, start, b']');
-    Word {
+fn read_to(at: usize, start: usize, end: usize, is_wrong: bool, rest: u8) -> Reading {
+    Reading {
+        at,
         start,
-        end: if close < f.end { close } else { f.end },
+        end,
+        is_wrong,
+        rest,
+        length: 0,
     }
 }
 
-// The value of a word by a kind: that of a number, or 256 and the place of the word among those between which bars stand.
-fn value_of(kind: &[u8], w: &[u8], pass: u32) -> u32 {
+// The option that a word names, from a place of the form on. An option without a name is its value. For any other word all of the options.
+fn option(form: &[u8], from: usize, place: usize, name: &[u8]) -> Asked {
+    let mut asked = Asked {
+        start: from,
+        end: from,
+        place,
+        is_named: false,
+    };
+    while asked.place < 16 {
+        let f = word::bare(form, asked.end);
+        asked.end = f.end;
+        if f.end <= f.start {
+            return asked;
+        }
+        if word::letter(form, f.start) < b'a' {
+            asked.start = f.start;
+            return asked;
+        }
+        if word::is(name, word::letters(form, f)) {
+            let value = word::bare(form, f.end);
+            asked.start = value.start;
+            asked.end = value.end;
+            asked.is_named = value.start < value.end;
+            return asked;
+        }
+        asked.end = word::find(form, f.start, b']') % 65536 + 1;
+        asked.place += 1;
+    }
+    asked
+}
+
+// The first letter of a kind that takes the rest of a line, which is a plural in capitals; 0 for any other kind.
+fn rest_of(kind: &[u8]) -> u8 {
+    let first = word::letter(kind, 0);
+    let is_plural = word::find(kind, 0, b'S') < kind.len();
+    if is_plural & (first < b'[') { first } else { 0 }
+}
+
+// The value of a word by a kind: that of a number, or 256 and the place of the word among those between which bars stand. Bytes, and a name
+// without a value, have 1.
+fn value_of(kind: &[u8], rest: u8, w: &[u8], pass: u64) -> u64 {
+    if (kind.len() == 0) | (rest == b'B') {
+        return 1;
+    }
     let mut at = 0;
-    let mut j = 0u32;
+    let mut j = 0u64;
     while j < 8 {
         let end = word::find(kind, at, b'|');
-        let one = word::part(kind, at, end);
-        let v = if is_name(one) {
-            if word::is(w, one) { 256 + j } else { NONE }
-        } else {
-            number(one, w, pass)
-        };
+        let v = number(word::part(kind, at, end), w, pass, 256 + j);
         if v != NONE {
             return v;
         }
@@ -594,46 +440,114 @@ fn value_of(kind: &[u8], w: &[u8], pass: u32) -> u32 {
     NONE
 }
 
-// The number that a word stands for, in the range of its kind.
-fn number(kind: &[u8], w: &[u8], pass: u32) -> u32 {
-    let first = word::letter(kind, 0);
-    if first == b'B' {
-        return word::byte(w);
+// The number that a word stands for, in the range of its kind, or that of a name.
+fn number(kind: &[u8], w: &[u8], pass: u64, named: u64) -> u64 {
+    let most = word::decimal(word::part(kind, 2, kind.len()));
+    match word::letter(kind, 0) {
+        b'B' => word::byte(w),
+        b'C' => if word::letter(kind, 2) == b'M' {
+            word::command(w)
+        } else {
+            within(w, pass, 0, 255)
+        },
+        b'N' => within(w, pass, 0, 999999999),
+        b'0' => within(w, pass, 0, most),
+        b'1' => within(w, pass, 1, most),
+        b'a'..=b'z' => if word::is(w, kind) { named } else { NONE },
+        _ => NONE,
     }
-    if word::letter(kind, 2) == b'M' {
-        return word::command(w);
-    }
-    let n = if word::is(w, b"$") {
-        pass
-    } else {
-        word::decimal(w)
-    };
-    let dash = word::find(kind, 0, b'-');
-    let most = match first {
-        b'C' => 255,
-        b'N' => 999999999,
-        _ => word::decimal(word::part(kind, dash % 65536 + 1, kind.len())),
-    };
-    let least = match first {
-        b'C' => 0,
-        b'N' => 0,
-        _ => word::decimal(word::part(kind, 0, dash)),
-    };
-    if kind.len() == 0 {
-        return NONE;
-    }
+}
+
+// A decimal number, or that of the pass, if it is in a range.
+fn within(w: &[u8], pass: u64, least: u64, most: u64) -> u64 {
+    let n = if is_pass(w) { pass } else { word::decimal(w) };
     if (n < least) | (most < n) { NONE } else { n }
 }
 
+fn is_pass(w: &[u8]) -> bool {
+    word::is(w, b"$")
+}
+
+// With the bytes of the rest of a line: in hexadecimal, each perhaps with a star and how often it stands, or a plus and how many count up
+// from it, or text in quotes; or the entries of a ring. Other words are not read.
+fn read_rest(line: &[u8], from: Reading, pass: u64, bytes: &mut [u8; 159744]) -> Reading {
+    let is_ring = from.rest == b'E';
+    if (from.rest != b'B') & !is_ring {
+        return from;
+    }
+    let mut r = from;
+    let mut i = 0;
+    while i < line.len() {
+        let w = word::next(line, r.at);
+        if w.end <= w.start {
+            break;
+        }
+        let letters = word::letters(line, w);
+        let end = if is_ring {
+            entry(bytes, r.length, letters, pass)
+        } else {
+            piece(bytes, r.length, letters, pass)
+        };
+        if MOST < end {
+            r.is_wrong = true;
+            return r;
+        }
+        r.at = w.end;
+        r.length = end;
+        i += 1;
+    }
+    r.is_wrong = if is_ring { 32 < r.length } else { i == 0 };
+    r
+}
+
+// An entry of a ring behind n bytes: a code, a marked one with a star, comes to two bytes, its code and its mark. More than MOST where the
+// word is none, or seventeen stand before it.
+fn entry(bytes: &mut [u8; 159744], n: usize, letters: &[u8], pass: u64) -> usize {
+    let star = word::find(letters, 0, b'*');
+    let code = within(word::part(letters, 0, star), pass, 0, 255);
+    if (code == NONE) | (32 < n) {
+        return TOO_MANY;
+    }
+    let mark = if star < letters.len() { 1 } else { 0 };
+    let end = run(bytes, n, code, 1, false);
+    run(bytes, end, mark, 1, false)
+}
+
+// The bytes of a word behind n others; how many there are then, more than MOST where the word stands for none.
+fn piece(bytes: &mut [u8; 159744], n: usize, letters: &[u8], pass: u64) -> usize {
+    if word::letter(letters, 0) == b'"' {
+        return text(bytes, n, letters);
+    }
+    let star = word::find(letters, 0, b'*');
+    let plus = word::find(letters, 0, b'+');
+    let sign = if plus < star { plus } else { star };
+    let many = many_of(letters, sign);
+    let b = if is_pass(letters) {
+        pass
+    } else {
+        word::byte(word::part(letters, 0, sign))
+    };
+    if (b == NONE) | (65536 < many) {
+        return TOO_MANY;
+    }
+    run(bytes, n, b, many, plus < star)
+}
+
+// How many bytes the number behind a sign says; 1 without a sign.
+fn many_of(letters: &[u8], sign: usize) -> u64 {
+    if sign < letters.len() {
+        return word::decimal(word::part(letters, sign + 1, letters.len()));
+    }
+    1
+}
+
 // A byte so often behind n others, or so many that count up from it, FA followed by 00; how many there are then.
-fn run(bytes: &mut [u8; 135168], n: usize, first: u32, many: u32, counts: bool) -> usize {
+fn run(bytes: &mut [u8; 159744], n: usize, first: u64, many: u64, counts: bool) -> usize {
     let mut b = first;
     let mut k = n;
-    let mut i = 0u32;
+    let mut i = 0u64;
     while i < many {
-        if k < MOST {
-            bytes[k] = (b % 256) as u8;
-        }
+        bytes[k % 65536] = (b % 256) as u8;
         k = k % 131072 + 1;
         b = if counts { (b % 256 + 1) % 251 } else { b };
         i += 1;
@@ -642,7 +556,7 @@ fn run(bytes: &mut [u8; 135168], n: usize, first: u32, many: u32, counts: bool) 
 }
 
 // The letters between quotes, behind n bytes; too many where no quote closes them.
-fn text(bytes: &mut [u8; 135168], n: usize, letters: &[u8]) -> usize {
+fn text(bytes: &mut [u8; 159744], n: usize, letters: &[u8]) -> usize {
     let mut k = n;
     let mut i = 1;
     while i < letters.len() {
@@ -650,11 +564,9 @@ fn text(bytes: &mut [u8; 135168], n: usize, letters: &[u8]) -> usize {
         if b == b'"' {
             return k;
         }
-        if k < MOST {
-            bytes[k] = b;
-        }
+        bytes[k % 65536] = b;
         k = k % 131072 + 1;
         i += 1;
     }
-    131072
+    TOO_MANY
 }

@@ -19,41 +19,8 @@ returns c = search needs
 loop-holds : tie.Need-loop-holds Inv-loop μ-loop
 loop-holds c = search needs
 
-add-every : tie.Need-add-every Inv-loop μ-loop
-add-every c = search needs
-
-mul-every : tie.Need-mul-every Inv-loop μ-loop
-mul-every c = search needs
-
-element-copy-out-every : tie.Need-element-copy-out-every Inv-loop μ-loop
-element-copy-out-every c = search needs
-
-add-if2 : tie.Need-add-if2 Inv-loop μ-loop
-add-if2 c = search needs
-
-mul-if2 : tie.Need-mul-if2 Inv-loop μ-loop
-mul-if2 c = search needs
-
-element-copy-out-if2 : tie.Need-element-copy-out-if2 Inv-loop μ-loop
-element-copy-out-if2 c = search needs
-
-element-copy-out-if2-2 : tie.Need-element-copy-out-if2-2 Inv-loop μ-loop
-element-copy-out-if2-2 c = search needs
-
-element-copy-out-d : tie.Need-element-copy-out-d Inv-loop μ-loop
-element-copy-out-d c = search needs
-
-add-d : tie.Need-add-d Inv-loop μ-loop
-add-d c = search needs
-
-add-d-2 : tie.Need-add-d-2 Inv-loop μ-loop
-add-d-2 c = search needs
-
-mul-d : tie.Need-mul-d Inv-loop μ-loop
-mul-d c = search needs
-
-element-write-d : tie.Need-element-write-d Inv-loop μ-loop
-element-write-d c = search needs
+is-due-requires : tie.Need-is-due-requires Inv-loop μ-loop
+is-due-requires c κs = search needs
 
 returns-2 : tie.Need-returns-2 Inv-loop μ-loop
 returns-2 c = search needs
@@ -79,18 +46,7 @@ due-host-spec =
     element-copy-out-if1
     returns
     loop-holds
-    add-every
-    mul-every
-    element-copy-out-every
-    add-if2
-    mul-if2
-    element-copy-out-if2
-    element-copy-out-if2-2
-    element-copy-out-d
-    add-d
-    add-d-2
-    mul-d
-    element-write-d
+    is-due-requires
     returns-2
     add-i
     loop-less

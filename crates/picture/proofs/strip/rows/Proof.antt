@@ -7,10 +7,10 @@ use Rattle.picture.proofs.strip.rows.Statement.{statement}
 use Rattle.picture.proofs.strip.rows.Tie as tie
 
 abbrev Inv-loop : tie.InvT-loop
-Inv-loop page₀ n strip columns end at₀ i₀ page at i = length page ≡ length page₀
+Inv-loop page₀ n strip first columns end at₀ i₀ page at i = length page ≡ length page₀
 
 abbrev μ-loop : tie.MeasureT-loop
-μ-loop page₀ n strip columns end at₀ i₀ page at i = end - i
+μ-loop page₀ n strip first columns end at₀ i₀ page at i = end - i
 
 add-end : tie.Need-add-end Inv-loop μ-loop
 add-end c = search needs

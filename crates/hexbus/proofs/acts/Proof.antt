@@ -1,0 +1,54 @@
+-- What is left to go through grows less.
+use borrow.Author.Needs.{needs}
+use Prim.Native.Nat.{_-_}
+use Rattle.hexbus.proofs.acts.Statement.{statement}
+use Rattle.hexbus.proofs.acts.Tie as tie
+
+abbrev Inv-loop : tie.InvT-loop
+Inv-loop forms name text d₀ bytes₀ response₀ memory₀ bus₀ i₀ d bytes response memory bus i = Unit {0}
+
+abbrev μ-loop : tie.MeasureT-loop
+μ-loop forms name text d₀ bytes₀ response₀ memory₀ bus₀ i₀ d bytes response memory bus i = 1000000000000000000 - i
+
+start-requires : tie.Need-start-requires Inv-loop μ-loop
+start-requires c κs = search needs
+
+loop-holds : tie.Need-loop-holds Inv-loop μ-loop
+loop-holds c = search needs
+
+next-requires : tie.Need-next-requires Inv-loop μ-loop
+next-requires c κs = search needs
+
+after-requires : tie.Need-after-requires Inv-loop μ-loop
+after-requires c κs = search needs
+
+add-i : tie.Need-add-i Inv-loop μ-loop
+add-i c = search needs
+
+loop-less : tie.Need-loop-less Inv-loop μ-loop
+loop-less c = search needs
+
+loop-again : tie.Need-loop-again Inv-loop μ-loop
+loop-again c = search needs
+
+returns : tie.Need-returns Inv-loop μ-loop
+returns c = search needs
+
+returns-2 : tie.Need-returns-2 Inv-loop μ-loop
+returns-2 c = search needs
+
+pub acts-spec : {M : Type 1} → statement M
+acts-spec =
+    tie.close
+    (tie.spec
+    Inv-loop
+    μ-loop
+    start-requires
+    loop-holds
+    next-requires
+    after-requires
+    add-i
+    loop-less
+    loop-again
+    returns
+    returns-2)
