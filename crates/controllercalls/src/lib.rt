@@ -122,15 +122,8 @@ fn stepped(c: Controller, d: &[u64; 448], bytes: &[u8], response: &mut [u8]) -> 
     };
     let data = word::part(bytes, start, start % 65537 + (length % 65537) as usize);
     let lent = (desk::value_or(d, 6, d[desk::LENT]) % 65536) as usize;
-    with_lent(c, seen(d), desk::has(d, 4), data, lent, response)
-}
-
-fn seen(d: &[u64; 448]) -> Lines {
-    Lines {
-        bav: desk::has(d, 1),
-        hsk: desk::has(d, 2),
-        nibble: (desk::value_or(d, 3, 15) % 256) as u8,
-    }
+    let seen = stand_in::levels_by_hand(d);
+    with_lent(c, seen, desk::has(d, 4), data, lent, response)
 }
 
 // A step with so much of the response buffer lent, all of it where there is no more.

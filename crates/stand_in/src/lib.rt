@@ -1,5 +1,5 @@
 // Stand-ins for units: each hears commands to its code and answers as a script says, through the listener and the sender that every party
-// has. The state of one is sixteen words of the desk.
+// has. The state of one is sixteen words of the desk. Beside them, the levels that all parties see.
 use desk::ANSWER_BYTES;
 use desk::HEARD_BYTES;
 use desk::STAND_IN;
@@ -85,6 +85,15 @@ pub fn levels(d: &[u64; 448]) -> Lines {
         return line::wired(l, held);
     }
     l
+}
+
+// The levels that the statement of a step by hand names.
+pub fn levels_by_hand(d: &[u64; 448]) -> Lines {
+    Lines {
+        bav: desk::has(d, 1),
+        hsk: desk::has(d, 2),
+        nibble: (desk::value_or(d, 3, 15) % 256) as u8,
+    }
 }
 
 fn lines(bav: u64, hsk: u64, nibble: u64) -> Lines {

@@ -231,11 +231,7 @@ fn refused(u: Unit, d: &mut [u64; 448], number: u64) -> Unit {
 
 fn stepped(u: Unit, d: &[u64; 448], i: usize, memory: &mut [u8; 12288]) -> Stepped {
     let at = 768 * (i % 16);
-    let seen = Lines {
-        bav: desk::has(d, 1),
-        hsk: desk::has(d, 2),
-        nibble: (desk::value_or(d, 3, 15) % 256) as u8,
-    };
+    let seen = stand_in::levels_by_hand(d);
     let mut buffer = load(memory, at);
     let input = load(memory, at + 256);
     let mut output = load(memory, at + 512);
