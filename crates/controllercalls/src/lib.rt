@@ -1,129 +1,193 @@
-// The calls of the application that a script makes, steps of the controller by hand, and looks at it. What came of a call stands on the
-// desk.
-mod submitting;
+// The calls of the application that a script makes, steps of the controller by hand, and looks at it.
 pub mod told;
 
 use application::Acknowledging;
 use application::Making;
+use application::Submitting;
 use controller::Controller;
 use controller::Stepped;
-use desk::COMMAND_BYTES;
-use desk::FOUND;
-use desk::RING_BYTES;
+use frame::Stage;
+use header::Command;
 use line::Lines;
-use play::found;
 use ring::Ring;
-use script::FORM;
-use script::VALUES;
+use statement::COMMAND_BYTES;
+use statement::NONE;
+use statement::Numbers;
+use statement::RING_BYTES;
+use statement::Statement;
+
+// A controller after a call, and the refusal, 0 for none.
+pub struct Acted {
+    pub controller: Controller,
+    pub refusal: u64,
+}
 
 // What the statement says of the controller.
 pub fn act(
     c: Controller,
-    d: &mut [u64; 448],
+    s: Statement,
     bytes: &mut [u8; 159744],
     response: &mut [u8; 65536],
-) -> Controller {
-    match d[FORM] {
-        script::CONTROLLER => make(c, d),
-        script::RESTART => restarted(c, d),
-        script::SUBMIT..=script::DO => submitting::submit(c, d, bytes, response),
-        script::ACKNOWLEDGE => acknowledge(c, d),
-        script::STEP => step(c, d, bytes, response),
-        _ => {
-            let ring = c.ring;
-            entries(ring, d, bytes);
-            look(c, d);
-            c
-        }
+) -> Acted {
+    let form = s.form;
+    match form {
+        statement::CONTROLLER => make(c, statement::or(s.numbers.first, 200)),
+        statement::RESTART => make(c, c.timeout as u64),
+        statement::SUBMIT..=statement::DO => submit(c, s, bytes, response),
+        statement::ACKNOWLEDGE => acknowledge(c, (s.numbers.first % 256) as u8),
+        _ => left(c, 0),
     }
 }
 
-// What is seen of the controller behind a round: whether it may start, and its lines if they are pictured.
-pub fn noted(c: Controller, d: &mut [u64; 448]) {
-    let stage = c.stage;
-    d[desk::IS_FREE] = controller::is_idle(stage) as u64;
-    if play::pictured::is_wanted(d) {
-        play::pictured::mark(d, 16, picture::mark(controller::pulls(c)));
+// It is left as it is.
+fn left(controller: Controller, refusal: u64) -> Acted {
+    Acted {
+        controller,
+        refusal,
     }
 }
 
-// The entries of the ring, noted as two bytes each: its code and its mark.
-pub fn entries(r: Ring, d: &mut [u64; 448], bytes: &mut [u8; 159744]) {
-    let mut i = 0usize;
-    while i < 16 {
-        let e = r.entry(i);
-        bytes[RING_BYTES + 2 * i] = e.code;
-        bytes[RING_BYTES + 2 * i + 1] = e.marked as u8;
-        i += 1;
-    }
-    d[desk::ENTRIES] = 2 * (r.len() as u64 % 17);
-}
-
-// A controller with the time-out of the statement, or the one that there was.
-fn make(c: Controller, d: &mut [u64; 448]) -> Controller {
-    let made = application::make((desk::value_or(d, 0, 200) % 4294967296) as u32);
+// A new controller with a time-out, or the one that there was.
+fn make(c: Controller, timeout: u64) -> Acted {
+    let made = application::make((timeout % 4294967296) as u32);
     let outcome = made.outcome;
     match outcome {
-        Making::New => made.controller,
-        Making::Setting => {
-            desk::refused(d, 5);
-            c
-        }
+        Making::New => left(made.controller, 0),
+        Making::Setting => left(c, 5),
     }
-}
-
-// It is switched off and on: new, with the time-out that it had.
-fn restarted(c: Controller, d: &mut [u64; 448]) -> Controller {
-    let made = application::make(c.timeout as u32);
-    d[desk::SUBMITTED] = 0;
-    made.controller
-}
-
-fn acknowledge(c: Controller, d: &mut [u64; 448]) -> Controller {
-    let code = (d[VALUES] % 256) as u8;
-    acknowledged(c, d, code)
 }
 
 // The application acknowledges the request of a code.
-fn acknowledged(c: Controller, d: &mut [u64; 448], code: u8) -> Controller {
+pub fn acknowledge(c: Controller, code: u8) -> Acted {
     let acknowledged = application::acknowledge(c, code);
     let outcome = acknowledged.outcome;
     match outcome {
-        Acknowledging::Cleared => acknowledged.controller,
-        Acknowledging::NotMarked => {
-            desk::refused(d, 8);
-            c
-        }
+        Acknowledging::Cleared => left(acknowledged.controller, 0),
+        Acknowledging::NotMarked => left(c, 8),
     }
 }
 
-// A step by hand, at the levels of the statement.
-fn step(
+// Submits the command of the statement, or forces it on the controller past the checks of the application. Its bytes are kept for its
+// frame, and the response buffer is filled with EE.
+fn submit(
     c: Controller,
-    d: &mut [u64; 448],
-    bytes: &[u8; 159744],
+    s: Statement,
+    bytes: &mut [u8; 159744],
     response: &mut [u8; 65536],
-) -> Controller {
-    desk::by_hand(d);
-    let before = c.stage;
-    let s = stepped(c, d, bytes, response);
-    let outcome = s.outcome;
-    told::stepped(s.controller, d, before, outcome, response)
+) -> Acted {
+    let front = statement::front(s.numbers) % 4;
+    let length = s.bytes % 65537 + front;
+    let command = command_of(s.numbers, if front == 3 { 4 } else { 0 });
+    let lent = (statement::or(s.numbers.sixth, 65535) % 65536) as usize;
+    let refusal = if s.form == statement::FORCE {
+        forcing(c)
+    } else {
+        submitting(
+            c,
+            command,
+            word::front(bytes, length as usize),
+            word::front(response, lent),
+        )
+    };
+    if 0 < refusal {
+        return left(c, refusal);
+    }
+    keep(s, bytes, front as usize);
+    fill(response);
+    left(waiting(c, command, length), 0)
 }
 
-// With the data of the statement, or of the command if it has none.
-fn stepped(c: Controller, d: &[u64; 448], bytes: &[u8], response: &mut [u8]) -> Stepped {
-    let own = desk::has(d, 7);
-    let start = if own { 0 } else { COMMAND_BYTES };
-    let length = if own {
-        d[script::BYTES]
-    } else {
-        d[desk::LENGTH]
-    };
-    let data = word::part(bytes, start, start % 65537 + (length % 65537) as usize);
-    let lent = (desk::value_or(d, 6, d[desk::LENT]) % 65536) as usize;
-    let seen = stand_in::levels_by_hand(d);
-    with_lent(c, seen, desk::has(d, 4), data, lent, response)
+// The command of a statement, with this buffer length where it gives none.
+fn command_of(n: Numbers, buffer: u64) -> Command {
+    Command {
+        device: (n.first % 256) as u8,
+        command: (n.second % 256) as u8,
+        logical_unit: (statement::or(n.third, 0) % 256) as u8,
+        record_number: (statement::or(n.fourth, 0) % 65536) as u16,
+        buffer_length: (statement::or(n.fifth, buffer) % 65536) as u16,
+    }
+}
+
+// The refusal of a command by the application's checks, 0 for none.
+fn submitting(c: Controller, command: Command, data: &[u8], response: &[u8]) -> u64 {
+    let submitted = application::submit(c, command, data, response);
+    let outcome = submitted.outcome;
+    match outcome {
+        Submitting::Accepted => 0,
+        Submitting::Running => 1,
+        Submitting::TooLong => 2,
+        Submitting::PollCommand => 3,
+        Submitting::FullRing => 4,
+        Submitting::ShortResponse => 11,
+    }
+}
+
+fn forcing(c: Controller) -> u64 {
+    let stage = c.stage;
+    if controller::is_idle(stage) { 0 } else { 1 }
+}
+
+// A controller that waits with a command, as one that has accepted it.
+fn waiting(c: Controller, command: Command, length: u64) -> Controller {
+    let ring = c.ring;
+    Controller {
+        timeout: c.timeout,
+        stage: Stage::Waiting(frame::submitted(command, (length % 65536) as u16)),
+        ring,
+    }
+}
+
+// The data of a command: for an open in words its length and attributes, then the bytes of the statement.
+fn keep(s: Statement, bytes: &mut [u8; 159744], front: usize) {
+    let length = statement::or(s.numbers.twelfth, 0);
+    if 0 < front {
+        bytes[COMMAND_BYTES] = (length % 256) as u8;
+        bytes[COMMAND_BYTES + 1] = (length / 256 % 256) as u8;
+        bytes[COMMAND_BYTES + 2] = (statement::attributes(s.numbers) % 256) as u8;
+    }
+    statement::copy(bytes, COMMAND_BYTES + front % 4, (s.bytes % 65537) as usize);
+}
+
+fn fill(response: &mut [u8; 65536]) {
+    let mut i = 0usize;
+    while i < 65536 {
+        response[i] = 0xEE;
+        i += 1;
+    }
+}
+
+// The data of the command that was submitted last, so many bytes.
+pub fn data(bytes: &[u8], length: u64) -> &[u8] {
+    word::part(
+        bytes,
+        COMMAND_BYTES,
+        COMMAND_BYTES + (length % 65537) as usize,
+    )
+}
+
+// A step by hand, with the data of the statement, or of the command if it has none.
+pub fn step(
+    c: Controller,
+    s: Statement,
+    seen: Lines,
+    length: u64,
+    lent: u64,
+    bytes: &[u8; 159744],
+    response: &mut [u8; 65536],
+) -> Stepped {
+    let busy = s.numbers.fifth != NONE;
+    let most = (statement::or(s.numbers.seventh, lent) % 65536) as usize;
+    if s.numbers.eighth == NONE {
+        return with_lent(c, seen, busy, data(bytes, length), most, response);
+    }
+    with_lent(
+        c,
+        seen,
+        busy,
+        word::front(bytes, s.bytes as usize),
+        most,
+        response,
+    )
 }
 
 // A step with so much of the response buffer lent, all of it where there is no more.
@@ -141,15 +205,31 @@ fn with_lent(
     controller::step(c, seen, busy, data, response)
 }
 
-// What the controller pulls, or all that the application may look at.
-fn look(c: Controller, d: &mut [u64; 448]) {
-    found::nothing(d);
-    if d[FORM] == script::PULLS {
-        d[FOUND] = script::OTHER;
-        found::lines(d, 1, controller::pulls(c));
-        return;
+// The numbers that an expectation finds of the controller: what it pulls, or all that the application may look at.
+pub fn looks(c: Controller, form: u64) -> Numbers {
+    let mut n = Numbers::none();
+    if form == statement::PULLS {
+        let l = controller::pulls(c);
+        n.first = statement::OTHER;
+        n.second = statement::flag(l.bav);
+        n.third = statement::flag(l.hsk);
+        n.fourth = l.nibble as u64;
+        return n;
     }
     let looks = application::look(c);
-    d[FOUND] = found::flag(looks.may_start);
-    d[FOUND + 1] = found::flag(looks.submitted);
+    n.first = statement::flag(looks.may_start);
+    n.second = statement::flag(looks.submitted);
+    n
+}
+
+// The entries of the ring, noted as two bytes each: its code and its mark. How many bytes these are.
+pub fn entries(r: Ring, bytes: &mut [u8; 159744]) -> u64 {
+    let mut i = 0usize;
+    while i < 16 {
+        let e = r.entry(i);
+        bytes[RING_BYTES + 2 * i] = e.code;
+        bytes[RING_BYTES + 2 * i + 1] = e.marked as u8;
+        i += 1;
+    }
+    2 * (r.len() as u64 % 17)
 }

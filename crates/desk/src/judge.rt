@@ -1,51 +1,35 @@
 // Expectations and failures. A failure is said with its script and line, and all of them again at the end.
-use crate::FAILED;
-use crate::FOUND;
-use crate::HELD;
-use crate::LINE;
-use crate::LOG_BYTES;
-use crate::LOGGED;
-use crate::PENDING;
-use crate::PENDING_LINE;
-use crate::PENDING_START;
-use crate::START;
-use crate::STATUS;
+use crate::Desk;
 use crate::UNREACHED;
+use crate::tell;
 use libc::STDOUT_FILENO;
-use script::FORM;
-use script::NONE;
-use script::OTHER;
-use script::VALUES;
+use statement::LOG_BYTES;
+use statement::OTHER;
 
-// An expectation of numbers: those that the statement names, and those that were found.
-pub fn numbers(
-    d: &mut [u64; 448],
-    bytes: &mut [u8; 159744],
-    forms: &[u8],
-    name: &[u8],
-    text: &[u8],
-) {
+// An expectation of numbers: those that the statement names, and those that were found. The words of a failure; 0 letters for none.
+pub fn numbers(d: Desk, forms: &[u8], name: &[u8], text: &[u8], page: &mut [u8; 4096]) -> usize {
     if are_as_found(d) {
-        held(d);
-        return;
+        return 0;
     }
-    let mut page = [0u8; 4096];
-    let at = begun(&mut page, name, text, d[LINE], d[START], b"; found:", 0);
-    let end = fault::statement(&mut page, at, forms, d[FORM], crate::found(d));
-    failed(d, bytes, &mut page, end);
+    let at = begun(page, name, text, d.line, d.start);
+    let end = put(page, at, 2, 0);
+    fault::statement(page, end, forms, d.said.form, d.found)
 }
 
 // What is not named or not found is 0, and a nibble 15.
-fn are_as_found(d: &[u64; 448]) -> bool {
-    let lowest = match d[FORM] {
-        script::PULLS => 3,
-        script::LINES => 2,
+fn are_as_found(d: Desk) -> bool {
+    let named = d.said.numbers;
+    let found = d.found;
+    let form = d.said.form;
+    let lowest = match form {
+        statement::PULLS => 3,
+        statement::LINES => 2,
         _ => 16,
     };
     let mut i = 0usize;
-    while i < 16 {
+    while i < 13 {
         let none = if i == lowest { 15 } else { 0 };
-        if given(d[VALUES + i], none) != given(d[FOUND + i], none) {
+        if statement::or(named.at(i), none) != statement::or(found.at(i), none) {
             return false;
         }
         i += 1;
@@ -53,81 +37,37 @@ fn are_as_found(d: &[u64; 448]) -> bool {
     true
 }
 
-fn given(value: u64, none: u64) -> u64 {
-    if value == NONE { none } else { value }
-}
-
-// An expectation of bytes: those of the statement, and those that were found: n bytes from a place on, or lent memory where that is 0.
+// An expectation of bytes: those of the statement, and those that were found.
 pub fn bytes(
-    d: &mut [u64; 448],
-    bytes: &mut [u8; 159744],
+    d: Desk,
     name: &[u8],
     text: &[u8],
-    at: usize,
-    n: usize,
-    lent: &[u8],
-) {
-    let mut page = [0u8; 4096];
-    let end = if at == 0 {
-        compared(d, bytes, name, text, lent, &mut page)
-    } else {
-        noted(d, bytes, name, text, at, n, &mut page)
-    };
-    if end == 0 {
-        held(d);
-    } else {
-        failed(d, bytes, &mut page, end);
-    }
-}
-
-fn noted(
-    d: &[u64; 448],
-    bytes: &[u8],
-    name: &[u8],
-    text: &[u8],
-    at: usize,
-    n: usize,
-    page: &mut [u8; 4096],
-) -> usize {
-    let found = word::part(bytes, at, at % 159744 + n % 65536);
-    compared(d, bytes, name, text, found, page)
-}
-
-// The words of a failure, 0 letters where there is none.
-fn compared(
-    d: &[u64; 448],
-    bytes: &[u8],
-    name: &[u8],
-    text: &[u8],
+    wanted: &[u8],
     found: &[u8],
     page: &mut [u8; 4096],
 ) -> usize {
-    let form = d[FORM];
-    let is_early = (form == script::RECEIVED) & (d[STATUS] == OTHER);
-    let wanted = word::front(bytes, d[script::BYTES] as usize);
+    let form = d.said.form;
+    let is_early = (form == statement::RECEIVED) & (d.status == OTHER);
     if is_found(form, wanted, found) & !is_early {
         return 0;
     }
-    let end = begun(page, name, text, d[LINE], d[START], b"; found:", 0);
-    put_found(page, end, found, form, is_early)
-}
-
-fn put_found(page: &mut [u8; 4096], n: usize, found: &[u8], form: u64, is_early: bool) -> usize {
+    let at = begun(page, name, text, d.line, d.start);
+    let end = put(page, at, 2, 0);
     if is_early {
-        return page::words(page, n, b" no command has ended");
+        return put(page, end, 5, 0);
     }
     if found.len() == 0 {
-        return page::words(page, n, b" nothing");
+        return put(page, end, 6, 0);
     }
-    if form == script::RING {
-        return crate::tell::entries(page, n, found);
+    if form == statement::RING {
+        return tell::entries(page, end, found);
     }
-    page::put_bytes(page, n, word::front(found, 64))
+    page::put_bytes(page, end, word::front(found, 64))
 }
 
 // Whether the bytes are all that were found; of a buffer that was lent the first, with the rest as it was lent.
 fn is_found(form: u64, wanted: &[u8], found: &[u8]) -> bool {
-    if (form == script::BUFFER) | (form == script::RESPONSE) {
+    if (form == statement::BUFFER) | (form == statement::RESPONSE) {
         return word::is(wanted, word::front(found, wanted.len())) & is_as_lent(found, wanted.len());
     }
     word::is(wanted, found)
@@ -146,89 +86,70 @@ fn is_as_lent(s: &[u8], from: usize) -> bool {
 }
 
 // What the last statement came to must be expected by this one, or it is a failure.
-pub fn settled(d: &mut [u64; 448], bytes: &mut [u8; 159744], name: &[u8], text: &[u8], form: u64) {
-    let what = d[PENDING];
-    if (what == 0) | (form == script::BLANK) {
-        return;
+pub fn settled(d: Desk, name: &[u8], text: &[u8], form: u64, bytes: &mut [u8; 159744]) -> Desk {
+    if (d.pending == 0) | (form == statement::BLANK) {
+        return d;
     }
-    d[PENDING] = 0;
-    let unreached = what == UNREACHED;
-    let expecting = if unreached {
-        script::UNREACHED
+    let mut next = d;
+    next.pending = 0;
+    let is_unreached = d.pending == UNREACHED;
+    let expecting = if is_unreached {
+        statement::UNREACHED
     } else {
-        script::REFUSAL
+        statement::REFUSAL
     };
-    if form != expecting {
-        unexpected(d, bytes, name, text, what, unreached as u64);
+    if form == expecting {
+        return next;
     }
+    let mut page = [0u8; 4096];
+    let at = begun(&mut page, name, text, d.pending_line, d.pending_start);
+    let end = put(&mut page, at, 3 + is_unreached as u64 % 2, d.pending);
+    judged(next, bytes, &mut page, end)
 }
 
-fn unexpected(
-    d: &mut [u64; 448],
-    bytes: &mut [u8; 159744],
-    name: &[u8],
-    text: &[u8],
-    what: u64,
-    which: u64,
-) {
-    let mut page = [0u8; 4096];
+// Script, line and statement of a failure, at the front of a page.
+fn begun(page: &mut [u8], name: &[u8], text: &[u8], line: u64, start: usize) -> usize {
+    let at = put(page, 0, 0, 0);
+    let named = page::shown(page, at, name);
+    let numbered = put(page, named, 1, line);
+    let end = word::find(text, start, b'\n');
+    page::shown(
+        page,
+        numbered,
+        word::front(word::part(text, start, end), 120),
+    )
+}
+
+// Words of a failure, with a number among them, behind n letters of a page.
+pub fn put(page: &mut [u8], n: usize, which: u64, number: u64) -> usize {
     let words = word::piece(
-        b"; refusal #, and the next statement does not expect it|; not reached, and the next statement does not expect it",
+        b"FAILS |:#: |; found:|; refusal #, and the next statement does not expect it|; not reached, and the next statement does not expect it| no command has ended| nothing|: it was not run\n",
         b'|',
         which,
     );
-    let end = begun(
-        &mut page,
-        name,
-        text,
-        d[PENDING_LINE],
-        d[PENDING_START],
-        words,
-        what,
-    );
-    failed(d, bytes, &mut page, end);
+    page::fill(page, n, words, &[number, 0, 0, 0])
 }
 
-// Script, line and statement of a failure, at the front of a page, and words with a number among them behind these.
-fn begun(
-    page: &mut [u8; 4096],
-    name: &[u8],
-    text: &[u8],
-    line: u64,
-    start: u64,
-    words: &[u8],
-    number: u64,
-) -> usize {
-    let numbers = [line, 0, 0, 0];
-    let a = page::words(page, 0, b"FAILS ");
-    let b = page::shown(page, a, name);
-    let c = page::fill(page, b, b":#: ", &numbers);
-    let at = (start % 16777216) as usize;
-    let end = word::find(text, at, b'\n');
-    let k = page::shown(page, c, word::front(word::part(text, at, end), 120));
-    let rest = [number, 0, 0, 0];
-    page::fill(page, k, words, &rest)
-}
-
-fn held(d: &mut [u64; 448]) {
-    d[HELD] = d[HELD] % 1000000000 + 1;
-    page::say(crate::out(d), b"          holds\n");
-}
-
-// A failure is said, and kept for the end while there is room.
-fn failed(d: &mut [u64; 448], bytes: &mut [u8], page: &mut [u8; 4096], end: usize) {
+// An expectation holds if there are no words of a failure. These are said, and kept for the end while there is room.
+pub fn judged(d: Desk, bytes: &mut [u8; 159744], page: &mut [u8; 4096], end: usize) -> Desk {
+    let mut next = d;
+    if end == 0 {
+        next.held = d.held % 1000000000 + 1;
+        tell::say(d, tell::HOLDS, 0, 0, 0);
+        return next;
+    }
     let n = page::letter(page, end, b'\n');
-    d[FAILED] = d[FAILED] % 1000000000 + 1;
+    next.failed = d.failed % 1000000000 + 1;
     page::write(STDOUT_FILENO, page, n);
-    let logged = d[LOGGED];
-    d[LOGGED] = kept(bytes, logged, word::front(page, n));
+    next.logged = kept(bytes, d.logged, word::front(page, n));
+    next
 }
 
 // Words behind so many letters of failures that are kept; how many there are then.
-pub fn kept(bytes: &mut [u8], n: u64, words: &[u8]) -> u64 {
-    let end = page::words(bytes, LOG_BYTES + (n % 16385) as usize, words);
+pub fn kept(bytes: &mut [u8], n: usize, words: &[u8]) -> usize {
+    let end = page::words(bytes, LOG_BYTES + n % 16385, words);
     if LOG_BYTES < end {
-        return (end - LOG_BYTES) as u64;
+        return end - LOG_BYTES;
     }
     n
 }

@@ -1,21 +1,12 @@
 // What the statements of a script so far make of the bus, and whether a statement can stand where it stands.
-use crate::BEGUN;
 use crate::CODES;
-use crate::COUNT;
-use crate::LINE;
-use crate::LOOP;
-use crate::LOOP_LINE;
-use crate::NEXT;
-use crate::PASS;
-use crate::PASSES;
+use crate::Desk;
 use crate::STAND_IN_CODES;
-use crate::STAND_INS;
-use crate::START;
-use script::BYTES;
-use script::FORM;
-use script::NONE;
-use script::OTHER;
-use script::VALUES;
+use statement::NONE;
+use statement::OTHER;
+
+// The most bytes of a stand-in's answer.
+const ANSWER: u64 = 1024;
 
 // What each form needs, a letter for each: c no unit yet, u room for a unit, s room for a stand-in, k a unit with its code, p a unit or
 // the controller, i a stand-in, a an answer for one, b and q that rounds are run, q for a party too, r and e a repeat and its end.
@@ -26,50 +17,49 @@ fn need(form: u64) -> u8 {
     )
 }
 
-// With one statement more; 0, or the number of the reason why it cannot stand here.
-pub fn with(d: &mut [u64; 448]) -> u64 {
-    let what = need(d[FORM]);
+// With one statement more, and why it cannot stand here: the number of the reason, 0 for none.
+pub fn with(d: Desk, rows: &mut [u64; 256]) -> Desk {
+    let what = need(d.said.form);
+    let mut next = d;
     match what {
-        b'b' => begun(d),
-        b'q' => {
-            begun(d);
-            against(d, b'p')
-        }
-        b'u' => unit(d),
-        b's' => stand_in(d),
-        _ => against(d, what),
+        b'u' => return unit(d, rows),
+        b's' => return stand_in(d, rows),
+        b'b' => next.has_begun = true,
+        b'q' => next.has_begun = true,
+        _ => {}
     }
-}
-
-fn begun(d: &mut [u64; 448]) -> u64 {
-    d[BEGUN] = 1;
-    0
+    next.why = against(d, rows, what);
+    next
 }
 
 // What stands against a statement that changes nothing of the plan.
-fn against(d: &[u64; 448], what: u8) -> u64 {
-    let parties = d[COUNT] % 32 + d[STAND_INS] % 32;
-    let is_repeat = 0 < d[LOOP];
+fn against(d: Desk, rows: &[u64; 256], what: u8) -> u64 {
+    let is_first = (d.count == 0) & (d.stand_ins == 0) & !d.has_begun;
+    let is_repeat = 0 < d.loop_start;
     match what {
-        b'c' => unless(parties + d[BEGUN] % 2 == 0, 1),
+        b'c' => unless(is_first, 1),
         b'r' => unless(!is_repeat, 7),
         b'e' => unless(is_repeat, 8),
         b'-' => 0,
-        _ => against_code(d, what),
+        _ => against_code(d, rows, what),
     }
 }
 
 // What stands against a statement with this code.
-fn against_code(d: &[u64; 448], what: u8) -> u64 {
-    let code = d[VALUES];
-    let is_unit = crate::find(d, code) < 16;
-    let is_stand_in = crate::find_stand_in(d, code) < 4;
-    let is_short = d[BYTES] <= crate::ANSWER;
+fn against_code(d: Desk, rows: &[u64; 256], what: u8) -> u64 {
+    let code = d.said.numbers.first;
+    let is_unit = crate::find(d, rows, code) < 16;
+    let is_stand_in = crate::find_stand_in(d, rows, code) < 16;
     match what {
         b'k' => unless(is_unit, 4),
         b'p' => unless(is_unit | (code == OTHER), 4),
+        b'q' => unless(is_unit | (code == OTHER), 4),
         b'i' => unless(is_stand_in, 5),
-        b'a' => if is_stand_in { unless(is_short, 6) } else { 5 },
+        b'a' => if is_stand_in {
+            unless(d.said.bytes <= ANSWER, 6)
+        } else {
+            5
+        },
         _ => 0,
     }
 }
@@ -79,38 +69,42 @@ fn unless(so: bool, reason: u64) -> u64 {
 }
 
 // One more unit. Settings that are refused make none.
-pub fn unit(d: &mut [u64; 448]) -> u64 {
-    let code = d[VALUES];
-    let retry = crate::value_or(d, 1, 20);
-    let n = d[COUNT];
-    let why = room(d[BEGUN], n < 16, crate::find(d, code));
-    if (why == 0) & (0 < code) & (4 <= retry) & (retry <= 65535) {
-        d[CODES + n as usize % 16] = code;
-        d[COUNT] = n % 16 + 1;
+pub fn unit(d: Desk, rows: &mut [u64; 256]) -> Desk {
+    let code = d.said.numbers.first;
+    let retry = statement::or(d.said.numbers.second, 20);
+    let mut next = d;
+    next.why = room(d.has_begun, d.count < 16, crate::find(d, rows, code));
+    if (next.why == 0) & (0 < code) & (4 <= retry) & (retry <= 65535) {
+        rows[CODES + d.count as usize % 16] = code;
+        next.count = d.count % 16 + 1;
     }
-    why
+    next
 }
 
-pub fn stand_in(d: &mut [u64; 448]) -> u64 {
-    let code = d[VALUES];
-    let n = d[STAND_INS];
-    let why = room(d[BEGUN], n < 4, crate::find_stand_in(d, code));
-    if why == 0 {
-        d[STAND_IN_CODES + n as usize % 4] = if code == OTHER { 0 } else { code };
-        d[STAND_INS] = n % 4 + 1;
+pub fn stand_in(d: Desk, rows: &mut [u64; 256]) -> Desk {
+    let code = d.said.numbers.first;
+    let mut next = d;
+    next.why = room(
+        d.has_begun,
+        d.stand_ins < 4,
+        crate::find_stand_in(d, rows, code),
+    );
+    if next.why == 0 {
+        rows[STAND_IN_CODES + d.stand_ins as usize % 4] = if code == OTHER { 0 } else { code };
+        next.stand_ins = d.stand_ins % 4 + 1;
     }
-    why
+    next
 }
 
 // Why there is no place for one party more; 0 where there is. Another party with its code stands at this place, 16 if there is none.
-fn room(begun: u64, is_there: bool, other: usize) -> u64 {
-    if 0 < begun {
+fn room(has_begun: bool, is_there: bool, other: u64) -> u64 {
+    if has_begun {
         return 1;
     }
-    if other < 16 {
-        return if is_there { 3 } else { 2 };
+    if is_there {
+        return unless(16 <= other, 3);
     }
-    unless(is_there, 2)
+    2
 }
 
 // Why a statement cannot stand in its place.
@@ -136,47 +130,49 @@ pub fn reason(out: i32, why: u64) {
     );
 }
 
-// The line that begins where the last one ended: its end. The next one begins behind it.
-pub fn next_line(d: &mut [u64; 448], text: &[u8]) -> usize {
-    let start = d[NEXT];
-    let end = word::find(text, (start % 16777216) as usize, b'\n');
-    d[START] = start;
-    d[NEXT] = end as u64 % 16777216 + 1;
-    end
+// The line that begins where the last one ended. The next one begins behind it.
+pub fn next_line(d: Desk, text: &[u8]) -> Desk {
+    let end = word::find(text, d.next, b'\n');
+    let mut next = d;
+    next.start = d.next;
+    next.end = end;
+    next.next = end % 16777216 + 1;
+    next
 }
 
 // Behind a line.
-pub fn past_line(d: &mut [u64; 448]) {
-    d[LINE] = d[LINE] % 1000000000 + 1;
+pub fn past_line(d: Desk) -> Desk {
+    let mut next = d;
+    next.line = d.line % 1000000000 + 1;
+    next
 }
 
 // Behind a statement: the next line, or at the end of a repeat its first line again.
-pub fn past(d: &mut [u64; 448]) {
-    past_line(d);
-    let form = d[FORM];
-    if form == script::REPEAT {
-        repeated(d);
-    } else if form == script::END {
-        again(d);
+pub fn past(d: Desk) -> Desk {
+    let form = d.said.form;
+    let mut next = past_line(d);
+    if form == statement::REPEAT {
+        next.loop_start = next.next;
+        next.loop_line = next.line;
+        next.passes = d.said.numbers.first;
+        next.pass = statement::or(d.said.numbers.second, 1);
     }
+    if form == statement::END {
+        return again(next);
+    }
+    next
 }
 
-fn repeated(d: &mut [u64; 448]) {
-    d[LOOP] = d[NEXT];
-    d[LOOP_LINE] = d[LINE];
-    d[PASSES] = d[VALUES];
-    d[PASS] = crate::value_or(d, 1, 1);
-}
-
-fn again(d: &mut [u64; 448]) {
-    let left = d[PASSES];
-    if 1 < left {
-        d[PASSES] = left - 1;
-        d[PASS] = d[PASS] % 1000000000 + 1;
-        d[NEXT] = d[LOOP];
-        d[LINE] = d[LOOP_LINE];
+fn again(d: Desk) -> Desk {
+    let mut next = d;
+    if 1 < d.passes {
+        next.passes = d.passes - 1;
+        next.pass = d.pass % 1000000000 + 1;
+        next.next = d.loop_start;
+        next.line = d.loop_line;
     } else {
-        d[LOOP] = 0;
-        d[PASS] = NONE;
+        next.loop_start = 0;
+        next.pass = NONE;
     }
+    next
 }

@@ -1,70 +1,58 @@
 // How the scripts so far have gone.
-use crate::ALL_FAILED;
-use crate::ALL_HELD;
-use crate::FAILED;
-use crate::HELD;
-use crate::IS_BAD;
-use crate::LOG_BYTES;
-use crate::LOGGED;
+use crate::Desk;
 use libc::STDERR_FILENO;
 use libc::STDOUT_FILENO;
+use statement::LOG_BYTES;
 
 // A script that was not run is a failure.
-pub fn not_run(d: &mut [u64; 448], bytes: &mut [u8; 159744], name: &[u8]) {
+pub fn not_run(d: Desk, bytes: &mut [u8; 159744], name: &[u8]) -> Desk {
     let mut page = [0u8; 8192];
-    let a = page::words(&mut page, 0, b"FAILS ");
-    let b = page::shown(&mut page, a, name);
-    let c = page::words(&mut page, b, b": it was not run\n");
-    let logged = d[LOGGED];
-    d[LOGGED] = crate::judge::kept(bytes, logged, word::front(&page, c));
-    d[IS_BAD] = 1;
+    let at = crate::judge::put(&mut page, 0, 0, 0);
+    let named = page::shown(&mut page, at, name);
+    let end = crate::judge::put(&mut page, named, 7, 0);
+    let mut next = d;
+    next.logged = crate::judge::kept(bytes, d.logged, word::front(&page, end));
+    next.is_bad = true;
+    next
 }
 
 // What a script has come to.
-pub fn played(d: &mut [u64; 448], name: &[u8]) {
-    let held = d[HELD];
-    let failed = d[FAILED];
-    let lost = d[crate::DUMP_LOST];
+pub fn played(d: Desk, name: &[u8]) -> Desk {
     page::show(STDOUT_FILENO, name);
     page::tell(
         STDOUT_FILENO,
         b": # rounds; expectations held #, failed #\n\n",
-        d[crate::ROUND],
-        held,
-        failed,
+        d.round,
+        d.held,
+        d.failed,
         0,
     );
-    if 0 < lost {
+    if d.is_dump_lost {
         page::say(
             STDERR_FILENO,
             b"hexbus: the waveform could not be written\n",
         );
     }
-    counted(d, held, failed, (0 < failed) | (0 < lost));
-}
-
-fn counted(d: &mut [u64; 448], held: u64, failed: u64, is_bad: bool) {
-    d[ALL_HELD] = d[ALL_HELD] % 1000000000 + held % 1000000000;
-    d[ALL_FAILED] = d[ALL_FAILED] % 1000000000 + failed % 1000000000;
-    if is_bad {
-        d[IS_BAD] = 1;
-    }
+    let mut next = d;
+    next.all_held = d.all_held % 1000000000 + d.held % 1000000000;
+    next.all_failed = d.all_failed % 1000000000 + d.failed % 1000000000;
+    next.is_bad = d.is_bad | d.is_dump_lost | (0 < d.failed);
+    next
 }
 
 // What all of them have come to: whether they were played whole and every expectation held.
-pub fn all(d: &[u64; 448], bytes: &[u8; 159744], scripts: u64) -> bool {
-    let is_good = d[IS_BAD] == 0;
-    if !is_good {
-        let end = LOG_BYTES + (d[LOGGED] % 16385) as usize;
+pub fn all(d: Desk, bytes: &[u8; 159744], scripts: u64) -> bool {
+    if d.is_bad {
+        let end = LOG_BYTES + d.logged % 16385;
         page::say(STDOUT_FILENO, word::part(bytes, LOG_BYTES, end));
     }
     page::tell(
         STDOUT_FILENO,
         b"scripts #, expectations held #, failed #\n",
         scripts,
-        d[ALL_HELD],
-        d[ALL_FAILED],
+        d.all_held,
+        d.all_failed,
         0,
     );
-    is_good
+    !d.is_bad
 }

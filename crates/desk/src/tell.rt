@@ -1,25 +1,76 @@
-// What is said of calls, of units that ask, and of bytes.
-use crate::AHEAD;
-use crate::CODES;
-use crate::ENTRIES;
-use crate::REFUSAL;
-use crate::RING_BYTES;
-use crate::ROUND;
-use crate::WAITED;
-use crate::WAITING;
-use script::VALUES;
+// What is said of a run.
+use crate::Desk;
+use statement::RING_BYTES;
+use statement::TAKEN_BYTES;
 
-// The last refusal's number and its meaning for the call of a form.
-pub fn refusal(d: &[u64; 448], form: u64) {
-    let number = d[REFUSAL];
-    if number == 0 {
-        return;
-    }
-    page::tell(crate::out(d), b"@refusal #: ", d[ROUND], number, 0, 0);
-    page::say(
-        crate::out(d),
-        word::piece(
-            b"the time-out is 8 to 65,535
+// The words that may be said, by their place.
+pub const HOLDS: u64 = 0;
+
+pub const NOT_REACHED: u64 = 1;
+
+pub const ROUNDS: u64 = 2;
+
+pub const PASS: u64 = 3;
+
+pub const ENDED: u64 = 4;
+
+pub const FRAME: u64 = 5;
+
+pub const LENGTHS: u64 = 6;
+
+pub const POLLED: u64 = 7;
+
+pub const NULLED: u64 = 8;
+
+pub const POLL_ENDED: u64 = 9;
+
+pub const NULL_ENDED: u64 = 10;
+
+pub const HANDED: u64 = 11;
+
+pub const REQUEST: u64 = 12;
+
+pub const PULLS: u64 = 13;
+
+pub const TURNS: u64 = 14;
+
+pub const ROUND: u64 = 15;
+
+pub const END: u64 = 16;
+
+const GIVES: u64 = 17;
+
+const NOTHING: u64 = 18;
+
+const RING: u64 = 19;
+
+const DATA: u64 = 20;
+
+const MORE: u64 = 21;
+
+const REFUSAL: u64 = 22;
+
+// The first of the meanings of a refusal.
+const MEANINGS: u64 = 23;
+
+// Says words with numbers among them. @ stands for the round, # and the other signs (page) for the next of the numbers.
+pub fn say(d: Desk, which: u64, first: u64, second: u64, third: u64) {
+    let list = b"          holds
+|          not reached
+|@# rounds
+|          pass #
+|@ended: $, data bytes #
+|@frame of the application: & to #|, buffer #, data bytes #
+|@turn # of #: it is polled, 0A
+|@turn # of #: null message FE, for its last request is not acknowledged
+|@the poll of # ended: $
+|@the null message ended: $
+|@the request of # is handed over: service frame # since it was raised, units ahead of it then #
+|@# holds a request
+|@# pulls BAV for its request
+| turns #
+|@|
+|@# gives its host| nothing|@ring of #:|          data| ..|@refusal #: |the time-out is 8 to 65,535
 |the own code is 1 to 255, the retry count 4 to 65,535
 |not enabled
 |a nibble level over 15
@@ -33,20 +84,30 @@ pub fn refusal(d: &[u64; 448], form: u64) {
 |not open for input or update
 |the code is not in the ring or not marked
 |the response buffer is under the buffer length
-",
-            b'|',
-            meaning(form, number),
-        ),
-    );
+";
+    let words = word::piece(list, b'|', which);
+    if word::letter(words, 0) == b'@' {
+        page::tell(d.out, words, d.round, first, second, third);
+    } else {
+        page::tell(d.out, words, first, second, third, 0);
+    }
 }
 
-// Which of these a refusal means.
+// The last refusal's number and its meaning for the call of a form.
+pub fn refusal(d: Desk, form: u64) {
+    if 0 < d.refusal {
+        say(d, REFUSAL, d.refusal, 0, 0);
+        say(d, MEANINGS + meaning(form, d.refusal) % 16, 0, 0, 0);
+    }
+}
+
+// Which of the meanings a refusal has.
 fn meaning(form: u64, number: u64) -> u64 {
     match form {
-        script::CONTROLLER => 0,
-        script::UNIT => 1,
-        script::RAISE => 2,
-        script::RUN..=script::STEP => match number {
+        statement::CONTROLLER => 0,
+        statement::UNIT => 1,
+        statement::RAISE => 2,
+        statement::RUN..=statement::STEP => match number {
             5 => 3,
             10 => 4,
             _ => 5,
@@ -56,79 +117,42 @@ fn meaning(form: u64, number: u64) -> u64 {
 }
 
 // Received bytes, the first of them.
-pub fn received(out: i32, s: &[u8]) {
-    page::say(out, b"          data");
-    page::bytes(out, word::front(s, 64));
+pub fn received(d: Desk, s: &[u8]) {
+    say(d, DATA, 0, 0, 0);
+    page::bytes(d.out, word::front(s, 64));
     if 64 < s.len() {
-        page::say(out, b" ..");
+        say(d, MORE, 0, 0, 0);
     }
-    page::say(out, b"\n");
+    say(d, END, 0, 0, 0);
 }
 
 // The bytes that a unit gives its host.
-pub fn given(d: &[u64; 448], s: &[u8]) {
-    let out = crate::out(d);
-    page::tell(out, b"@# gives its host", d[ROUND], d[VALUES], 0, 0);
-    if s.len() == 0 {
-        page::say(out, b" nothing");
+pub fn given(d: Desk, bytes: &[u8]) {
+    say(d, GIVES, d.said.numbers.first, 0, 0);
+    if d.taken == 0 {
+        say(d, NOTHING, 0, 0, 0);
     }
-    page::bytes(out, s);
-    page::say(out, b"\n");
-}
-
-// A unit begins to pull BAV, or holds a request.
-pub fn asks(d: &[u64; 448], place: usize, pulls: u64) {
-    page::tell(
-        crate::out(d),
-        word::piece(
-            b"@# holds a request\n|@# pulls BAV for its request\n",
-            b'|',
-            pulls,
-        ),
-        d[ROUND],
-        d[CODES + place % 16],
-        0,
-        0,
-    );
-}
-
-// A request is waited for from now on, with so many entries of the ring before its unit's.
-pub fn awaited(d: &mut [u64; 448], bytes: &[u8; 159744], place: usize) {
-    let at = place % 16;
-    d[WAITING + at] = 1;
-    d[WAITED + at] = 0;
-    d[AHEAD + at] = ahead(bytes, d[CODES + at]);
-    asks(d, at, 0);
-}
-
-// How many entries of the ring stand before that of a code; 16 where it has none.
-fn ahead(bytes: &[u8; 159744], code: u64) -> u64 {
-    let mut n = 0u64;
-    while n < 16 {
-        if wide(bytes[RING_BYTES + 2 * n as usize]) == code {
-            return n;
-        }
-        n += 1;
-    }
-    16
+    let end = TAKEN_BYTES + (d.taken % 512) as usize;
+    page::bytes(d.out, word::part(bytes, TAKEN_BYTES, end));
+    say(d, END, 0, 0, 0);
 }
 
 // The ring in order, the front first, marked entries with a star.
-pub fn ring(d: &[u64; 448], bytes: &[u8]) {
-    let n = (d[ENTRIES] % 64) as usize;
+pub fn ring(d: Desk, bytes: &[u8]) {
+    let n = d.entries % 64;
     let mut page = [0u8; 4096];
-    page::tell(crate::out(d), b"@ring of #:", d[ROUND], n as u64 / 2, 0, 0);
+    say(d, RING, n / 2, 0, 0);
     put_ring(
-        crate::out(d),
-        word::part(bytes, RING_BYTES, RING_BYTES + n),
+        d,
+        word::part(bytes, RING_BYTES, RING_BYTES + n as usize),
         &mut page,
     );
 }
 
-fn put_ring(out: i32, found: &[u8], page: &mut [u8; 4096]) {
+fn put_ring(d: Desk, found: &[u8], page: &mut [u8; 4096]) {
     let end = entries(page, 0, found);
-    let n = page::letter(page, end, b'\n');
-    page::say(out, word::front(page, n));
+    page::say(d.out, word::front(page, end));
+    say(d, END, 0, 0, 0);
 }
 
 // Entries of a ring, two bytes each: a code and a mark.
@@ -146,6 +170,18 @@ pub fn entries(page: &mut [u8; 4096], n: usize, found: &[u8]) -> usize {
         i += 1;
     }
     at
+}
+
+// How many entries of the ring stand before that of a code; 16 where it has none.
+pub fn ahead(bytes: &[u8; 159744], code: u64) -> u64 {
+    let mut n = 0u64;
+    while n < 16 {
+        if wide(bytes[RING_BYTES + 2 * n as usize]) == code {
+            return n;
+        }
+        n += 1;
+    }
+    16
 }
 
 fn wide(b: u8) -> u64 {

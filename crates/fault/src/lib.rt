@@ -1,5 +1,8 @@
 // What is said of a line that is no statement, and what stands in a statement's place.
-use word::NONE;
+use statement::BLANK;
+use statement::NONE;
+use statement::Numbers;
+use word::Reading;
 use word::Word;
 
 // Where a page and a form go on, and the place of the next value.
@@ -9,22 +12,16 @@ struct Step {
     place: usize,
 }
 
-// The word that was read, and what was expected.
-pub fn misread(out: i32, forms: &[u8], line: &[u8], d: &[u64; 448]) {
-    quote(out, span(line, d, word::WORD));
-    if d[word::FORM] == word::BLANK {
+// The word of a line that was read, and what was expected.
+pub fn misread(out: i32, forms: &[u8], line: &[u8], r: Reading) {
+    quote(out, word::letters(line, r.word));
+    if r.words < NONE {
         say(out, 3);
-        next_words(out, forms, line, d[word::VALUES]);
+        next_words(out, forms, line, r.words);
     } else {
-        expected(out, span(forms, d, word::WANT));
+        expected(out, word::letters(forms, r.want));
     }
     say(out, 4);
-}
-
-// The part of a text whose start and end are two of the words.
-fn span<'a>(text: &'a [u8], d: &[u64; 448], k: usize) -> &'a [u8] {
-    let i = k % 128;
-    word::part(text, d[i] as usize, d[i + 1] as usize)
 }
 
 fn quote(out: i32, w: &[u8]) {
@@ -91,7 +88,7 @@ fn next_words(out: i32, forms: &[u8], line: &[u8], words: u64) {
     let mut last = Word { start: 0, end: 0 };
     let mut at = 0;
     let mut k = 0u64;
-    while k < word::BLANK {
+    while k < BLANK {
         let end = word::find(forms, at, b'\n');
         let lead = word::lead_of(word::part(forms, 0, end), at, line);
         let next = word::next(forms, lead.form);
@@ -113,7 +110,7 @@ pub fn statement(
     n: usize,
     forms: &[u8],
     form: u64,
-    values: &[u64],
+    values: Numbers,
 ) -> usize {
     let row = word::piece(forms, b'\n', form);
     let mut s = Step {
@@ -130,11 +127,7 @@ pub fn statement(
         let name = word::letters(row, f);
         let is_option = word::find(row, s.from, b'[') < f.start;
         let is_fixed = word::is_name(name) & !is_option;
-        let v = if is_fixed {
-            0
-        } else {
-            value_of(values, s.place)
-        };
+        let v = if is_fixed { 0 } else { values.at(s.place) };
         if v != NONE {
             s.at = put(page, s.at, name, v);
         }
@@ -152,13 +145,6 @@ pub fn statement(
         count += 1;
     }
     s.at
-}
-
-fn value_of(values: &[u64], k: usize) -> u64 {
-    if k < values.len() {
-        return values[k];
-    }
-    NONE
 }
 
 // A value as its kind is written, with a space before it. A name is put as it is.

@@ -1,7 +1,11 @@
 // Runs a bus on a desk: a controller and up to sixteen units, played by a script (docs/SCRIPTS.md). A program has no exit status: at its
 // very end it writes `ok` to descriptor 9 if all that it was asked for was done and every expectation held. The launcher reads that.
+mod bench;
+
 use asked::Wanted;
 use asked::files;
+use bench::Bench;
+use desk::Desk;
 use libc::STDOUT_FILENO;
 
 // Where the verdict goes.
@@ -62,26 +66,18 @@ fn run(forms: &[u8]) -> bool {
 
 // The memory for all scripts.
 fn lent(forms: &[u8], w: Wanted, text: &mut [u8; 1048577]) -> bool {
-    let mut d = [0u64; 448];
     let mut bytes = [0u8; 159744];
-    let mut response = [0u8; 65536];
-    scripts(forms, w, text, &mut d, &mut bytes, &mut response)
+    scripts(forms, w, text, &mut bytes)
 }
 
 // Each script in the order of the words; whether all of them were played whole and every expectation held.
-fn scripts(
-    forms: &[u8],
-    w: Wanted,
-    text: &mut [u8; 1048577],
-    d: &mut [u64; 448],
-    bytes: &mut [u8; 159744],
-    response: &mut [u8; 65536],
-) -> bool {
+fn scripts(forms: &[u8], w: Wanted, text: &mut [u8; 1048577], bytes: &mut [u8; 159744]) -> bool {
     let n = os::arg_count();
+    let mut d = desk::start(0, 0, 0, false);
     let mut i = 2usize;
     while i < n {
         if i != w.dump {
-            named(forms, w, i, text, d, bytes, response);
+            d = named(forms, w, i, desk::again(d), text, bytes);
         }
         i += 1;
     }
@@ -93,67 +89,71 @@ fn named(
     forms: &[u8],
     w: Wanted,
     i: usize,
+    d: Desk,
     text: &mut [u8; 1048577],
-    d: &mut [u64; 448],
     bytes: &mut [u8; 159744],
-    response: &mut [u8; 65536],
-) {
+) -> Desk {
     let mut name = [0u8; 4096];
     let n = os::arg(i, &mut name);
     let word = &name[..n];
     if asked::is_option(word) {
-        return;
+        return d;
     }
     let length = files::load(word, text);
-    let is_whole = is_playable(forms, w, word, word::front(text, length), d, bytes);
-    if is_whole {
-        whole(forms, word, word::front(text, length), d, bytes, response);
-        desk::tally::played(d, word);
-    } else {
-        desk::tally::not_run(d, bytes, word);
+    let dump = playable(forms, w, word, word::front(text, length), d, bytes);
+    if dump < 0 {
+        return desk::tally::not_run(d, bytes, word);
     }
+    let mut first = d;
+    first.dump = dump;
+    first.is_pictured = 0 < w.pictured;
+    let last = whole(forms, word, word::front(text, length), first, bytes);
+    desk::tally::played(last, word)
 }
 
-// A script is played only if every line of it can be, and its dump can be written.
-fn is_playable(
+// A script is played only if every line of it can be, and its dump can be written: the descriptor of that, 0 for none; -1 for a script that
+// is not played.
+fn playable(
     forms: &[u8],
     w: Wanted,
     name: &[u8],
     text: &[u8],
-    d: &mut [u64; 448],
+    d: Desk,
     bytes: &mut [u8; 159744],
-) -> bool {
+) -> i32 {
     if text.len() == 0 {
-        return false;
+        return -1;
     }
-    if 0 < desk::reading::faults(forms, name, text, d, bytes) {
+    let mut rows = [0u64; 256];
+    let read = desk::reading::read(forms, name, text, d, &mut rows, bytes);
+    if 0 < read.faults {
         page::show(STDOUT_FILENO, name);
         page::say(STDOUT_FILENO, b": nothing was run\n\n");
-        return false;
+        return -1;
     }
     let dump = files::open_dump(w.dump);
-    if dump < 0 {
-        return false;
+    if 0 <= dump {
+        page::show(STDOUT_FILENO, name);
+        page::say(STDOUT_FILENO, b"\n");
     }
-    page::show(STDOUT_FILENO, name);
-    page::say(STDOUT_FILENO, b"\n");
-    desk::start(d);
-    d[desk::DUMP] = files::number_of(dump);
-    d[desk::PICTURED] = w.pictured;
-    true
+    dump
 }
 
 // Plays a script.
-fn whole(
-    forms: &[u8],
-    name: &[u8],
-    text: &[u8],
-    d: &mut [u64; 448],
-    bytes: &mut [u8; 159744],
-    response: &mut [u8; 65536],
-) {
+fn whole(forms: &[u8], name: &[u8], text: &[u8], first: Desk, bytes: &mut [u8; 159744]) -> Desk {
+    let mut rows = [0u64; 256];
+    let mut response = [0u8; 65536];
     let mut memory = [0xEEu8; 12288];
-    acts(forms, name, text, d, bytes, response, &mut memory);
+    acts(
+        forms,
+        name,
+        text,
+        first,
+        &mut rows,
+        bytes,
+        &mut response,
+        &mut memory,
+    )
 }
 
 // What the bus does, act by act.
@@ -161,21 +161,27 @@ fn acts(
     forms: &[u8],
     name: &[u8],
     text: &[u8],
-    d: &mut [u64; 448],
+    first: Desk,
+    rows: &mut [u64; 256],
     bytes: &mut [u8; 159744],
     response: &mut [u8; 65536],
     memory: &mut [u8; 12288],
-) {
-    let mut bus = bench::start();
+) -> Desk {
+    let mut b = Bench {
+        bus: bench::start(),
+        desk: first,
+    };
     let mut i = 0u64;
     while i < 1000000000000000000 {
-        let act = play::next(forms, name, text, d, bytes, response, memory);
-        if act == desk::THE_END {
+        let d = play::next(forms, name, text, b.desk, rows, bytes, response, memory);
+        b.desk = d;
+        if d.now == desk::THE_END {
             break;
         }
-        if act < desk::NOTHING {
-            bus = bench::after(bus, act, d, bytes, response, memory);
+        if d.now < desk::NOTHING {
+            b = bench::after(b, rows, bytes, response, memory);
         }
         i += 1;
     }
+    b.desk
 }

@@ -1,187 +1,138 @@
-// What an expectation finds: bytes, or numbers in the places of the statement's values.
-use desk::FOUND;
-use desk::HEARD_BYTES;
-use desk::RING_BYTES;
-use desk::TAKEN_BYTES;
+// What an expectation finds: bytes, or numbers in the places of the statement's.
+use desk::Desk;
+use desk::hosts;
 use desk::judge;
-use line::Lines;
-use script::FORM;
-use script::NONE;
-use script::OTHER;
-use script::VALUES;
+use desk::tell;
+use statement::HEARD_BYTES;
+use statement::Numbers;
+use statement::OTHER;
+use statement::RING_BYTES;
+use statement::TAKEN_BYTES;
 
-// An expectation of bytes that are noted, of bytes in a buffer that was lent, or of numbers.
+// An expectation of bytes, or of numbers.
 pub fn expected<'a>(
     forms: &[u8],
     name: &[u8],
     text: &[u8],
-    d: &mut [u64; 448],
+    d: Desk,
+    rows: &[u64; 256],
     bytes: &mut [u8; 159744],
     response: &'a [u8; 65536],
     memory: &'a [u8; 12288],
-) {
-    let form = d[FORM];
-    let at = noted_at(d, form);
-    let n = noted(d, form);
-    if is_of_bytes(form) {
-        judge::bytes(d, bytes, name, text, at, n, lent(d, form, response, memory));
-        return;
-    }
-    number(d, form);
-    judge::numbers(d, bytes, forms, name, text);
+) -> Desk {
+    let mut page = [0u8; 4096];
+    let mut next = d;
+    let end = if is_of_bytes(d.said.form) {
+        of_bytes(d, name, text, rows, bytes, response, memory, &mut page)
+    } else {
+        next.found = numbers(d, rows);
+        judge::numbers(next, forms, name, text, &mut page)
+    };
+    judge::judged(next, bytes, &mut page, end)
 }
 
 fn is_of_bytes(form: u64) -> bool {
     match form {
-        script::RECEIVED..=script::RING => true,
-        script::BUFFER..=script::HEARD => true,
+        statement::RECEIVED..=statement::RING => true,
+        statement::BUFFER..=statement::HEARD => true,
         _ => false,
     }
 }
 
-// Where among the bytes those stand that are noted, 0 for any others; and how many there are.
-fn noted_at(d: &[u64; 448], form: u64) -> usize {
-    match form {
-        script::RING => RING_BYTES,
-        script::TAKEN => TAKEN_BYTES,
-        script::HEARD => HEARD_BYTES + 1024 * (desk::find_stand_in(d, d[VALUES]) % 4),
-        _ => 0,
-    }
-}
-
-fn noted(d: &[u64; 448], form: u64) -> usize {
-    match form {
-        script::RING => (d[desk::ENTRIES] % 64) as usize,
-        script::TAKEN => (d[desk::TAKEN] % 512) as usize,
-        script::HEARD => stand_in::heard(d, desk::find_stand_in(d, d[VALUES])),
-        _ => 0,
-    }
-}
-
-// The data received, the response buffer, or the command buffer of a unit.
-fn lent<'a>(d: &[u64; 448], form: u64, response: &'a [u8], memory: &'a [u8]) -> &'a [u8] {
-    if form == script::BUFFER {
-        let at = 768 * (desk::find(d, d[VALUES]) % 16);
-        return word::part(memory, at, at + 256);
-    }
-    if form == script::RECEIVED {
-        return word::front(response, d[desk::RECEIVED] as usize);
-    }
-    response
-}
-
-// The numbers of the desk and of the lines. Those of a unit or of the controller are found by a look at it.
-fn number(d: &mut [u64; 448], form: u64) {
-    match form {
-        script::QUEUED => {}
-        script::LOOKS..=script::PULLS => {}
-        script::STANDS => {}
-        script::LINES => {
-            let l = stand_in::levels(d);
-            nothing(d);
-            lines(d, 0, l);
-        }
-        script::IS_QUIET => {
-            let holds = is_quiet(d);
-            so(d, holds);
-        }
-        script::UNREACHED => {
-            let holds = d[desk::REACHED] == 0;
-            so(d, holds);
-        }
-        script::TURNS..=script::WAITED => of_unit(d, form),
-        _ => one(d, form),
-    }
-}
-
-// Nothing is found yet.
-pub fn nothing(d: &mut [u64; 448]) {
-    let mut i = 0usize;
-    while i < 16 {
-        d[FOUND + i] = NONE;
-        i += 1;
-    }
-}
-
-// 1 for what is so; what is not so is not found.
-pub fn flag(so: bool) -> u64 {
-    if so { 1 } else { NONE }
-}
-
-// Whether something that has no number is so.
-fn so(d: &mut [u64; 448], holds: bool) {
-    nothing(d);
-    d[FOUND + 15] = flag(!holds);
-}
-
-// Lines that are low or pulled, from a place on.
-pub fn lines(d: &mut [u64; 448], k: usize, l: Lines) {
-    let at = FOUND + k % 2;
-    d[at] = flag(l.bav);
-    d[at + 1] = flag(l.hsk);
-    d[at + 2] = l.nibble as u64;
-}
-
-// How many turns a unit had, or in which service frame its request was handed over.
-fn of_unit(d: &mut [u64; 448], form: u64) {
-    let code = d[VALUES] % 256;
-    let at = desk::find(d, code) % 16;
-    nothing(d);
-    d[FOUND] = code;
-    d[FOUND + 1] = if form == script::TURNS {
-        d[desk::TURNS + at] % 1000000000
-    } else {
-        d[desk::WAITED + at] % 1000000000
+// The data received, the response buffer, the command buffer of a unit, or bytes that are noted: those that were taken, the entries of the
+// ring, those that a stand-in has heard.
+fn of_bytes<'a>(
+    d: Desk,
+    name: &[u8],
+    text: &[u8],
+    rows: &[u64; 256],
+    bytes: &'a [u8],
+    response: &'a [u8],
+    memory: &'a [u8],
+    page: &mut [u8; 4096],
+) -> usize {
+    let code = d.said.numbers.first;
+    let buffer = 768 * (desk::find(d, rows, code) % 16) as usize;
+    let place = desk::find_stand_in(d, rows, code) % 4;
+    let heard = HEARD_BYTES + 1024 * place as usize;
+    let wanted = word::front(bytes, d.said.bytes as usize);
+    let form = d.said.form;
+    let found = match form {
+        statement::RECEIVED => word::front(response, d.received as usize),
+        statement::RESPONSE => response,
+        statement::BUFFER => word::part(memory, buffer, buffer + 256),
+        statement::TAKEN => word::part(bytes, TAKEN_BYTES, TAKEN_BYTES + (d.taken % 512) as usize),
+        statement::RING => word::part(bytes, RING_BYTES, RING_BYTES + (d.entries % 64) as usize),
+        _ => word::part(bytes, heard, heard + stand_in::heard(rows, place) % 2048),
     };
+    judge::bytes(d, name, text, wanted, found, page)
 }
 
-fn one(d: &mut [u64; 448], form: u64) {
-    let place = match form {
-        script::STATUS => desk::STATUS,
-        script::REQUEST => desk::REQUEST,
-        script::REQUESTS => desk::REQUESTS,
-        script::ROUND => desk::ROUND,
-        script::ROUNDS => desk::RAN,
-        _ => desk::REFUSAL,
-    };
-    let n = d[place % 448] % 1000000000;
-    nothing(d);
-    d[FOUND] = if (n == 0) & (place == desk::REFUSAL) {
-        OTHER
-    } else {
-        n
-    };
+// The numbers of the desk and of the lines. Those of a unit or of the controller were found by a look at it.
+fn numbers(d: Desk, rows: &[u64; 256]) -> Numbers {
+    let form = d.said.form;
+    let mut n = Numbers::none();
+    match form {
+        statement::QUEUED => return d.found,
+        statement::LOOKS..=statement::PULLS => return d.found,
+        statement::STANDS => return d.found,
+        statement::LINES => {
+            let l = crate::levels(d, rows);
+            n.first = statement::flag(l.bav);
+            n.second = statement::flag(l.hsk);
+            n.third = l.nibble as u64;
+        }
+        statement::TURNS..=statement::WAITED => {
+            let code = d.said.numbers.first;
+            let h = hosts::at(rows, desk::find(d, rows, code));
+            n.first = code;
+            n.second = if form == statement::TURNS {
+                h.turns
+            } else {
+                h.waited
+            };
+        }
+        _ => n.first = number(d, form, rows),
+    }
+    n
+}
+
+// The one number that an expectation finds; of what has no number, 1 where it is not so.
+fn number(d: Desk, form: u64, rows: &[u64; 256]) -> u64 {
+    match form {
+        statement::STATUS => d.status,
+        statement::REQUEST => d.request,
+        statement::REQUESTS => d.requests,
+        // No script can name a round behind the last of these.
+        statement::ROUND => if d.round < 1000000000 {
+            d.round
+        } else {
+            1000000000
+        },
+        statement::ROUNDS => d.ran,
+        statement::IS_QUIET => statement::flag(!is_quiet(d, rows)),
+        statement::UNREACHED => statement::flag(d.is_reached),
+        _ => if d.refusal == 0 { OTHER } else { d.refusal },
+    }
 }
 
 // Whether no party has anything to do: no line is pulled, no frame or rest runs, nothing is submitted, no unit holds a request.
-pub fn is_quiet(d: &[u64; 448]) -> bool {
-    let l = stand_in::levels(d);
-    let pulled = l.bav | l.hsk | (l.nibble != 15);
-    (d[desk::IS_FREE] == 1) & !pulled & !is_requesting(d)
-}
-
-// Whether any of the units holds a request.
-fn is_requesting(d: &[u64; 448]) -> bool {
-    let mut i = 0usize;
-    while i < 16 {
-        if 0 < d[desk::REQUESTING + i] {
-            return true;
-        }
-        i += 1;
-    }
-    false
+pub fn is_quiet(d: Desk, rows: &[u64; 256]) -> bool {
+    let l = crate::levels(d, rows);
+    let is_pulled = l.bav | l.hsk | (l.nibble != 15);
+    d.is_free & !is_pulled & (d.requesting == 0)
 }
 
 // A unit in the words in which it is expected, and how many turns it had.
-pub fn show_unit(d: &[u64; 448], forms: &[u8], i: u64) {
+pub fn show_unit(d: Desk, forms: &[u8], rows: &[u64; 256], i: u64) {
     let mut page = [0u8; 4096];
-    put_unit(d, forms, (i % 16) as usize, &mut page);
+    let h = hosts::at(rows, i);
+    put_unit(d, forms, h.turns, &mut page);
 }
 
-fn put_unit(d: &[u64; 448], forms: &[u8], i: usize, page: &mut [u8; 4096]) {
-    let out = desk::out(d);
-    let n = fault::statement(page, 0, forms, script::LOOKS, desk::found(d));
-    page::tell(out, b"@", d[desk::ROUND], 0, 0, 0);
-    page::say(out, word::part(page, 8, n));
-    page::tell(out, b" turns #\n", d[desk::TURNS + i % 16], 0, 0, 0);
+fn put_unit(d: Desk, forms: &[u8], turns: u64, page: &mut [u8; 4096]) {
+    let n = fault::statement(page, 0, forms, statement::LOOKS, d.found);
+    tell::say(d, tell::ROUND, 0, 0, 0);
+    page::say(d.out, word::part(page, 8, n));
+    tell::say(d, tell::TURNS, turns, 0, 0);
 }

@@ -1,124 +1,100 @@
 // The lines of a round, dumped and pictured.
-use desk::AFTER;
-use desk::BEFORE;
-use desk::COUNT;
-use desk::DUMP;
-use desk::ROUND;
-use desk::STAND_INS;
-use desk::STRIP_BYTES;
+use desk::CODES;
+use desk::Desk;
+use desk::STAND_IN_CODES;
+use picture::ALL;
 use picture::RELEASED;
+use statement::STRIP_BYTES;
 
 // Whether rounds are dumped or pictured.
-pub fn is_wanted(d: &[u64; 448]) -> bool {
-    (0 < d[DUMP]) | (0 < d[desk::PICTURED])
+pub fn is_wanted(d: Desk) -> bool {
+    (0 < d.dump) | d.is_pictured
 }
 
-// What a party leaves on the lines: units by their place, then the controller, then all together, then stand-ins.
-pub fn mark(d: &mut [u64; 448], i: usize, mark: u8) {
-    d[AFTER + i % 22] = (RELEASED - mark % 64) as u64;
+// Behind a round, or a step by hand: what each party leaves on the lines, units by their place, then the controller. All together and
+// stand-ins are added here.
+pub fn round(d: Desk, marks: [u8; 22], rows: &[u64; 256], bytes: &mut [u8; 159744]) -> Desk {
+    let after = with_stand_ins(d, marks, rows);
+    let before = d.marks;
+    let mut next = d;
+    next.marks = after;
+    if 0 < d.dump {
+        next = dumped(next, rows, &before, &after);
+    }
+    if d.is_pictured {
+        return strip(next, bytes, &after);
+    }
+    next
 }
 
-// Behind a round, or a step by hand, when the marks of the units and of the controller stand on the desk.
-pub fn round(d: &mut [u64; 448], bytes: &mut [u8; 159744]) {
-    let before = marks(d, BEFORE);
-    let all = picture::mark(stand_in::levels(d));
-    mark(d, 17, all);
-    let mut i = 0usize;
+fn with_stand_ins(d: Desk, marks: [u8; 22], rows: &[u64; 256]) -> [u8; 22] {
+    let mut after = marks;
+    after[ALL] = picture::mark(crate::levels(d, rows));
+    let mut i = 0u64;
     while i < 4 {
-        let own = picture::mark(stand_in::pulls(d, i));
-        mark(d, 18 + i, own);
+        after[18 + i as usize] = picture::mark(stand_in::pulls(rows, i));
         i += 1;
     }
-    let after = marks(d, AFTER);
-    kept(d);
-    if 0 < d[DUMP] {
-        dumped(d, &before, &after);
-    }
-    if d[desk::PICTURED] == 1 {
-        strip(d, bytes, &after);
-    }
-}
-
-fn marks(d: &[u64; 448], row: usize) -> [u8; 22] {
-    let mut marks = [RELEASED; 22];
-    let mut i = 0usize;
-    while i < 22 {
-        marks[i] = RELEASED - (d[row % 400 + i] % 64) as u8;
-        i += 1;
-    }
-    marks
-}
-
-// The marks of this round are those of the last one from now on.
-fn kept(d: &mut [u64; 448]) {
-    let mut i = 0usize;
-    while i < 22 {
-        d[BEFORE + i] = d[AFTER + i];
-        i += 1;
-    }
+    after
 }
 
 // The dump of a round; before the first its head, and the lines of a quiet start.
-fn dumped(d: &mut [u64; 448], before: &[u8; 22], after: &[u8; 22]) {
-    if d[ROUND] == 1 {
-        head(d, before);
+fn dumped(d: Desk, rows: &[u64; 256], before: &[u8; 22], after: &[u8; 22]) -> Desk {
+    let mut next = d;
+    if d.round == 1 {
+        next = head(d, rows, before);
     }
     let ok = picture::dump::round(
-        dump(d),
-        d[ROUND],
+        d.dump,
+        d.round,
         before,
         after,
-        (d[COUNT] % 17) as usize,
-        (d[STAND_INS] % 5) as usize,
+        (d.count % 17) as usize,
+        (d.stand_ins % 5) as usize,
     );
-    written(d, ok);
+    next.is_dump_lost = next.is_dump_lost | !ok;
+    next
 }
 
-fn dump(d: &[u64; 448]) -> i32 {
-    (d[DUMP] % 65536) as i32
-}
-
-fn written(d: &mut [u64; 448], ok: bool) {
-    if !ok {
-        d[desk::DUMP_LOST] = 1;
-    }
-}
-
-fn head(d: &mut [u64; 448], marks: &[u8; 22]) {
+fn head(d: Desk, rows: &[u64; 256], marks: &[u8; 22]) -> Desk {
     let mut codes = [0u8; 22];
     let mut i = 0usize;
     while i < 16 {
-        codes[i] = (d[desk::CODES + i] % 256) as u8;
-        codes[18 + i % 4] = (d[desk::STAND_IN_CODES + i % 4] % 256) as u8;
+        codes[i] = (rows[CODES + i] % 256) as u8;
+        codes[18 + i % 4] = (rows[STAND_IN_CODES + i % 4] % 256) as u8;
         i += 1;
     }
     let ok = picture::dump::head(
-        dump(d),
+        d.dump,
         &codes,
-        (d[COUNT] % 17) as usize,
-        (d[STAND_INS] % 5) as usize,
+        (d.count % 17) as usize,
+        (d.stand_ins % 5) as usize,
         marks,
     );
-    written(d, ok);
+    let mut next = d;
+    next.is_dump_lost = d.is_dump_lost | !ok;
+    next
 }
 
 // The end of a dump: its head, where no round was run, and the time after its last round.
-pub fn end(d: &mut [u64; 448]) {
-    if d[DUMP] == 0 {
-        return;
+pub fn end(d: Desk, rows: &[u64; 256]) -> Desk {
+    let mut next = d;
+    if d.dump == 0 {
+        return next;
     }
-    if d[ROUND] == 0 {
+    if d.round == 0 {
         let marks = [RELEASED; 22];
-        head(d, &marks);
+        next = head(d, rows, &marks);
     }
-    let ok = picture::dump::end(dump(d), d[ROUND] % desk::FOR_EVER + 1);
-    written(d, ok);
+    let ok = picture::dump::end(d.dump, d.round % desk::FOR_EVER + 1);
+    next.is_dump_lost = next.is_dump_lost | !ok;
+    next
 }
 
 // A column more on the strip. It is shown when it is full, and in the first round with no line low.
-fn strip(d: &mut [u64; 448], bytes: &mut [u8; 159744], after: &[u8; 22]) {
-    let n = picture::strip::column(bytes, STRIP_BYTES, (d[desk::COLUMNS] % 128) as usize, after);
-    let is_released = after[17] == RELEASED;
+fn strip(d: Desk, bytes: &mut [u8; 159744], after: &[u8; 22]) -> Desk {
+    let n = picture::strip::column(bytes, STRIP_BYTES, d.columns % 128, after);
+    let is_released = after[ALL] == RELEASED;
     let least = if is_released {
         2
     } else {
@@ -126,7 +102,9 @@ fn strip(d: &mut [u64; 448], bytes: &mut [u8; 159744], after: &[u8; 22]) {
     };
     let is_shown = least <= n;
     if is_shown {
-        picture::strip::show(desk::out(d), bytes, STRIP_BYTES, n, d[ROUND]);
+        picture::strip::show(d.out, bytes, STRIP_BYTES, n, d.round);
     }
-    d[desk::COLUMNS] = if is_released | is_shown { 0 } else { n as u64 };
+    let mut next = d;
+    next.columns = if is_released | is_shown { 0 } else { n };
+    next
 }

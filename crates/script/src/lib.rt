@@ -1,136 +1,11 @@
-// The statements of a script, one to a line. A line is read by the forms alone, without any knowledge of a bus; what it comes to stands in
-// words that a caller lends, and its bytes in lent memory. The forms are a table that is also the page of help.
+// The statements of a script, one to a line. A line is read by the forms alone, without any knowledge of a bus; its bytes go to lent memory.
+// The forms are a table that is also the page of help.
+use statement::BLANK;
+use statement::NONE;
+use statement::Numbers;
+use statement::Statement;
+use word::Reading;
 use word::Word;
-
-// Where a statement stands in the lent words.
-pub const VALUES: usize = word::VALUES;
-
-pub const FORM: usize = word::FORM;
-
-pub const BYTES: usize = word::BYTES;
-
-pub const AT: usize = word::AT;
-
-pub const IS_WRONG: usize = word::IS_WRONG;
-
-pub const WORD: usize = word::WORD;
-
-pub const WORD_END: usize = word::WORD_END;
-
-pub const WANT: usize = word::WANT;
-
-pub const WANT_END: usize = word::WANT_END;
-
-// No value.
-pub const NONE: u64 = word::NONE;
-
-// The place of each form in the table.
-pub const CONTROLLER: u64 = 0;
-
-pub const UNIT: u64 = 1;
-
-pub const STAND_IN: u64 = 2;
-
-pub const ANSWER: u64 = 3;
-
-pub const SUBMIT: u64 = 4;
-
-pub const FORCE: u64 = 5;
-
-pub const DO: u64 = 6;
-
-pub const EACH: u64 = 7;
-
-pub const BY_HAND: u64 = 8;
-
-pub const ACKNOWLEDGE: u64 = 9;
-
-pub const FEED: u64 = 10;
-
-pub const TAKE: u64 = 11;
-
-pub const RAISE: u64 = 12;
-
-pub const BUSY: u64 = 13;
-
-pub const FREE: u64 = 14;
-
-pub const HOLD: u64 = 15;
-
-pub const RESTART: u64 = 16;
-
-pub const ENDED: u64 = 17;
-
-pub const QUIET: u64 = 18;
-
-pub const UNTIL_FREE: u64 = 19;
-
-pub const RUN: u64 = 20;
-
-pub const STEP: u64 = 21;
-
-pub const REPEAT: u64 = 22;
-
-pub const END: u64 = 23;
-
-pub const SHOW_UNITS: u64 = 24;
-
-pub const SHOW_RING: u64 = 25;
-
-pub const SHOW_DATA: u64 = 26;
-
-pub const SHOW_LINES: u64 = 27;
-
-pub const SHOW_FAILURES: u64 = 28;
-
-pub const SAY: u64 = 29;
-
-pub const STATUS: u64 = 30;
-
-pub const RECEIVED: u64 = 31;
-
-pub const TAKEN: u64 = 32;
-
-pub const RING: u64 = 33;
-
-pub const REQUEST: u64 = 34;
-
-pub const REQUESTS: u64 = 35;
-
-pub const REFUSAL: u64 = 36;
-
-pub const UNREACHED: u64 = 37;
-
-pub const TURNS: u64 = 38;
-
-pub const WAITED: u64 = 39;
-
-pub const QUEUED: u64 = 40;
-
-pub const IS_QUIET: u64 = 41;
-
-pub const ROUND: u64 = 42;
-
-pub const ROUNDS: u64 = 43;
-
-pub const LOOKS: u64 = 44;
-
-pub const PHASE: u64 = 45;
-
-pub const PULLS: u64 = 46;
-
-pub const LINES: u64 = 47;
-
-pub const BUFFER: u64 = 48;
-
-pub const RESPONSE: u64 = 49;
-
-pub const HEARD: u64 = 50;
-
-pub const STANDS: u64 = 51;
-
-// A line without a statement.
-pub const BLANK: u64 = word::BLANK;
 
 // The forms, at the front of a page; how many letters they have. A word in capitals is a kind of value, a bar stands between words one
 // of which is meant, and what stands in brackets may be left out.
@@ -194,9 +69,6 @@ expect controller [free] [submitted]
     )
 }
 
-// The value of the second of two words between which a bar stands; a kind before it has the values of a number.
-pub const OTHER: u64 = 257;
-
 // The most bytes of a statement.
 pub const MOST: usize = 65536;
 
@@ -222,33 +94,49 @@ struct Asked {
     is_named: bool,
 }
 
-// How far a line was read, and the part of the form that the next word was read by.
-struct Reading {
+// What was read of a line: how far, up to which place of its form, and the place of the next value.
+struct Values {
     at: usize,
-    start: usize,
-    end: usize,
+    from: usize,
+    place: usize,
+    numbers: Numbers,
+    // Whether that was the end; the part of the form that the next word was read by, and whether that word is wrong.
+    is_over: bool,
+    want: Word,
     is_wrong: bool,
     // The first letter of the kind that takes the rest of the line, 0 for none, and how many bytes that came to.
     rest: u8,
     length: usize,
 }
 
-// Where the next word of a line and of its form is read, and the place of the value that it has.
-struct Step {
-    at: usize,
-    from: usize,
-    place: usize,
+// The statement of a line, and how it was read.
+pub struct Line {
+    pub statement: Statement,
+    pub reading: Reading,
 }
 
-// The statement of a line, in the first words of those that are lent, and its bytes at the front of the lent memory. `$` stands for the
-// number of the pass, NONE outside a repeat.
-pub fn read(forms: &[u8], line: &[u8], pass: u64, d: &mut [u64; 448], bytes: &mut [u8; 159744]) {
+// Reads a line. Its bytes go to the front of the lent memory. `$` stands for the number of the pass, NONE outside a repeat.
+pub fn read(forms: &[u8], line: &[u8], pass: u64, bytes: &mut [u8; 159744]) -> Line {
     let fit = fit_of(forms, line);
-    clear(d, fit.words);
     let form = word::part(forms, 0, fit.end);
-    let values = read_values(form, fit, line, pass, d);
-    let r = read_rest(line, values, pass, bytes);
-    store(d, words_of(fit, r, word::next(line, r.at)));
+    let values = read_values(form, fit, line, pass);
+    let v = read_rest(line, values, pass, bytes);
+    let numbers = v.numbers;
+    let want = v.want;
+    Line {
+        statement: Statement {
+            form: fit.form,
+            numbers,
+            bytes: v.length as u64,
+        },
+        reading: Reading {
+            at: v.at,
+            is_wrong: v.is_wrong | (fit.words < NONE),
+            word: word::next(line, v.at),
+            want,
+            words: fit.words,
+        },
+    }
 }
 
 // The first form that begins as the line does, if none before it has more words in common with the line.
@@ -289,97 +177,78 @@ fn fit_of(forms: &[u8], line: &[u8]) -> Fit {
     fit
 }
 
-// No value was given; without a form the first has how many words are those of one.
-fn clear(d: &mut [u64; 448], first: u64) {
-    let mut i = 0usize;
-    while i < 16 {
-        d[i] = NONE;
-        i += 1;
-    }
-    d[VALUES] = first;
-}
-
-// What stands behind the values of a statement.
-fn store(d: &mut [u64; 448], words: [u64; 8]) {
-    let mut i = 0usize;
-    while i < 8 {
-        d[FORM + i] = words[i];
-        i += 1;
-    }
-}
-
-// These words, in their order. A word that was misread is the next one.
-fn words_of(fit: Fit, r: Reading, next: Word) -> [u64; 8] {
-    let is_wrong = r.is_wrong | (fit.words < NONE);
-    let wrong = if is_wrong { 1 } else { 0 };
-    [
-        fit.form,
-        r.length as u64,
-        r.at as u64,
-        wrong,
-        next.start as u64,
-        next.end as u64,
-        r.start as u64,
-        r.end as u64,
-    ]
-}
-
-// Stores the values that a form has, up to a kind that takes the rest of the line. Sixty-four options are read at most.
-fn read_values(form: &[u8], fit: Fit, line: &[u8], pass: u64, d: &mut [u64; 448]) -> Reading {
-    let mut s = Step {
+// The values that a form has, up to a kind that takes the rest of the line. Eighty are read at most.
+fn read_values(form: &[u8], fit: Fit, line: &[u8], pass: u64) -> Values {
+    let mut v = Values {
         at: fit.at,
         from: fit.from,
         place: 0,
+        numbers: Numbers::none(),
+        is_over: false,
+        want: Word { start: 0, end: 0 },
+        is_wrong: true,
+        rest: 0,
+        length: 0,
     };
     let mut count = 0usize;
-    while count < 64 + s.place % 16 {
-        let w = word::next(line, s.at);
-        let f = word::next(form, s.from);
-        let is_option = word::letter(form, f.start) == b'[';
-        let is_over = w.end <= w.start;
-        if (f.end <= f.start) | is_option & is_over {
-            return read_to(s.at, f.start, f.start, !is_over, 0);
-        }
-        let asked = if is_option {
-            option(form, f.start, s.place, word::letters(line, w))
-        } else {
-            Asked {
-                start: f.start,
-                end: f.end,
-                place: s.place,
-                is_named: false,
-            }
-        };
-        if asked.is_named {
-            s.at = w.end;
-        }
-        let kind = word::part(form, asked.start, asked.end);
-        let rest = rest_of(kind);
-        let v = word::next(line, s.at);
-        let value = value_of(kind, rest, word::letters(line, v), pass);
-        d[asked.place % 16] = value;
-        if (value == NONE) | (0 < rest) {
-            return read_to(s.at, asked.start, asked.end, rest == 0, rest);
-        }
-        s.at = v.end;
-        if !is_option {
-            s.from = f.end;
-            s.place = s.place % 16 + 1;
+    while count < 80 {
+        v = read_value(form, line, pass, v);
+        if v.is_over {
+            break;
         }
         count += 1;
     }
-    read_to(s.at, 0, 0, false, 0)
+    v
 }
 
-fn read_to(at: usize, start: usize, end: usize, is_wrong: bool, rest: u8) -> Reading {
-    Reading {
-        at,
-        start,
-        end,
-        is_wrong,
-        rest,
-        length: 0,
+// One value more, or the end.
+fn read_value(form: &[u8], line: &[u8], pass: u64, from: Values) -> Values {
+    let w = word::next(line, from.at);
+    let f = word::next(form, from.from);
+    let is_option = word::letter(form, f.start) == b'[';
+    let is_over = w.end <= w.start;
+    if (f.end <= f.start) | is_option & is_over {
+        return ended(from, f.start, f.start, !is_over, 0);
     }
+    let asked = if is_option {
+        option(form, f.start, from.place, word::letters(line, w))
+    } else {
+        Asked {
+            start: f.start,
+            end: f.end,
+            place: from.place,
+            is_named: false,
+        }
+    };
+    let mut v = from;
+    if asked.is_named {
+        v.at = w.end;
+    }
+    let kind = word::part(form, asked.start, asked.end);
+    let rest = rest_of(kind);
+    let next = word::next(line, v.at);
+    let value = value_of(kind, rest, word::letters(line, next), pass);
+    let numbers = v.numbers;
+    v.numbers = numbers.with(asked.place, value);
+    if (value == NONE) | (0 < rest) {
+        return ended(v, asked.start, asked.end, rest == 0, rest);
+    }
+    v.at = next.end;
+    if !is_option {
+        v.from = f.end;
+        v.place = from.place % 16 + 1;
+    }
+    v
+}
+
+fn ended(from: Values, start: usize, end: usize, is_wrong: bool, rest: u8) -> Values {
+    let want = Word { start, end };
+    let mut v = from;
+    v.is_over = true;
+    v.want = want;
+    v.is_wrong = is_wrong;
+    v.rest = rest;
+    v
 }
 
 // The option that a word names, from a place of the form on. An option without a name is its value. For any other word all of the options.
@@ -470,7 +339,7 @@ fn is_pass(w: &[u8]) -> bool {
 
 // With the bytes of the rest of a line: in hexadecimal, each perhaps with a star and how often it stands, or a plus and how many count up
 // from it, or text in quotes; or the entries of a ring. Other words are not read.
-fn read_rest(line: &[u8], from: Reading, pass: u64, bytes: &mut [u8; 159744]) -> Reading {
+fn read_rest(line: &[u8], from: Values, pass: u64, bytes: &mut [u8; 159744]) -> Values {
     let is_ring = from.rest == b'E';
     if (from.rest != b'B') & !is_ring {
         return from;

@@ -1,60 +1,63 @@
-// The calls of a unit's host that a script makes, steps of a unit by hand, and looks at it. What came of a call stands on the desk.
-mod look;
-
-use desk::TAKEN_BYTES;
-use desk::tell;
+// The calls of a unit's host that a script makes, steps of a unit by hand, and looks at it.
 use host::Fed;
 use host::Made;
 use host::Raised;
 use host::Taken;
 use line::Lines;
-use script::FORM;
-use script::VALUES;
+use phase::Phase;
+use serial::Mode;
+use serial::Opening;
+use statement::NEW;
+use statement::NONE;
+use statement::Numbers;
+use statement::Statement;
+use statement::TAKEN_BYTES;
 use unit::Stepped;
 use unit::Unit;
 
-// What the statement says of the unit at a place. In a run its host raises a request by itself.
+// A unit after an act, and the number that this came to: the refusal, 0 for none; how many bytes were taken; NEW for a request that it did
+// not hold before.
+pub struct Acted {
+    pub unit: Unit,
+    pub number: u64,
+}
+
+// What the statement says of the unit at a place, at the levels that it names. In a run its host raises a request by itself.
 pub fn act(
     u: Unit,
-    d: &mut [u64; 448],
-    i: usize,
+    s: Statement,
+    i: u64,
+    seen: Lines,
     bytes: &mut [u8; 159744],
     memory: &mut [u8; 12288],
-) -> Unit {
-    match d[FORM] {
-        script::FEED => feed(u, d, i, bytes, memory),
-        script::TAKE => take(u, d, i, bytes, memory),
-        script::RAISE => raise(u, d, i, bytes),
-        script::RESTART => restarted(u, i, memory),
-        script::STEP => step(u, d, i, memory),
-        script::DO => raised(u, d, i, bytes),
-        script::ENDED..=script::RUN => raised(u, d, i, bytes),
-        _ => {
-            look::at(u, d);
-            u
-        }
+) -> Acted {
+    let at = 768 * (i % 16) as usize;
+    let form = s.form;
+    match form {
+        statement::FEED => feed(u, (s.bytes % 65537) as usize, at, bytes, memory),
+        statement::TAKE => take(u, s.numbers.second, at, bytes, memory),
+        statement::RAISE => if s.numbers.second == NONE {
+            raise(u)
+        } else {
+            left(u)
+        },
+        statement::RESTART => restart(u, at, memory),
+        statement::STEP => step(u, s.numbers, at, seen, memory),
+        statement::DO => raise(u),
+        statement::ENDED..=statement::RUN => raise(u),
+        _ => left(u),
     }
 }
 
-// What is seen of the unit at a place behind a round: whether it asks and holds a request, and its lines if they are pictured.
-pub fn noted(u: Unit, d: &mut [u64; 448], i: usize) {
-    let s = u.serial;
-    let asks = u.asking as u64;
-    let asked = d[desk::ASKING + i % 16];
-    d[desk::ASKING + i % 16] = asks;
-    d[desk::REQUESTING + i % 16] = s.requesting as u64;
-    if asked < asks {
-        tell::asks(d, i, 1);
-    }
-    if play::pictured::is_wanted(d) {
-        play::pictured::mark(d, i % 16, picture::mark(unit::pulls(u)));
-    }
+// It is left as it is.
+fn left(unit: Unit) -> Acted {
+    Acted { unit, number: 0 }
 }
 
 // The unit of the statement, if its settings are in range.
-pub fn make(d: &[u64; 448]) -> Made {
-    let retry = desk::value_or(d, 1, 20) % 4294967296;
-    host::make((d[VALUES] % 256) as u8, retry as u32)
+pub fn make(n: Numbers) -> Made {
+    let retry = statement::or(n.second, 20) % 4294967296;
+    host::make((n.first % 256) as u8, retry as u32)
 }
 
 // The 256 bytes of a unit's memory from a place on, and back.
@@ -76,176 +79,105 @@ fn store(memory: &mut [u8; 12288], at: usize, part: &[u8; 256]) {
     }
 }
 
-// A unit after a byte was fed, and the refusal, 0 for none.
-struct Given {
-    unit: Unit,
-    refusal: u64,
+// The host feeds the first bytes, until one is refused.
+fn feed(u: Unit, n: usize, at: usize, bytes: &[u8; 159744], memory: &mut [u8; 12288]) -> Acted {
+    let mut input = load(memory, at % 12033 + 256);
+    let fed = all_fed(u, &mut input, bytes, n);
+    store(memory, at % 12033 + 256, &input);
+    fed
 }
 
-// The host feeds the bytes of the statement, until one is refused.
-fn feed(
-    u: Unit,
-    d: &mut [u64; 448],
-    i: usize,
-    bytes: &[u8; 159744],
-    memory: &mut [u8; 12288],
-) -> Unit {
-    let at = 768 * (i % 16) + 256;
-    let n = (d[script::BYTES] % 65537) as usize;
-    let mut input = load(memory, at);
-    let given = all_fed(u, &mut input, bytes, n);
-    store(memory, at, &input);
-    desk::refused(d, given.refusal);
-    given.unit
-}
-
-fn all_fed(u: Unit, input: &mut [u8; 256], bytes: &[u8; 159744], n: usize) -> Given {
-    let mut given = Given {
-        unit: u,
-        refusal: 0,
-    };
+fn all_fed(u: Unit, input: &mut [u8; 256], bytes: &[u8; 159744], n: usize) -> Acted {
+    let mut a = left(u);
     let mut k = 0usize;
     while k < n {
-        given = fed(given, input, bytes[k % 65536]);
+        a = fed(a, input, bytes[k % 65536]);
         k += 1;
     }
-    given
+    a
 }
 
 // One byte, if none was refused.
-fn fed(g: Given, input: &mut [u8; 256], byte: u8) -> Given {
-    let u = g.unit;
-    if 0 < g.refusal {
-        return g;
+fn fed(a: Acted, input: &mut [u8; 256], byte: u8) -> Acted {
+    let unit = a.unit;
+    if 0 < a.number {
+        return a;
     }
-    match host::feed(u, input, byte) {
-        Fed::Queued(v) => Given {
-            unit: v,
-            refusal: 0,
-        },
-        Fed::Full => Given {
-            unit: u,
-            refusal: 6,
-        },
-        Fed::NotOpen => Given {
-            unit: u,
-            refusal: 7,
-        },
+    match host::feed(unit, input, byte) {
+        Fed::Queued(v) => left(v),
+        Fed::Full => Acted { unit, number: 6 },
+        Fed::NotOpen => Acted { unit, number: 7 },
     }
 }
 
 // It takes up to so many bytes, which are noted.
-fn take(
-    first: Unit,
-    d: &mut [u64; 448],
-    i: usize,
-    bytes: &mut [u8; 159744],
-    memory: &[u8; 12288],
-) -> Unit {
-    let output = load(memory, 768 * (i % 16) + 512);
-    let most = desk::value_or(d, 1, 256);
-    let mut u = first;
-    let mut n = 0u64;
-    while n < 256 {
-        if most <= n {
+fn take(u: Unit, most: u64, at: usize, bytes: &mut [u8; 159744], memory: &[u8; 12288]) -> Acted {
+    let output = load(memory, at % 12033 + 512);
+    let mut a = left(u);
+    while a.number < 256 {
+        if most <= a.number {
             break;
         }
-        match host::take(u, &output) {
+        match host::take(a.unit, &output) {
             Taken::Byte(byte, v) => {
-                bytes[TAKEN_BYTES + n as usize] = byte;
-                u = v;
+                bytes[TAKEN_BYTES + a.number as usize] = byte;
+                a.unit = v;
             }
             Taken::Nothing => break,
         }
-        n += 1;
+        a.number += 1;
     }
-    d[desk::TAKEN] = n;
-    u
+    a
 }
 
-// It raises a request, or from now on one every so many rounds.
-fn raise(u: Unit, d: &mut [u64; 448], i: usize, bytes: &[u8; 159744]) -> Unit {
-    if desk::has(d, 1) {
-        d[desk::EVERY + i % 16] = d[VALUES + 1];
-        d[desk::DUE + i % 16] = d[desk::ROUND];
-        d[desk::RAISING_HOSTS] = 1;
-        return u;
-    }
-    requested(u, d, i, bytes)
-}
-
-// It raises a request by itself. A refusal before it in the same run stands.
-fn raised(u: Unit, d: &mut [u64; 448], i: usize, bytes: &[u8; 159744]) -> Unit {
-    let refusal = d[desk::REFUSAL];
-    d[desk::REFUSAL] = 0;
-    let next = requested(u, d, i, bytes);
-    tell::refusal(d, script::RAISE);
-    if d[desk::REFUSAL] == 0 {
-        d[desk::REFUSAL] = refusal;
-    }
-    next
-}
-
-// Raising again changes nothing.
-fn requested(u: Unit, d: &mut [u64; 448], i: usize, bytes: &[u8; 159744]) -> Unit {
+// It raises a request. Raising again changes nothing.
+fn raise(u: Unit) -> Acted {
     let s = u.serial;
+    let number = if s.requesting { 0 } else { NEW };
     match host::raise(u) {
-        Raised::Held(v) => {
-            if !s.requesting {
-                tell::awaited(d, bytes, i);
-            }
-            v
-        }
-        Raised::NotEnabled => {
-            desk::refused(d, 7);
-            u
-        }
+        Raised::Held(v) => Acted { unit: v, number },
+        Raised::NotEnabled => Acted { unit: u, number: 7 },
     }
 }
 
 // It is switched off and on: new, with the settings that it had, its command buffer EE.
-fn restarted(u: Unit, i: usize, memory: &mut [u8; 12288]) -> Unit {
+fn restart(u: Unit, at: usize, memory: &mut [u8; 12288]) -> Acted {
     let blank = [0xEEu8; 256];
-    store(memory, 768 * (i % 16), &blank);
+    store(memory, at, &blank);
     match host::make(u.own, u.retry as u32) {
-        Made::New(v) => v,
-        Made::Setting => u,
+        Made::New(v) => left(v),
+        Made::Setting => left(u),
     }
 }
 
-// A step by hand, at the levels of the statement.
-fn step(u: Unit, d: &mut [u64; 448], i: usize, memory: &mut [u8; 12288]) -> Unit {
-    desk::by_hand(d);
-    match stepped(u, d, i, memory) {
-        Stepped::On(v) => v,
-        Stepped::Level => refused(u, d, 5),
-        Stepped::Buffer => refused(u, d, 11),
+// A step by hand.
+fn step(u: Unit, n: Numbers, at: usize, seen: Lines, memory: &mut [u8; 12288]) -> Acted {
+    match stepped(u, n, at, seen, memory) {
+        Stepped::On(v) => left(v),
+        Stepped::Level => Acted { unit: u, number: 5 },
+        Stepped::Buffer => Acted {
+            unit: u,
+            number: 11,
+        },
     }
 }
 
-fn refused(u: Unit, d: &mut [u64; 448], number: u64) -> Unit {
-    desk::refused(d, number);
-    tell::refusal(d, script::STEP);
-    u
-}
-
-fn stepped(u: Unit, d: &[u64; 448], i: usize, memory: &mut [u8; 12288]) -> Stepped {
-    let at = 768 * (i % 16);
-    let seen = stand_in::levels_by_hand(d);
+fn stepped(u: Unit, n: Numbers, at: usize, seen: Lines, memory: &mut [u8; 12288]) -> Stepped {
+    let lent = statement::or(n.seventh, 256) as usize;
     let mut buffer = load(memory, at);
-    let input = load(memory, at + 256);
-    let mut output = load(memory, at + 512);
+    let input = load(memory, at % 12033 + 256);
+    let mut output = load(memory, at % 12033 + 512);
     let stepped = with_lent(
         u,
         seen,
-        desk::has(d, 4),
-        desk::value_or(d, 6, 256) as usize,
+        n.fifth != NONE,
+        lent,
         &mut buffer,
         &input,
         &mut output,
     );
     store(memory, at, &buffer);
-    store(memory, at + 512, &output);
+    store(memory, at % 12033 + 512, &output);
     stepped
 }
 
@@ -263,4 +195,65 @@ fn with_lent(
         return unit::step(u, seen, busy, &mut buffer[0..lent], input, output);
     }
     unit::step(u, seen, busy, buffer, input, output)
+}
+
+// The numbers that an expectation finds of a unit: what it pulls, its phase, its queues, or all that its host may look at.
+pub fn looks(u: Unit, form: u64) -> Numbers {
+    let l = unit::pulls(u);
+    let looks = host::look(u);
+    let input = looks.input as u64 % 1000000;
+    let output = looks.output as u64 % 1000000;
+    let mut n = Numbers::none();
+    n.first = u.own as u64;
+    match form {
+        statement::PULLS => {
+            n.second = statement::flag(l.bav);
+            n.third = statement::flag(l.hsk);
+            n.fourth = l.nibble as u64;
+        }
+        statement::PHASE => n.second = phase(u),
+        statement::QUEUED => {
+            n.second = input;
+            n.third = output;
+        }
+        _ => {
+            let opening = looks.opening;
+            n.second = mode(opening);
+            n.third = accepted(opening);
+            n.fourth = input;
+            n.fifth = output;
+            n.sixth = statement::flag(looks.enabled);
+            n.seventh = statement::flag(looks.requesting);
+        }
+    }
+    n
+}
+
+fn phase(u: Unit) -> u64 {
+    let phase = u.phase;
+    match phase {
+        Phase::Idle => 256,
+        Phase::Selecting(_, _, _) => 257,
+        Phase::Receiving(_, _) => 258,
+        Phase::Responding(_, _, _, _) => 259,
+        Phase::SittingOut(_) => 260,
+    }
+}
+
+fn mode(opening: Opening) -> u64 {
+    match opening {
+        Opening::Closed => 256,
+        Opening::OpenFor(mode, _) => match mode {
+            Mode::Input => 257,
+            Mode::Output => 258,
+            Mode::Update => 259,
+        },
+    }
+}
+
+fn accepted(opening: Opening) -> u64 {
+    match opening {
+        Opening::Closed => NONE,
+        Opening::OpenFor(_, length) => length as u64,
+    }
 }

@@ -1,40 +1,20 @@
-// The words of a line and the numbers and bytes that they stand for, and the words of a form. What is read of a line stands in words that
-// a caller lends.
-
-// No number: the word is none, or none was given.
-pub const NONE: u64 = 4294967295;
-
-// How many forms there are. As the place of a form: a line without a statement.
-pub const BLANK: u64 = 52;
-
-// Where a statement stands in the words that a caller lends: sixteen values in the order of the form, NONE for what was not given and 1 for
-// a name without a value.
-pub const VALUES: usize = 0;
-
-// Its form, by its place; BLANK for none.
-pub const FORM: usize = 16;
-
-// How many bytes were read.
-pub const BYTES: usize = 17;
-
-// Where the last word ended.
-pub const AT: usize = 18;
-
-// For a line that is no statement: 1, the word that was read, and the part of the forms that says what was expected.
-pub const IS_WRONG: usize = 19;
-
-pub const WORD: usize = 20;
-
-pub const WORD_END: usize = 21;
-
-pub const WANT: usize = 22;
-
-pub const WANT_END: usize = 23;
+// The words of a line and the numbers and bytes that they stand for, and the words of a form.
+use statement::NONE;
 
 // Where a word stands in its line.
 pub struct Word {
     pub start: usize,
     pub end: usize,
+}
+
+// How far a line was read. If it is no statement: the word that was read, the part of the forms that says what was expected, and without a
+// form the most words that the line and a form have in common.
+pub struct Reading {
+    pub at: usize,
+    pub is_wrong: bool,
+    pub word: Word,
+    pub want: Word,
+    pub words: u64,
 }
 
 // What the first words of a line and of a form have in common.

@@ -3,12 +3,14 @@ use borrow.Author.Needs.{needs}
 use Prim.Native.Nat.{_-_}
 use Rattle.controllercalls.proofs.entries.Statement.{statement}
 use Rattle.controllercalls.proofs.entries.Tie as tie
+use Rattle.ring.proofs.Ring.entry.Reads as entry-reads
+use Rattle.ring.proofs.Ring.len.Reads as len-reads
 
 abbrev Inv-loop : tie.InvT-loop
-Inv-loop r d bytes₀ i₀ bytes i = Unit {0}
+Inv-loop r bytes₀ i₀ bytes i = Unit {0}
 
 abbrev μ-loop : tie.MeasureT-loop
-μ-loop r d bytes₀ i₀ bytes i = 16 - i
+μ-loop r bytes₀ i₀ bytes i = 16 - i
 
 loop-holds : tie.Need-loop-holds Inv-loop μ-loop
 loop-holds c = search needs
@@ -52,11 +54,8 @@ loop-again c = search needs
 len-requires : tie.Need-len-requires Inv-loop μ-loop
 len-requires c κs = search needs
 
-mul-d : tie.Need-mul-d Inv-loop μ-loop
-mul-d c = search needs
-
-element-write-d : tie.Need-element-write-d Inv-loop μ-loop
-element-write-d c = search needs
+mul-result : tie.Need-mul-result Inv-loop μ-loop
+mul-result c = search needs
 
 returns : tie.Need-returns Inv-loop μ-loop
 returns c = search needs
@@ -81,6 +80,5 @@ entries-spec =
     loop-less
     loop-again
     len-requires
-    mul-d
-    element-write-d
+    mul-result
     returns)

@@ -5,10 +5,10 @@ use Rattle.desk.proofs.place_of.Statement.{statement}
 use Rattle.desk.proofs.place_of.Tie as tie
 
 abbrev Inv-loop : tie.InvT-loop
-Inv-loop d row count word n i₀ i = Unit {0}
+Inv-loop rows row count number n i₀ i = Unit {0}
 
 abbrev μ-loop : tie.MeasureT-loop
-μ-loop d row count word n i₀ i = n - i
+μ-loop rows row count number n i₀ i = 17 - i
 
 loop-holds : tie.Need-loop-holds Inv-loop μ-loop
 loop-holds c = search needs

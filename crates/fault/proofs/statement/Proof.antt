@@ -3,6 +3,13 @@ use borrow.Author.Needs.{needs}
 use Prim.Native.Nat.{_-_}
 use Rattle.fault.proofs.statement.Statement.{statement}
 use Rattle.fault.proofs.statement.Tie as tie
+use Rattle.fault.proofs.put.Reads as put-reads
+use Rattle.statement.proofs.Numbers.at.Reads as at-reads
+use Rattle.word.proofs.bare.Reads as bare-reads
+use Rattle.word.proofs.find.Reads as find-reads
+use Rattle.word.proofs.is_name.Reads as is-name-reads
+use Rattle.word.proofs.letters.Reads as letters-reads
+use Rattle.word.proofs.piece.Reads as piece-reads
 
 abbrev Inv-loop : tie.InvT-loop
 Inv-loop page₀ n forms form values row s₀ count₀ page s count = Unit {0}
@@ -31,8 +38,8 @@ find-requires c κs = search needs
 is-name-requires : tie.Need-is-name-requires Inv-loop μ-loop
 is-name-requires c κs = search needs
 
-value-of-requires : tie.Need-value-of-requires Inv-loop μ-loop
-value-of-requires c κs = search needs
+at-requires : tie.Need-at-requires Inv-loop μ-loop
+at-requires c κs = search needs
 
 put-requires : tie.Need-put-requires Inv-loop μ-loop
 put-requires c κs = search needs
@@ -80,7 +87,7 @@ statement-spec =
     letters-requires
     find-requires
     is-name-requires
-    value-of-requires
+    at-requires
     put-requires
     bare-requires-2
     letters-requires-2

@@ -3,12 +3,15 @@ use borrow.Author.Needs.{needs}
 use Prim.Native.Nat.{_-_}
 use Rattle.hexbus.proofs.acts.Statement.{statement}
 use Rattle.hexbus.proofs.acts.Tie as tie
+use Rattle.hexbus.proofs.bench.after.Reads as after-reads
+use Rattle.hexbus.proofs.bench.start.Reads as start-reads
+use Rattle.play.proofs.next.Reads as next-reads
 
 abbrev Inv-loop : tie.InvT-loop
-Inv-loop forms name text d₀ bytes₀ response₀ memory₀ bus₀ i₀ d bytes response memory bus i = Unit {0}
+Inv-loop forms name text rows₀ bytes₀ response₀ memory₀ b₀ i₀ rows bytes response memory b i = Unit {0}
 
 abbrev μ-loop : tie.MeasureT-loop
-μ-loop forms name text d₀ bytes₀ response₀ memory₀ bus₀ i₀ d bytes response memory bus i = 1000000000000000000 - i
+μ-loop forms name text rows₀ bytes₀ response₀ memory₀ b₀ i₀ rows bytes response memory b i = 1000000000000000000 - i
 
 start-requires : tie.Need-start-requires Inv-loop μ-loop
 start-requires c κs = search needs
@@ -34,9 +37,6 @@ loop-again c = search needs
 returns : tie.Need-returns Inv-loop μ-loop
 returns c = search needs
 
-returns-2 : tie.Need-returns-2 Inv-loop μ-loop
-returns-2 c = search needs
-
 pub acts-spec : {M : Type 1} → statement M
 acts-spec =
     tie.close
@@ -50,5 +50,4 @@ acts-spec =
     add-i
     loop-less
     loop-again
-    returns
-    returns-2)
+    returns)

@@ -4,6 +4,10 @@ use Prim.Native.Nat.{_-_}
 use lib.ListN.{length}
 use Rattle.script.proofs.read_rest.Statement.{statement}
 use Rattle.script.proofs.read_rest.Tie as tie
+use Rattle.script.proofs.entry.Reads as entry-reads
+use Rattle.script.proofs.piece.Reads as piece-reads
+use Rattle.word.proofs.letters.Reads as letters-reads
+use Rattle.word.proofs.next.Reads as next-reads
 
 abbrev Inv-loop : tie.InvT-loop
 Inv-loop line pass bytes₀ is-ring r₀ i₀ bytes r i = Unit {0}

@@ -3,27 +3,27 @@ use borrow.Author.Needs.{needs}
 use Prim.Native.Nat.{_-_}
 use Rattle.stand_in.proofs.steps.Statement.{statement}
 use Rattle.stand_in.proofs.steps.Tie as tie
+use Rattle.stand_in.proofs.StandIn.stepped.Reads as stepped-reads
+use Rattle.stand_in.proofs.load.Reads as load-reads
+use Rattle.stand_in.proofs.store.Reads as store-reads
 
 abbrev Inv-loop : tie.InvT-loop
-Inv-loop d₀ seen bytes₀ n i₀ d bytes i = Unit {0}
+Inv-loop rows₀ count seen bytes₀ n i₀ rows bytes i = Unit {0}
 
 abbrev μ-loop : tie.MeasureT-loop
-μ-loop d₀ seen bytes₀ n i₀ d bytes i = n - i
-
-element-copy-out-n : tie.Need-element-copy-out-n Inv-loop μ-loop
-element-copy-out-n c = search needs
+μ-loop rows₀ count seen bytes₀ n i₀ rows bytes i = 5 - i
 
 loop-holds : tie.Need-loop-holds Inv-loop μ-loop
 loop-holds c = search needs
 
-is-slow-requires : tie.Need-is-slow-requires Inv-loop μ-loop
-is-slow-requires c κs = search needs
+load-requires : tie.Need-load-requires Inv-loop μ-loop
+load-requires c κs = search needs
 
-step-requires : tie.Need-step-requires Inv-loop μ-loop
-step-requires c κs = search needs
+stepped-requires : tie.Need-stepped-requires Inv-loop μ-loop
+stepped-requires c κs = search needs
 
-released-requires : tie.Need-released-requires Inv-loop μ-loop
-released-requires c κs = search needs
+store-requires : tie.Need-store-requires Inv-loop μ-loop
+store-requires c κs = search needs
 
 add-i : tie.Need-add-i Inv-loop μ-loop
 add-i c = search needs
@@ -43,11 +43,10 @@ steps-spec =
     (tie.spec
     Inv-loop
     μ-loop
-    element-copy-out-n
     loop-holds
-    is-slow-requires
-    step-requires
-    released-requires
+    load-requires
+    stepped-requires
+    store-requires
     add-i
     loop-less
     loop-again

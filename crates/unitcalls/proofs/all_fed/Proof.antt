@@ -3,12 +3,17 @@ use borrow.Author.Needs.{needs}
 use Prim.Native.Nat.{_-_}
 use Rattle.unitcalls.proofs.all_fed.Statement.{statement}
 use Rattle.unitcalls.proofs.all_fed.Tie as tie
+use Rattle.unitcalls.proofs.fed.Reads as fed-reads
+use Rattle.unitcalls.proofs.left.Reads as left-reads
 
 abbrev Inv-loop : tie.InvT-loop
-Inv-loop input₀ bytes n given₀ k₀ input given k = Unit {0}
+Inv-loop input₀ bytes n a₀ k₀ input a k = Unit {0}
 
 abbrev μ-loop : tie.MeasureT-loop
-μ-loop input₀ bytes n given₀ k₀ input given k = n - k
+μ-loop input₀ bytes n a₀ k₀ input a k = n - k
+
+left-requires : tie.Need-left-requires Inv-loop μ-loop
+left-requires c κs = search needs
 
 loop-holds : tie.Need-loop-holds Inv-loop μ-loop
 loop-holds c = search needs
@@ -37,6 +42,7 @@ all-fed-spec =
     (tie.spec
     Inv-loop
     μ-loop
+    left-requires
     loop-holds
     element-copy-out-fed
     fed-requires

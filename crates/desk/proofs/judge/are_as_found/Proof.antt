@@ -3,42 +3,29 @@ use borrow.Author.Needs.{needs}
 use Prim.Native.Nat.{_-_}
 use Rattle.desk.proofs.judge.are_as_found.Statement.{statement}
 use Rattle.desk.proofs.judge.are_as_found.Tie as tie
+use Rattle.statement.proofs.Numbers.at.Reads as at-reads
+use Rattle.statement.proofs.or.Reads as or-reads
 
 abbrev Inv-loop : tie.InvT-loop
-Inv-loop d lowest i₀ i = Unit {0}
+Inv-loop named found form lowest i₀ i = Unit {0}
 
 abbrev μ-loop : tie.MeasureT-loop
-μ-loop d lowest i₀ i = 16 - i
-
-element-copy-out-match : tie.Need-element-copy-out-match Inv-loop μ-loop
-element-copy-out-match c = search needs
+μ-loop named found form lowest i₀ i = 13 - i
 
 loop-holds : tie.Need-loop-holds Inv-loop μ-loop
 loop-holds c = search needs
 
-add-given : tie.Need-add-given Inv-loop μ-loop
-add-given c = search needs
+at-requires : tie.Need-at-requires Inv-loop μ-loop
+at-requires c κs = search needs
 
-mul-given : tie.Need-mul-given Inv-loop μ-loop
-mul-given c = search needs
+or-requires : tie.Need-or-requires Inv-loop μ-loop
+or-requires c κs = search needs
 
-element-copy-out-given : tie.Need-element-copy-out-given Inv-loop μ-loop
-element-copy-out-given c = search needs
+at-requires-2 : tie.Need-at-requires-2 Inv-loop μ-loop
+at-requires-2 c κs = search needs
 
-given-requires : tie.Need-given-requires Inv-loop μ-loop
-given-requires c κs = search needs
-
-add-given-2 : tie.Need-add-given-2 Inv-loop μ-loop
-add-given-2 c = search needs
-
-mul-given-2 : tie.Need-mul-given-2 Inv-loop μ-loop
-mul-given-2 c = search needs
-
-element-copy-out-given-2 : tie.Need-element-copy-out-given-2 Inv-loop μ-loop
-element-copy-out-given-2 c = search needs
-
-given-requires-2 : tie.Need-given-requires-2 Inv-loop μ-loop
-given-requires-2 c κs = search needs
+or-requires-2 : tie.Need-or-requires-2 Inv-loop μ-loop
+or-requires-2 c κs = search needs
 
 returns : tie.Need-returns Inv-loop μ-loop
 returns c = search needs
@@ -61,16 +48,11 @@ are-as-found-spec =
     (tie.spec
     Inv-loop
     μ-loop
-    element-copy-out-match
     loop-holds
-    add-given
-    mul-given
-    element-copy-out-given
-    given-requires
-    add-given-2
-    mul-given-2
-    element-copy-out-given-2
-    given-requires-2
+    at-requires
+    or-requires
+    at-requires-2
+    or-requires-2
     returns
     add-i
     loop-less

@@ -3,6 +3,7 @@ use borrow.Author.Needs.{needs}
 use Prim.Native.Nat.{_-_}
 use Rattle.desk.proofs.tell.ahead.Statement.{statement}
 use Rattle.desk.proofs.tell.ahead.Tie as tie
+use Rattle.desk.proofs.tell.wide.Reads as wide-reads
 
 abbrev Inv-loop : tie.InvT-loop
 Inv-loop bytes code n₀ n = Unit {0}

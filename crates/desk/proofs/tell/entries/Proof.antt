@@ -4,6 +4,9 @@ use Prim.Native.Nat.{_-_}
 use lib.ListN.{length}
 use Rattle.desk.proofs.tell.entries.Statement.{statement}
 use Rattle.desk.proofs.tell.entries.Tie as tie
+use Rattle.desk.proofs.tell.wide.Reads as wide-reads
+use Rattle.page.proofs.decimal.Reads as decimal-reads
+use Rattle.page.proofs.letter.Reads as letter-reads
 
 abbrev Inv-loop : tie.InvT-loop
 Inv-loop page₀ n found at₀ i₀ page at i = Unit {0}

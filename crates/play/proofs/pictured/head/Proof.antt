@@ -3,12 +3,13 @@ use borrow.Author.Needs.{needs}
 use Prim.Native.Nat.{_-_}
 use Rattle.play.proofs.pictured.head.Statement.{statement}
 use Rattle.play.proofs.pictured.head.Tie as tie
+use Rattle.picture.proofs.dump.head.Reads as head-reads
 
 abbrev Inv-loop : tie.InvT-loop
-Inv-loop d marks codes₀ i₀ codes i = Unit {0}
+Inv-loop d rows marks codes₀ i₀ codes i = Unit {0}
 
 abbrev μ-loop : tie.MeasureT-loop
-μ-loop d marks codes₀ i₀ codes i = 16 - i
+μ-loop d rows marks codes₀ i₀ codes i = 16 - i
 
 loop-holds : tie.Need-loop-holds Inv-loop μ-loop
 loop-holds c = search needs
@@ -55,20 +56,8 @@ loop-less c = search needs
 loop-again : tie.Need-loop-again Inv-loop μ-loop
 loop-again c = search needs
 
-dump-requires : tie.Need-dump-requires Inv-loop μ-loop
-dump-requires c κs = search needs
-
-element-copy-out-head : tie.Need-element-copy-out-head Inv-loop μ-loop
-element-copy-out-head c = search needs
-
-element-copy-out-head-2 : tie.Need-element-copy-out-head-2 Inv-loop μ-loop
-element-copy-out-head-2 c = search needs
-
 head-requires : tie.Need-head-requires Inv-loop μ-loop
 head-requires c κs = search needs
-
-written-requires : tie.Need-written-requires Inv-loop μ-loop
-written-requires c κs = search needs
 
 returns : tie.Need-returns Inv-loop μ-loop
 returns c = search needs
@@ -94,9 +83,5 @@ head-spec =
     add-i
     loop-less
     loop-again
-    dump-requires
-    element-copy-out-head
-    element-copy-out-head-2
     head-requires
-    written-requires
     returns)

@@ -1,0 +1,190 @@
+// What is noted and said of what the bus did.
+use desk::Desk;
+use desk::hosts;
+use desk::tell;
+use line::Lines;
+use statement::NEW;
+use statement::NONE;
+use statement::OTHER;
+use statement::Told;
+
+// The unit at a place has acted for the statement, or its host by itself: the number that this came to.
+pub fn of_unit(d: Desk, i: u64, number: u64, rows: &mut [u64; 256], bytes: &[u8; 159744]) -> Desk {
+    let every = d.said.numbers.second;
+    let form = d.said.form;
+    let mut next = d;
+    match form {
+        statement::FEED => return desk::refused(d, number),
+        statement::TAKE => next.taken = number,
+        statement::RAISE => {
+            if every == NONE {
+                return raised(d, i, number, rows, bytes);
+            }
+            return hosts::raise(d, rows, i, every);
+        }
+        statement::STEP => return stepped(d, number),
+        statement::DO => return by_itself(d, i, number, rows, bytes),
+        statement::ENDED..=statement::RUN => return by_itself(d, i, number, rows, bytes),
+        _ => {}
+    }
+    next
+}
+
+// A request is new, was held already, or is refused.
+fn raised(d: Desk, i: u64, number: u64, rows: &mut [u64; 256], bytes: &[u8; 159744]) -> Desk {
+    if number == NEW {
+        let code = desk::code(rows, i);
+        hosts::waiting(rows, i, tell::ahead(bytes, code));
+        tell::say(d, tell::REQUEST, code, 0, 0);
+        return d;
+    }
+    desk::refused(d, number)
+}
+
+// A request of a host that raises by itself. A refusal before it in the same run stands.
+fn by_itself(d: Desk, i: u64, number: u64, rows: &mut [u64; 256], bytes: &[u8; 159744]) -> Desk {
+    let mut next = raised(d, i, number, rows, bytes);
+    if (number == NEW) | (number == 0) {
+        next.refusal = d.refusal;
+        return next;
+    }
+    tell::refusal(next, statement::RAISE);
+    next
+}
+
+// A step by hand counts as a round.
+fn stepped(d: Desk, refusal: u64) -> Desk {
+    let mut next = desk::refused(d, refusal);
+    next.round = d.round % desk::FOR_EVER + 1;
+    tell::refusal(next, statement::STEP);
+    next
+}
+
+// The controller has acted for the statement: the refusal, 0 for none.
+pub fn of_controller(d: Desk, refusal: u64) -> Desk {
+    let form = d.said.form;
+    let mut next = d;
+    if 0 < refusal {
+        return desk::refused(d, refusal);
+    }
+    match form {
+        statement::RESTART => next.is_submitted = false,
+        statement::SUBMIT..=statement::DO => return submitted(d),
+        _ => {}
+    }
+    next
+}
+
+// A command is submitted: what came of the last one is forgotten.
+fn submitted(d: Desk) -> Desk {
+    let n = d.said.numbers;
+    let mut next = d;
+    next.is_submitted = true;
+    next.length = d.said.bytes % 65537 + statement::front(n) % 4;
+    next.lent = statement::or(n.sixth, 65535) % 65536;
+    next.status = OTHER;
+    next.request = OTHER;
+    next.received = 0;
+    next
+}
+
+// What a step of the controller has come to.
+pub fn told(d: Desk, t: Told, rows: &mut [u64; 256], response: &[u8]) -> Desk {
+    if 0 < t.frame {
+        framed(d, t, rows);
+    }
+    if t.is_ended {
+        return finished(d, t, response);
+    }
+    if 0 < t.handed {
+        return handed(d, t.handed, rows);
+    }
+    if 0 < t.refusal {
+        let next = desk::refused(d, t.refusal);
+        tell::refusal(next, statement::RUN);
+        return next;
+    }
+    d
+}
+
+// A frame begins, or a service frame has ended.
+fn framed(d: Desk, t: Told, rows: &mut [u64; 256]) {
+    let frame = t.frame;
+    match frame {
+        statement::OF_THE_APPLICATION => {
+            tell::say(d, tell::FRAME, t.command, t.code, 0);
+            tell::say(d, tell::LENGTHS, t.buffer, t.length, 0);
+        }
+        statement::A_POLL => turn(d, tell::POLLED, t.code, rows),
+        statement::A_NULL => turn(d, tell::NULLED, t.code, rows),
+        statement::POLL_ENDED => tell::say(d, tell::POLL_ENDED, t.code, t.status, 0),
+        _ => tell::say(d, tell::NULL_ENDED, t.status, 0, 0),
+    }
+}
+
+// The turn of a code.
+fn turn(d: Desk, words: u64, code: u64, rows: &mut [u64; 256]) {
+    let at = desk::find(d, rows, code);
+    hosts::turned(rows, at);
+    let h = hosts::at(rows, at % 16);
+    tell::say(d, words, h.turns, code, 0);
+}
+
+// The submitted command has ended.
+fn finished(d: Desk, t: Told, response: &[u8]) -> Desk {
+    let mut next = d;
+    next.is_submitted = false;
+    next.status = t.status;
+    next.received = t.received;
+    tell::say(d, tell::ENDED, t.status, t.received, 0);
+    if 0 < t.received {
+        tell::received(d, word::front(response, t.received as usize));
+    }
+    next
+}
+
+// A request is handed over.
+fn handed(d: Desk, code: u64, rows: &mut [u64; 256]) -> Desk {
+    let at = desk::find(d, rows, code) % 16;
+    let h = hosts::at(rows, at);
+    let mut next = d;
+    next.request = code;
+    next.requests = d.requests % 1000000000 + 1;
+    hosts::handed(rows, at);
+    tell::say(d, tell::HANDED, code, h.waited, h.ahead);
+    next
+}
+
+// What is seen of the bus then. Units that begin to pull BAV are named.
+pub fn seen(
+    d: Desk,
+    lines: Lines,
+    is_free: bool,
+    asking: u64,
+    requesting: u64,
+    rows: &[u64; 256],
+) -> Desk {
+    let mut next = d;
+    next.lines = lines;
+    next.is_free = is_free;
+    next.asking = asking;
+    next.requesting = requesting;
+    if d.asking != asking {
+        asks(next, d.asking, rows);
+    }
+    next
+}
+
+fn asks(d: Desk, before: u64, rows: &[u64; 256]) {
+    let mut now = d.asking;
+    let mut old = before;
+    let mut i = 0u64;
+    while i < 16 {
+        if old % 2 < now % 2 {
+            tell::say(d, tell::PULLS, desk::code(rows, i), 0, 0);
+        }
+        now = now / 2;
+        old = old / 2;
+        i += 1;
+    }
+}
