@@ -13,9 +13,11 @@ pub fn told(before: Stage, c: Controller, outcome: Stepping) -> Told {
     let after = c.stage;
     let ring = c.ring;
     let mut t = framed(before, after, ring);
+    let is_frame = t.frame != statement::NO_FRAME;
+    t.is_told = true;
     match outcome {
         Stepping::On(event) => match event {
-            Event::Nothing => {}
+            Event::Nothing => t.is_told = is_frame,
             Event::Ended(status, n) => {
                 t.is_ended = true;
                 t.status = status as u64;
@@ -42,6 +44,7 @@ fn framed(before: Stage, after: Stage, ring: Ring) -> Told {
 
 fn nothing() -> Told {
     Told {
+        is_told: false,
         frame: statement::NO_FRAME,
         code: 0,
         command: 0,

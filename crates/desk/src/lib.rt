@@ -7,26 +7,22 @@ pub mod reading;
 pub mod tally;
 pub mod tell;
 
+use crate::plan::Plan;
 use line::Lines;
 use picture::RELEASED;
 use statement::NONE;
 use statement::Numbers;
 use statement::OTHER;
-use statement::Statement;
 
 pub struct Desk {
+    // The place in the script, and the parties that there are.
+    pub plan: Plan,
     // The rounds so far, and those of the last run.
     pub round: u64,
     pub ran: u64,
-    // How many units and stand-ins there are, and whether a round has been run.
-    pub count: u64,
-    pub stand_ins: u64,
-    pub has_begun: bool,
-    // The statement that is under way: what the bus does for it and what it does now, how often it has done so and does so at the most, the
-    // form that names when it is over, and which part of a `do` that is, 0 for none.
-    pub said: Statement,
+    // What the bus does for the statement, how often it has done so and does so at the most, the form that names when it is over, and which
+    // part of a `do` that is, 0 for none.
     pub act: u64,
-    pub now: u64,
     pub done: u64,
     pub most: u64,
     pub until: u64,
@@ -61,30 +57,14 @@ pub struct Desk {
     pub entries: u64,
     pub asking: u64,
     pub requesting: u64,
-    // The numbers that an expectation finds, in the places of the statement's.
-    pub found: Numbers,
-    // Expectations that held, and failures.
+    // Expectations that held, failures, and how many letters of failures are kept.
     pub held: u64,
     pub failed: u64,
-    // The present line: where it begins and ends, where the next one begins, its number.
-    pub start: usize,
-    pub end: usize,
-    pub next: usize,
-    pub line: u64,
-    // The repeat that is under way: where its first line begins, 0 for none, and that line's number; how many passes follow the present one,
-    // and the number of that one.
-    pub loop_start: usize,
-    pub loop_line: u64,
-    pub passes: u64,
-    pub pass: u64,
+    pub logged: usize,
     // What the next statement must expect: a refusal's number, or UNREACHED; 0 for nothing. The line that it came of.
     pub pending: u64,
     pub pending_line: u64,
     pub pending_start: usize,
-    // Whether the script has a statement; lines that cannot be played, and why the last of them cannot.
-    pub has_statement: bool,
-    pub faults: u64,
-    pub why: u64,
     // The descriptor that is written to, 0 for none; that of the dump, 0 for none, and whether it could not be written.
     pub out: i32,
     pub dump: i32,
@@ -93,12 +73,6 @@ pub struct Desk {
     pub is_pictured: bool,
     pub columns: usize,
     pub marks: [u8; 22],
-    // Of all scripts so far: how many letters of failures are kept, expectations that held, failures, and whether one was not played whole
-    // or an expectation failed.
-    pub logged: usize,
-    pub all_held: u64,
-    pub all_failed: u64,
-    pub is_bad: bool,
 }
 
 // The rows: the codes of units by their place, and of stand-ins, 0 for one of every code; then what there is of each host (hosts), and of
@@ -113,38 +87,25 @@ pub const UNREACHED: u64 = 99;
 // A host that is busy for so many rounds is busy for ever.
 pub const FOR_EVER: u64 = 1000000000000;
 
-// What the bus may do: a call, a step or a look of the unit at a place under 16, the same of the controller, a round, a unit more, nothing;
-// or the script has ended.
+// What the bus may do: a call or a step of the unit at a place under 16, the same of the controller, a round, a unit more.
 pub const OF_CONTROLLER: u64 = 16;
 
 pub const A_ROUND: u64 = 17;
 
 pub const ONE_MORE: u64 = 18;
 
-pub const NOTHING: u64 = 19;
-
-pub const THE_END: u64 = 20;
-
-// The desk before the first statement of a script. What is counted of all scripts goes on.
-pub fn start(logged: usize, held: u64, failed: u64, is_bad: bool) -> Desk {
+// The desk before the first statement of a script, with so many letters of failures.
+pub fn start(logged: usize) -> Desk {
     let released = Lines {
         bav: false,
         hsk: false,
         nibble: 15,
     };
     Desk {
+        plan: plan::start(),
         round: 0,
         ran: 0,
-        count: 0,
-        stand_ins: 0,
-        has_begun: false,
-        said: Statement {
-            form: statement::BLANK,
-            numbers: Numbers::none(),
-            bytes: 0,
-        },
-        act: NOTHING,
-        now: NOTHING,
+        act: 0,
         done: 0,
         most: 0,
         until: 0,
@@ -169,76 +130,19 @@ pub fn start(logged: usize, held: u64, failed: u64, is_bad: bool) -> Desk {
         entries: 0,
         asking: 0,
         requesting: 0,
-        found: Numbers::none(),
         held: 0,
         failed: 0,
-        start: 0,
-        end: 0,
-        next: 0,
-        line: 1,
-        loop_start: 0,
-        loop_line: 0,
-        passes: 0,
-        pass: NONE,
+        logged,
         pending: 0,
         pending_line: 0,
         pending_start: 0,
-        has_statement: false,
-        faults: 0,
-        why: 0,
         out: 1,
         dump: 0,
         is_dump_lost: false,
         is_pictured: false,
         columns: 0,
         marks: [RELEASED; 22],
-        logged,
-        all_held: held,
-        all_failed: failed,
-        is_bad,
     }
-}
-
-// The desk before the next script.
-pub fn again(d: Desk) -> Desk {
-    start(d.logged, d.all_held, d.all_failed, d.is_bad)
-}
-
-// Where the unit with a code stands; 16 where there is none.
-pub fn find(d: Desk, rows: &[u64; 256], code: u64) -> u64 {
-    place_of(rows, CODES, d.count, code)
-}
-
-// Where the stand-in with a code stands, OTHER being every code; 16 where there is none.
-pub fn find_stand_in(d: Desk, rows: &[u64; 256], code: u64) -> u64 {
-    let own = if code == OTHER { 0 } else { code };
-    place_of(rows, STAND_IN_CODES, d.stand_ins, own)
-}
-
-// The code of the unit at a place.
-pub fn code(rows: &[u64; 256], i: u64) -> u64 {
-    rows[CODES + (i % 16) as usize]
-}
-
-// Where a party stands: that of a unit, 16 for the controller.
-pub fn party(d: Desk, rows: &[u64; 256], code: u64) -> u64 {
-    if code == OTHER {
-        return 16;
-    }
-    find(d, rows, code)
-}
-
-// Where a number stands among so many of a row; 16 where it does not.
-fn place_of(rows: &[u64; 256], row: usize, count: u64, number: u64) -> u64 {
-    let n = (count % 17) as usize;
-    let mut i = 0usize;
-    while i < n {
-        if rows[row % 128 + i] == number {
-            return i as u64;
-        }
-        i += 1;
-    }
-    16
 }
 
 // A call was refused with a number, which the next statement must expect; 0 for one that was not.
@@ -255,8 +159,8 @@ pub fn refused(d: Desk, number: u64) -> Desk {
 pub fn awaited(d: Desk, what: u64) -> Desk {
     let mut next = d;
     next.pending = what;
-    next.pending_line = d.line;
-    next.pending_start = d.start;
+    next.pending_line = d.plan.line;
+    next.pending_start = d.plan.start;
     next
 }
 
@@ -275,14 +179,4 @@ pub fn levels(n: Numbers) -> Lines {
         hsk: n.third != NONE,
         nibble: (statement::or(n.fourth, 15) % 256) as u8,
     }
-}
-
-// A round later: one less in which lines are held.
-pub fn later(d: Desk) -> Desk {
-    let mut next = d;
-    next.round = d.round % FOR_EVER + 1;
-    if 0 < d.hold {
-        next.hold = d.hold - 1;
-    }
-    next
 }

@@ -1,40 +1,39 @@
 // A script is read as a whole before any of it is played.
-use crate::Desk;
 use crate::plan;
+use crate::plan::Plan;
 use libc::STDOUT_FILENO;
 use word::Reading;
 
 // The longest line.
 const LONGEST: usize = 4096;
 
-// The desk at the end of a script: how many of its lines cannot be played. The first twenty are said.
+// The plan at the end of a script: how many of its lines cannot be played. The first twenty are said.
 pub fn read(
     forms: &[u8],
     name: &[u8],
     text: &[u8],
-    first: Desk,
     rows: &mut [u64; 256],
     bytes: &mut [u8; 159744],
-) -> Desk {
-    let mut d = first;
+) -> Plan {
+    let mut p = plan::start();
     let mut i = 0u64;
     while i < 1000000000 {
-        if text.len() <= d.next {
+        if text.len() <= p.next {
             break;
         }
-        d = checked(forms, name, text, d, rows, bytes);
+        p = checked(forms, name, text, p, rows, bytes);
         i += 1;
     }
-    ended(d, name)
+    ended(p, name)
 }
 
 // What can be said of a script only at its end.
-fn ended(d: Desk, name: &[u8]) -> Desk {
-    let mut next = d;
-    if 0 < d.loop_start {
+fn ended(p: Plan, name: &[u8]) -> Plan {
+    let mut next = p;
+    if 0 < p.loop_start {
         next = wrong(next, name, 10);
     }
-    if !d.has_statement {
+    if !p.has_statement {
         next = wrong(next, name, 11);
     }
     if 20 < next.faults {
@@ -56,31 +55,30 @@ fn checked(
     forms: &[u8],
     name: &[u8],
     text: &[u8],
-    d: Desk,
+    p: Plan,
     rows: &mut [u64; 256],
     bytes: &mut [u8; 159744],
-) -> Desk {
-    let mut next = plan::next_line(d, text);
+) -> Plan {
+    let mut next = plan::next_line(p, text);
     let line = word::part(text, next.start, next.end);
-    let read = script::read(forms, line, d.pass, bytes);
+    let read = script::read(forms, line, p.pass, bytes);
     let r = read.reading;
     let s = read.statement;
-    let is_long = LONGEST < line.len();
-    next.said = s;
-    next.has_statement = d.has_statement | is_long | r.is_wrong | (s.form < statement::BLANK);
-    if is_long {
+    if LONGEST < line.len() {
         return plan::past_line(wrong(next, name, 9));
     }
     if r.is_wrong {
         return plan::past_line(misread(forms, name, line, next, r));
     }
-    next = plan::with(next, rows);
-    plan::past(wrong(next, name, next.why))
+    let why = plan::against(next, s, rows);
+    next = plan::with(next, s, why, rows);
+    next.has_statement = p.has_statement | (s.form < statement::BLANK);
+    plan::past(wrong(next, name, why), s)
 }
 
 // A line that is no statement.
-fn misread(forms: &[u8], name: &[u8], line: &[u8], d: Desk, r: Reading) -> Desk {
-    let next = counted(d, name);
+fn misread(forms: &[u8], name: &[u8], line: &[u8], p: Plan, r: Reading) -> Plan {
+    let next = counted(p, name);
     if next.faults <= 20 {
         fault::misread(STDOUT_FILENO, forms, line, r);
     }
@@ -88,11 +86,11 @@ fn misread(forms: &[u8], name: &[u8], line: &[u8], d: Desk, r: Reading) -> Desk 
 }
 
 // One more line that cannot be played, for a reason; none where that is 0.
-fn wrong(d: Desk, name: &[u8], why: u64) -> Desk {
+fn wrong(p: Plan, name: &[u8], why: u64) -> Plan {
     if why == 0 {
-        return d;
+        return p;
     }
-    let next = counted(d, name);
+    let next = counted(p, name);
     if next.faults <= 20 {
         plan::reason(STDOUT_FILENO, why);
     }
@@ -100,13 +98,14 @@ fn wrong(d: Desk, name: &[u8], why: u64) -> Desk {
 }
 
 // One more line that cannot be played: the first twenty are said. In a repeat no more passes follow.
-fn counted(d: Desk, name: &[u8]) -> Desk {
-    let mut next = d;
-    next.faults = d.faults % 1000000000 + 1;
+fn counted(p: Plan, name: &[u8]) -> Plan {
+    let mut next = p;
+    next.has_statement = true;
+    next.faults = p.faults % 1000000000 + 1;
     next.passes = 0;
     if next.faults <= 20 {
         page::show(STDOUT_FILENO, name);
-        page::tell(STDOUT_FILENO, b": line #: ", d.line, 0, 0, 0);
+        page::tell(STDOUT_FILENO, b": line #: ", p.line, 0, 0, 0);
     }
     next
 }

@@ -127,8 +127,8 @@ pub fn received(d: Desk, s: &[u8]) {
 }
 
 // The bytes that a unit gives its host.
-pub fn given(d: Desk, bytes: &[u8]) {
-    say(d, GIVES, d.said.numbers.first, 0, 0);
+pub fn given(d: Desk, code: u64, bytes: &[u8]) {
+    say(d, GIVES, code, 0, 0);
     if d.taken == 0 {
         say(d, NOTHING, 0, 0, 0);
     }

@@ -2,18 +2,30 @@
 // the response buffer are lent: they stay where they are.
 use bus::Bus;
 use bus::Rounded;
+use controller::Controller;
 use controller::Stepping;
 use controllercalls::told;
 use desk::Desk;
 use desk::hosts;
+use frame::Stage;
 use host::Made;
 use line::Lines;
 use play::noted;
 use play::pictured;
+use statement::Numbers;
+use statement::Seen;
+use statement::Statement;
+use statement::Told;
 
 pub struct Bench {
     pub bus: Bus,
     pub desk: Desk,
+}
+
+// A bus after a round, and what that came to for its controller.
+struct After {
+    bus: Bus,
+    told: Told,
 }
 
 // A bus with a controller of the default time-out and no unit.
@@ -22,96 +34,117 @@ pub fn start() -> Bus {
     Bus::new(made.controller)
 }
 
-// After what the bus does now. What is seen of it then stands on the desk.
-pub fn after(
-    b: Bench,
+// What the bus does for a statement, as often as it is to.
+pub fn acts(
+    first: Bench,
+    s: Statement,
     rows: &mut [u64; 256],
     bytes: &mut [u8; 159744],
     response: &mut [u8; 65536],
     memory: &mut [u8; 12288],
 ) -> Bench {
-    let bus = b.bus;
-    let d = b.desk;
-    let now = d.now;
-    let next = match now {
-        desk::A_ROUND => round(bus, d, rows, bytes, response, memory),
-        desk::OF_CONTROLLER => of_controller(bus, d, rows, bytes, response),
-        desk::ONE_MORE => one_more(bus, d, rows),
-        _ => of_unit(bus, d, d.now, rows, bytes, memory),
+    let mut b = first;
+    let mut i = 0u64;
+    while i < 1000000000000000000 {
+        if !play::goes_on(b.desk, rows) {
+            break;
+        }
+        b = acted(b, s, rows, bytes, response, memory);
+        i += 1;
+    }
+    b
+}
+
+// After one act. What is seen of the bus then stands on the desk.
+fn acted(
+    b: Bench,
+    s: Statement,
+    rows: &mut [u64; 256],
+    bytes: &mut [u8; 159744],
+    response: &mut [u8; 65536],
+    memory: &mut [u8; 12288],
+) -> Bench {
+    let act = b.desk.act;
+    let next = match act {
+        desk::A_ROUND => round(b, s, rows, bytes, response, memory),
+        desk::OF_CONTROLLER => of_controller(b, s, rows, bytes, response),
+        desk::ONE_MORE => one_more(b, s.numbers, rows),
+        _ => of_unit(b, s, act, rows, bytes, memory),
     };
-    seen(next, rows, bytes)
+    seen(next, s.form, rows, bytes)
 }
 
 // The unit at a place acts for the statement, or its host by itself.
 fn of_unit(
-    bus: Bus,
-    d: Desk,
+    b: Bench,
+    s: Statement,
     place: u64,
     rows: &mut [u64; 256],
     bytes: &mut [u8; 159744],
     memory: &mut [u8; 12288],
 ) -> Bench {
     let i = (place % 16) as usize;
+    let mut bus = b.bus;
+    let mut desk = b.desk;
     let c = bus.controller;
     let ring = c.ring;
-    let s = d.said;
-    let mut next = bus;
-    let mut desk = d;
     desk.entries = controllercalls::entries(ring, bytes);
     let seen = desk::levels(s.numbers);
     let a = unitcalls::act(bus.units[i], s, place, seen, bytes, memory);
     let u = a.unit;
-    next.units[i] = u;
-    desk.found = unitcalls::looks(u, s.form);
+    bus.units[i] = u;
     Bench {
-        bus: next,
-        desk: noted::of_unit(desk, place, a.number, rows, bytes),
+        bus,
+        desk: noted::of_unit(desk, s, place, a.number, rows, bytes),
     }
 }
 
 fn of_controller(
-    bus: Bus,
-    d: Desk,
+    b: Bench,
+    s: Statement,
     rows: &mut [u64; 256],
     bytes: &mut [u8; 159744],
     response: &mut [u8; 65536],
 ) -> Bench {
-    let c = bus.controller;
-    let mut next = bus;
-    let mut desk = d;
-    if d.said.form == statement::STEP {
-        let before = c.stage;
-        let s = controllercalls::step(
-            c,
-            d.said,
-            desk::levels(d.said.numbers),
-            d.length,
-            d.lent,
-            bytes,
-            response,
-        );
-        let after = s.controller;
-        let outcome = s.outcome;
-        next.controller = after;
-        desk.round = d.round % desk::FOR_EVER + 1;
-        desk.refusal = 0;
-        return stepped(next, desk, before, outcome, rows, response);
+    let mut bus = b.bus;
+    let d = b.desk;
+    if s.form == statement::STEP {
+        let seen = desk::levels(s.numbers);
+        let a = stepped(bus, d, s, seen, bytes, response);
+        return told(a, d, seen, rows, bytes, response);
     }
-    let a = controllercalls::act(c, d.said, bytes, response);
-    let after = a.controller;
-    let ring = after.ring;
-    next.controller = after;
-    desk.entries = controllercalls::entries(ring, bytes);
-    desk.found = controllercalls::looks(after, d.said.form);
+    let a = controllercalls::act(bus.controller, s, bytes, response);
+    let c = a.controller;
+    bus.controller = c;
     Bench {
-        bus: next,
-        desk: noted::of_controller(desk, a.refusal),
+        bus,
+        desk: noted::of_controller(d, s, a.refusal),
     }
 }
 
-fn one_more(bus: Bus, d: Desk, rows: &mut [u64; 256]) -> Bench {
-    let desk = desk::plan::unit(d, rows);
-    match unitcalls::make(d.said.numbers) {
+fn stepped(
+    bus: Bus,
+    d: Desk,
+    s: Statement,
+    seen: Lines,
+    bytes: &[u8; 159744],
+    response: &mut [u8; 65536],
+) -> After {
+    let c = bus.controller;
+    let before = c.stage;
+    let s = controllercalls::step(c, s, seen, d.length, d.lent, bytes, response);
+    let next = s.controller;
+    let outcome = s.outcome;
+    let mut after = bus;
+    after.controller = next;
+    told_of(before, after, outcome)
+}
+
+fn one_more(b: Bench, n: Numbers, rows: &mut [u64; 256]) -> Bench {
+    let bus = b.bus;
+    let mut desk = b.desk;
+    desk.plan = desk::plan::unit(desk.plan, n, rows);
+    match unitcalls::make(n) {
         Made::New(u) => Bench {
             bus: bus.with(u),
             desk,
@@ -125,98 +158,108 @@ fn one_more(bus: Bus, d: Desk, rows: &mut [u64; 256]) -> Bench {
 
 // A round of every party, after what hosts do by themselves.
 fn round(
-    bus: Bus,
-    d: Desk,
+    b: Bench,
+    s: Statement,
     rows: &mut [u64; 256],
     bytes: &mut [u8; 159744],
     response: &mut [u8; 65536],
     memory: &mut [u8; 12288],
 ) -> Bench {
-    let host = hosts::due_host(d, rows);
-    let mut b = Bench { bus, desk: d };
+    let host = hosts::due_host(b.desk, rows);
+    let mut first = b;
     if host < 16 {
-        b = of_unit(bus, d, host, rows, bytes, memory);
+        first = of_unit(b, s, host, rows, bytes, memory);
     }
-    let desk = b.desk;
-    let first = b.bus;
-    let busy = hosts::busy_hosts(desk, rows);
-    let levels = play::levels(desk, rows);
-    let c = first.controller;
-    let before = c.stage;
-    let r = rounded(first, levels, busy, desk, bytes, response, memory);
-    let outcome = r.outcome;
-    if 0 < desk.stand_ins {
-        stand_in::steps(rows, desk.stand_ins, levels, bytes);
-    }
-    stepped(r.bus, desk::later(desk), before, outcome, rows, response)
+    let d = first.desk;
+    let busy = hosts::busy_hosts(d, rows);
+    let seen = play::levels(d, rows);
+    let a = rounded(first.bus, d, seen, busy, bytes, response, memory);
+    told(a, d, seen, rows, bytes, response)
 }
 
 // A round of the bus, with what was lent for its command.
 fn rounded(
     bus: Bus,
-    levels: Lines,
-    busy: u32,
     d: Desk,
+    seen: Lines,
+    busy: u32,
     bytes: &[u8],
     response: &mut [u8],
     memory: &mut [u8; 12288],
-) -> Rounded {
+) -> After {
+    let c = bus.controller;
+    let before = c.stage;
     let lent = (d.lent % 65536) as usize;
     let data = controllercalls::data(bytes, d.length % 65536);
     if lent <= response.len() {
-        return bus.round(levels, busy, data, &mut response[0..lent], memory);
+        let r = bus.round(seen, busy, data, &mut response[0..lent], memory);
+        let outcome = r.outcome;
+        return told_of(before, r.bus, outcome);
     }
     // No script lends more than there is.
-    Rounded {
+    told_of(before, bus, Stepping::Buffer)
+}
+
+fn told_of(before: Stage, bus: Bus, outcome: Stepping) -> After {
+    let c = bus.controller;
+    After {
         bus,
-        outcome: Stepping::Buffer,
+        told: told::told(before, c, outcome),
     }
 }
 
-// The controller has stepped, from a stage. A request that is handed over is acknowledged at once, where the script says so.
-fn stepped(
-    bus: Bus,
+// What a step of the controller came to is noted. A request that is handed over is acknowledged at once, where the script says so.
+fn told(
+    a: After,
     d: Desk,
-    before: frame::Stage,
-    outcome: Stepping,
+    seen: Lines,
     rows: &mut [u64; 256],
+    bytes: &mut [u8; 159744],
     response: &[u8],
 ) -> Bench {
-    let c = bus.controller;
-    let t = told::told(before, c, outcome);
-    let mut next = bus;
-    let desk = noted::told(d, t, rows, response);
+    let mut bus = a.bus;
+    let t = a.told;
     if (0 < t.handed) & d.acknowledges {
-        let a = controllercalls::acknowledge(c, (t.handed % 256) as u8);
-        let acknowledged = a.controller;
-        next.controller = acknowledged;
+        let acknowledged = controllercalls::acknowledge(bus.controller, (t.handed % 256) as u8);
+        let c = acknowledged.controller;
+        bus.controller = c;
     }
-    Bench { bus: next, desk }
+    Bench {
+        bus,
+        desk: noted::round(d, t, seen, rows, bytes, response),
+    }
 }
 
 // What is seen of the bus: its lines and each party.
-fn seen(b: Bench, rows: &mut [u64; 256], bytes: &mut [u8; 159744]) -> Bench {
+fn seen(b: Bench, form: u64, rows: &mut [u64; 256], bytes: &mut [u8; 159744]) -> Bench {
     let bus = b.bus;
     let d = b.desk;
-    let c = bus.controller;
-    let stage = c.stage;
-    let mut asking = 0u64;
-    let mut requesting = 0u64;
-    let mut i = d.count % 17;
-    while 0 < i {
-        i = i - 1;
-        let u = bus.units[(i % 16) as usize];
-        asking = asking % 65536 * 2 + u.asking as u64 % 2;
-        requesting = requesting % 65536 * 2 + u.serial.requesting as u64 % 2;
-    }
-    let is_free = controller::is_idle(stage);
-    let mut desk = noted::seen(d, bus.levels(), is_free, asking, requesting, rows);
+    let count = d.plan.count;
+    let mut desk = noted::seen(d, parties(bus, count), bus.levels(), rows);
     if pictured::is_wanted(d) {
-        if (d.now == desk::A_ROUND) | (d.said.form == statement::STEP) {
-            desk = pictured::round(desk, marks(bus, d.count), rows, bytes);
+        if (d.act == desk::A_ROUND) | (form == statement::STEP) {
+            desk = pictured::round(desk, marks(bus, count), rows, bytes);
         }
     }
     Bench { bus, desk }
+}
+
+fn parties(bus: Bus, count: u64) -> Seen {
+    let c = bus.controller;
+    let stage = c.stage;
+    let mut s = Seen {
+        is_free: controller::is_idle(stage),
+        asking: 0,
+        requesting: 0,
+    };
+    let mut i = count % 17;
+    while 0 < i {
+        i = i - 1;
+        let u = bus.units[(i % 16) as usize];
+        s.asking = s.asking % 65536 * 2 + u.asking as u64 % 2;
+        s.requesting = s.requesting % 65536 * 2 + u.serial.requesting as u64 % 2;
+    }
+    s
 }
 
 // What the units and the controller leave on the lines.
@@ -230,4 +273,19 @@ fn marks(bus: Bus, count: u64) -> [u8; 22] {
     }
     marks[picture::CONTROLLER] = picture::mark(controller::pulls(bus.controller));
     marks
+}
+
+// The numbers that an expectation finds of a party.
+pub fn looks(bus: Bus, form: u64, party: u64) -> Numbers {
+    if party < 16 {
+        return unitcalls::looks(bus.units[party as usize % 16], form);
+    }
+    controllercalls::looks(bus.controller, form)
+}
+
+// The entries of the ring are noted: how many bytes these are.
+pub fn entries(bus: Bus, bytes: &mut [u8; 159744]) -> u64 {
+    let c = bus.controller;
+    let ring = c.ring;
+    controllercalls::entries(ring, bytes)
 }

@@ -5,8 +5,12 @@ mod bench;
 use asked::Wanted;
 use asked::files;
 use bench::Bench;
+use bus::Bus;
 use desk::Desk;
+use desk::tally;
+use desk::tally::Tally;
 use libc::STDOUT_FILENO;
+use statement::Statement;
 
 // Where the verdict goes.
 const VERDICT: i32 = 9;
@@ -73,15 +77,20 @@ fn lent(forms: &[u8], w: Wanted, text: &mut [u8; 1048577]) -> bool {
 // Each script in the order of the words; whether all of them were played whole and every expectation held.
 fn scripts(forms: &[u8], w: Wanted, text: &mut [u8; 1048577], bytes: &mut [u8; 159744]) -> bool {
     let n = os::arg_count();
-    let mut d = desk::start(0, 0, 0, false);
+    let mut t = Tally {
+        held: 0,
+        failed: 0,
+        logged: 0,
+        is_bad: false,
+    };
     let mut i = 2usize;
     while i < n {
         if i != w.dump {
-            d = named(forms, w, i, desk::again(d), text, bytes);
+            t = named(forms, w, i, t, text, bytes);
         }
         i += 1;
     }
-    desk::tally::all(d, bytes, w.scripts as u64)
+    tally::all(t, bytes, w.scripts as u64)
 }
 
 // The script that a word names; an option is passed over.
@@ -89,43 +98,36 @@ fn named(
     forms: &[u8],
     w: Wanted,
     i: usize,
-    d: Desk,
+    t: Tally,
     text: &mut [u8; 1048577],
     bytes: &mut [u8; 159744],
-) -> Desk {
+) -> Tally {
     let mut name = [0u8; 4096];
     let n = os::arg(i, &mut name);
     let word = &name[..n];
     if asked::is_option(word) {
-        return d;
+        return t;
     }
     let length = files::load(word, text);
-    let dump = playable(forms, w, word, word::front(text, length), d, bytes);
+    let script = word::front(text, length);
+    let dump = playable(forms, w, word, script, bytes);
     if dump < 0 {
-        return desk::tally::not_run(d, bytes, word);
+        return tally::not_run(t, bytes, word);
     }
-    let mut first = d;
-    first.dump = dump;
-    first.is_pictured = 0 < w.pictured;
-    let last = whole(forms, word, word::front(text, length), first, bytes);
-    desk::tally::played(last, word)
+    let mut d = desk::start(t.logged);
+    d.dump = dump;
+    d.is_pictured = 0 < w.pictured;
+    tally::played(t, whole(forms, word, script, d, bytes), word)
 }
 
 // A script is played only if every line of it can be, and its dump can be written: the descriptor of that, 0 for none; -1 for a script that
 // is not played.
-fn playable(
-    forms: &[u8],
-    w: Wanted,
-    name: &[u8],
-    text: &[u8],
-    d: Desk,
-    bytes: &mut [u8; 159744],
-) -> i32 {
+fn playable(forms: &[u8], w: Wanted, name: &[u8], text: &[u8], bytes: &mut [u8; 159744]) -> i32 {
     if text.len() == 0 {
         return -1;
     }
     let mut rows = [0u64; 256];
-    let read = desk::reading::read(forms, name, text, d, &mut rows, bytes);
+    let read = desk::reading::read(forms, name, text, &mut rows, bytes);
     if 0 < read.faults {
         page::show(STDOUT_FILENO, name);
         page::say(STDOUT_FILENO, b": nothing was run\n\n");
@@ -144,7 +146,7 @@ fn whole(forms: &[u8], name: &[u8], text: &[u8], first: Desk, bytes: &mut [u8; 1
     let mut rows = [0u64; 256];
     let mut response = [0u8; 65536];
     let mut memory = [0xEEu8; 12288];
-    acts(
+    lines(
         forms,
         name,
         text,
@@ -156,8 +158,8 @@ fn whole(forms: &[u8], name: &[u8], text: &[u8], first: Desk, bytes: &mut [u8; 1
     )
 }
 
-// What the bus does, act by act.
-fn acts(
+// Line by line.
+fn lines(
     forms: &[u8],
     name: &[u8],
     text: &[u8],
@@ -173,15 +175,103 @@ fn acts(
     };
     let mut i = 0u64;
     while i < 1000000000000000000 {
-        let d = play::next(forms, name, text, b.desk, rows, bytes, response, memory);
-        b.desk = d;
-        if d.now == desk::THE_END {
+        if text.len() <= b.desk.plan.next {
             break;
         }
-        if d.now < desk::NOTHING {
-            b = bench::after(b, rows, bytes, response, memory);
+        b = line(forms, name, text, b, rows, bytes, response, memory);
+        i += 1;
+    }
+    play::ended(name, text, b.desk, rows, bytes)
+}
+
+// The statement of the next line. A `do` has three parts.
+fn line(
+    forms: &[u8],
+    name: &[u8],
+    text: &[u8],
+    first: Bench,
+    rows: &mut [u64; 256],
+    bytes: &mut [u8; 159744],
+    response: &mut [u8; 65536],
+    memory: &mut [u8; 12288],
+) -> Bench {
+    let next = play::stated(forms, name, text, first.desk, bytes);
+    let s = next.statement;
+    let mut b = first;
+    b.desk = play::planned(next.desk, s, rows, bytes);
+    let mut i = 0u64;
+    while i < 3 {
+        b = part(forms, name, text, b, s, rows, bytes, response, memory);
+        if b.desk.part == 0 {
+            break;
         }
         i += 1;
     }
-    b.desk
+    b
+}
+
+// What the bus does for a statement, or for a part of it, and what comes of that.
+fn part(
+    forms: &[u8],
+    name: &[u8],
+    text: &[u8],
+    first: Bench,
+    s: Statement,
+    rows: &mut [u64; 256],
+    bytes: &mut [u8; 159744],
+    response: &mut [u8; 65536],
+    memory: &mut [u8; 12288],
+) -> Bench {
+    let b = bench::acts(first, s, rows, bytes, response, memory);
+    concluded(forms, name, text, b, s, rows, bytes, response, memory)
+}
+
+// After a look at the bus.
+fn concluded<'a>(
+    forms: &[u8],
+    name: &[u8],
+    text: &[u8],
+    b: Bench,
+    s: Statement,
+    rows: &mut [u64; 256],
+    bytes: &mut [u8; 159744],
+    response: &'a [u8; 65536],
+    memory: &'a [u8; 12288],
+) -> Bench {
+    let bus = b.bus;
+    let mut desk = b.desk;
+    desk.entries = bench::entries(bus, bytes);
+    if s.form == statement::SHOW_UNITS {
+        units(bus, desk, forms, rows);
+    }
+    let found = bench::looks(
+        bus,
+        s.form,
+        desk::plan::party(desk.plan, rows, s.numbers.first),
+    );
+    Bench {
+        bus,
+        desk: play::concluded(
+            forms,
+            name,
+            text,
+            desk,
+            s,
+            found,
+            rows,
+            bytes,
+            response,
+            memory,
+        ),
+    }
+}
+
+// Shows each unit.
+fn units(bus: Bus, d: Desk, forms: &[u8], rows: &[u64; 256]) {
+    let mut i = 0u64;
+    while i < d.plan.count % 17 {
+        let looks = bench::looks(bus, statement::LOOKS, i);
+        play::found::show_unit(d, forms, looks, i, rows);
+        i += 1;
+    }
 }

@@ -2,11 +2,13 @@
 use desk::Desk;
 use desk::hosts;
 use desk::judge;
+use desk::plan;
 use desk::tell;
 use statement::HEARD_BYTES;
 use statement::Numbers;
 use statement::OTHER;
 use statement::RING_BYTES;
+use statement::Statement;
 use statement::TAKEN_BYTES;
 
 // An expectation of bytes, or of numbers.
@@ -15,20 +17,21 @@ pub fn expected<'a>(
     name: &[u8],
     text: &[u8],
     d: Desk,
+    s: Statement,
+    looks: Numbers,
     rows: &[u64; 256],
     bytes: &mut [u8; 159744],
     response: &'a [u8; 65536],
     memory: &'a [u8; 12288],
 ) -> Desk {
     let mut page = [0u8; 4096];
-    let mut next = d;
-    let end = if is_of_bytes(d.said.form) {
-        of_bytes(d, name, text, rows, bytes, response, memory, &mut page)
+    let end = if is_of_bytes(s.form) {
+        of_bytes(d, s, name, text, rows, bytes, response, memory, &mut page)
     } else {
-        next.found = numbers(d, rows);
-        judge::numbers(next, forms, name, text, &mut page)
+        let found = numbers(d, s, looks, rows);
+        judge::numbers(d.plan, s, found, forms, name, text, &mut page)
     };
-    judge::judged(next, bytes, &mut page, end)
+    judge::judged(d, bytes, &mut page, end)
 }
 
 fn is_of_bytes(form: u64) -> bool {
@@ -43,6 +46,7 @@ fn is_of_bytes(form: u64) -> bool {
 // ring, those that a stand-in has heard.
 fn of_bytes<'a>(
     d: Desk,
+    s: Statement,
     name: &[u8],
     text: &[u8],
     rows: &[u64; 256],
@@ -51,12 +55,11 @@ fn of_bytes<'a>(
     memory: &'a [u8],
     page: &mut [u8; 4096],
 ) -> usize {
-    let code = d.said.numbers.first;
-    let buffer = 768 * (desk::find(d, rows, code) % 16) as usize;
-    let place = desk::find_stand_in(d, rows, code) % 4;
+    let form = s.form;
+    let code = s.numbers.first;
+    let buffer = 768 * (plan::find(d.plan, rows, code) % 16) as usize;
+    let place = plan::find_stand_in(d.plan, rows, code) % 4;
     let heard = HEARD_BYTES + 1024 * place as usize;
-    let wanted = word::front(bytes, d.said.bytes as usize);
-    let form = d.said.form;
     let found = match form {
         statement::RECEIVED => word::front(response, d.received as usize),
         statement::RESPONSE => response,
@@ -65,17 +68,18 @@ fn of_bytes<'a>(
         statement::RING => word::part(bytes, RING_BYTES, RING_BYTES + (d.entries % 64) as usize),
         _ => word::part(bytes, heard, heard + stand_in::heard(rows, place) % 2048),
     };
-    judge::bytes(d, name, text, wanted, found, page)
+    let wanted = word::front(bytes, s.bytes as usize);
+    judge::bytes(d, form, name, text, wanted, found, page)
 }
 
 // The numbers of the desk and of the lines. Those of a unit or of the controller were found by a look at it.
-fn numbers(d: Desk, rows: &[u64; 256]) -> Numbers {
-    let form = d.said.form;
+fn numbers(d: Desk, s: Statement, looks: Numbers, rows: &[u64; 256]) -> Numbers {
+    let form = s.form;
     let mut n = Numbers::none();
     match form {
-        statement::QUEUED => return d.found,
-        statement::LOOKS..=statement::PULLS => return d.found,
-        statement::STANDS => return d.found,
+        statement::QUEUED => return looks,
+        statement::LOOKS..=statement::PULLS => return looks,
+        statement::STANDS => return looks,
         statement::LINES => {
             let l = crate::levels(d, rows);
             n.first = statement::flag(l.bav);
@@ -83,14 +87,14 @@ fn numbers(d: Desk, rows: &[u64; 256]) -> Numbers {
             n.third = l.nibble as u64;
         }
         statement::TURNS..=statement::WAITED => {
-            let code = d.said.numbers.first;
-            let h = hosts::at(rows, desk::find(d, rows, code));
-            n.first = code;
-            n.second = if form == statement::TURNS {
-                h.turns
+            let row = if form == statement::TURNS {
+                hosts::TURNS
             } else {
-                h.waited
+                hosts::WAITED
             };
+            let code = s.numbers.first;
+            n.first = code;
+            n.second = hosts::number(rows, row, plan::find(d.plan, rows, code));
         }
         _ => n.first = number(d, form, rows),
     }
@@ -123,15 +127,20 @@ pub fn is_quiet(d: Desk, rows: &[u64; 256]) -> bool {
     d.is_free & !is_pulled & (d.requesting == 0)
 }
 
-// A unit in the words in which it is expected, and how many turns it had.
-pub fn show_unit(d: Desk, forms: &[u8], rows: &[u64; 256], i: u64) {
+// The unit at a place in the words in which it is expected, and how many turns it had.
+pub fn show_unit(d: Desk, forms: &[u8], looks: Numbers, i: u64, rows: &[u64; 256]) {
     let mut page = [0u8; 4096];
-    let h = hosts::at(rows, i);
-    put_unit(d, forms, h.turns, &mut page);
+    put_unit(
+        d,
+        forms,
+        looks,
+        hosts::number(rows, hosts::TURNS, i),
+        &mut page,
+    );
 }
 
-fn put_unit(d: Desk, forms: &[u8], turns: u64, page: &mut [u8; 4096]) {
-    let n = fault::statement(page, 0, forms, statement::LOOKS, d.found);
+fn put_unit(d: Desk, forms: &[u8], looks: Numbers, turns: u64, page: &mut [u8; 4096]) {
+    let n = fault::statement(page, 0, forms, statement::LOOKS, looks);
     tell::say(d, tell::ROUND, 0, 0, 0);
     page::say(d.out, word::part(page, 8, n));
     tell::say(d, tell::TURNS, turns, 0, 0);

@@ -1,18 +1,32 @@
 // What is noted and said of what the bus did.
+use desk::A_ROUND;
 use desk::Desk;
 use desk::hosts;
+use desk::plan;
 use desk::tell;
 use line::Lines;
 use statement::NEW;
 use statement::NONE;
 use statement::OTHER;
+use statement::Seen;
+use statement::Statement;
 use statement::Told;
 
-// The unit at a place has acted for the statement, or its host by itself: the number that this came to.
-pub fn of_unit(d: Desk, i: u64, number: u64, rows: &mut [u64; 256], bytes: &[u8; 159744]) -> Desk {
-    let every = d.said.numbers.second;
-    let form = d.said.form;
+// The unit at a place has acted for the statement, or its host by itself in a run: the number that this came to.
+pub fn of_unit(
+    d: Desk,
+    s: Statement,
+    i: u64,
+    number: u64,
+    rows: &mut [u64; 256],
+    bytes: &[u8; 159744],
+) -> Desk {
+    let form = s.form;
+    let every = s.numbers.second;
     let mut next = d;
+    if d.act == A_ROUND {
+        return by_itself(d, i, number, rows, bytes);
+    }
     match form {
         statement::FEED => return desk::refused(d, number),
         statement::TAKE => next.taken = number,
@@ -20,11 +34,10 @@ pub fn of_unit(d: Desk, i: u64, number: u64, rows: &mut [u64; 256], bytes: &[u8;
             if every == NONE {
                 return raised(d, i, number, rows, bytes);
             }
-            return hosts::raise(d, rows, i, every);
+            hosts::raise(rows, i, d.round, every);
+            next.has_raising_hosts = true;
         }
         statement::STEP => return stepped(d, number),
-        statement::DO => return by_itself(d, i, number, rows, bytes),
-        statement::ENDED..=statement::RUN => return by_itself(d, i, number, rows, bytes),
         _ => {}
     }
     next
@@ -33,7 +46,7 @@ pub fn of_unit(d: Desk, i: u64, number: u64, rows: &mut [u64; 256], bytes: &[u8;
 // A request is new, was held already, or is refused.
 fn raised(d: Desk, i: u64, number: u64, rows: &mut [u64; 256], bytes: &[u8; 159744]) -> Desk {
     if number == NEW {
-        let code = desk::code(rows, i);
+        let code = hosts::number(rows, desk::CODES, i);
         hosts::waiting(rows, i, tell::ahead(bytes, code));
         tell::say(d, tell::REQUEST, code, 0, 0);
         return d;
@@ -61,38 +74,55 @@ fn stepped(d: Desk, refusal: u64) -> Desk {
 }
 
 // The controller has acted for the statement: the refusal, 0 for none.
-pub fn of_controller(d: Desk, refusal: u64) -> Desk {
-    let form = d.said.form;
+pub fn of_controller(d: Desk, s: Statement, refusal: u64) -> Desk {
+    let n = s.numbers;
     let mut next = d;
     if 0 < refusal {
         return desk::refused(d, refusal);
     }
-    match form {
-        statement::RESTART => next.is_submitted = false,
-        statement::SUBMIT..=statement::DO => return submitted(d),
-        _ => {}
+    if s.form == statement::RESTART {
+        next.is_submitted = false;
+    }
+    if (statement::SUBMIT <= s.form) & (s.form <= statement::DO) {
+        // What came of the last command is forgotten.
+        next.is_submitted = true;
+        next.length = s.bytes % 65537 + statement::front(n) % 4;
+        next.lent = statement::or(n.sixth, 65535) % 65536;
+        next.status = OTHER;
+        next.request = OTHER;
+        next.received = 0;
     }
     next
 }
 
-// A command is submitted: what came of the last one is forgotten.
-fn submitted(d: Desk) -> Desk {
-    let n = d.said.numbers;
+// A round, or a step of the controller by hand: what it came to. In a round one less is left in which lines are held, and stand-ins step.
+pub fn round(
+    d: Desk,
+    t: Told,
+    seen: Lines,
+    rows: &mut [u64; 256],
+    bytes: &mut [u8; 159744],
+    response: &[u8],
+) -> Desk {
     let mut next = d;
-    next.is_submitted = true;
-    next.length = d.said.bytes % 65537 + statement::front(n) % 4;
-    next.lent = statement::or(n.sixth, 65535) % 65536;
-    next.status = OTHER;
-    next.request = OTHER;
-    next.received = 0;
+    next.round = d.round % desk::FOR_EVER + 1;
+    if d.act == A_ROUND {
+        next.hold = statement::less(d.hold);
+        if 0 < d.plan.stand_ins {
+            stand_in::steps(rows, d.plan.stand_ins, seen, bytes);
+        }
+    } else {
+        next.refusal = 0;
+    }
+    if t.is_told {
+        return told(next, t, rows, response);
+    }
     next
 }
 
 // What a step of the controller has come to.
-pub fn told(d: Desk, t: Told, rows: &mut [u64; 256], response: &[u8]) -> Desk {
-    if 0 < t.frame {
-        framed(d, t, rows);
-    }
+fn told(d: Desk, t: Told, rows: &mut [u64; 256], response: &[u8]) -> Desk {
+    framed(d, t, rows);
     if t.is_ended {
         return finished(d, t, response);
     }
@@ -111,6 +141,7 @@ pub fn told(d: Desk, t: Told, rows: &mut [u64; 256], response: &[u8]) -> Desk {
 fn framed(d: Desk, t: Told, rows: &mut [u64; 256]) {
     let frame = t.frame;
     match frame {
+        statement::NO_FRAME => {}
         statement::OF_THE_APPLICATION => {
             tell::say(d, tell::FRAME, t.command, t.code, 0);
             tell::say(d, tell::LENGTHS, t.buffer, t.length, 0);
@@ -124,10 +155,9 @@ fn framed(d: Desk, t: Told, rows: &mut [u64; 256]) {
 
 // The turn of a code.
 fn turn(d: Desk, words: u64, code: u64, rows: &mut [u64; 256]) {
-    let at = desk::find(d, rows, code);
+    let at = plan::find(d.plan, rows, code);
     hosts::turned(rows, at);
-    let h = hosts::at(rows, at % 16);
-    tell::say(d, words, h.turns, code, 0);
+    tell::say(d, words, hosts::number(rows, hosts::TURNS, at), code, 0);
 }
 
 // The submitted command has ended.
@@ -145,31 +175,30 @@ fn finished(d: Desk, t: Told, response: &[u8]) -> Desk {
 
 // A request is handed over.
 fn handed(d: Desk, code: u64, rows: &mut [u64; 256]) -> Desk {
-    let at = desk::find(d, rows, code) % 16;
-    let h = hosts::at(rows, at);
+    let at = plan::find(d.plan, rows, code);
     let mut next = d;
     next.request = code;
     next.requests = d.requests % 1000000000 + 1;
     hosts::handed(rows, at);
-    tell::say(d, tell::HANDED, code, h.waited, h.ahead);
+    tell::say(
+        d,
+        tell::HANDED,
+        code,
+        hosts::number(rows, hosts::WAITED, at),
+        hosts::number(rows, hosts::AHEAD, at),
+    );
     next
 }
 
-// What is seen of the bus then. Units that begin to pull BAV are named.
-pub fn seen(
-    d: Desk,
-    lines: Lines,
-    is_free: bool,
-    asking: u64,
-    requesting: u64,
-    rows: &[u64; 256],
-) -> Desk {
+// What is seen of the bus after an act. Units that begin to pull BAV are named.
+pub fn seen(d: Desk, s: Seen, lines: Lines, rows: &[u64; 256]) -> Desk {
     let mut next = d;
+    next.done = d.done % desk::FOR_EVER + 1;
     next.lines = lines;
-    next.is_free = is_free;
-    next.asking = asking;
-    next.requesting = requesting;
-    if d.asking != asking {
+    next.is_free = s.is_free;
+    next.asking = s.asking;
+    next.requesting = s.requesting;
+    if d.asking != s.asking {
         asks(next, d.asking, rows);
     }
     next
@@ -181,7 +210,8 @@ fn asks(d: Desk, before: u64, rows: &[u64; 256]) {
     let mut i = 0u64;
     while i < 16 {
         if old % 2 < now % 2 {
-            tell::say(d, tell::PULLS, desk::code(rows, i), 0, 0);
+            let code = hosts::number(rows, desk::CODES, i);
+            tell::say(d, tell::PULLS, code, 0, 0);
         }
         now = now / 2;
         old = old / 2;

@@ -49,8 +49,8 @@ fn dumped(d: Desk, rows: &[u64; 256], before: &[u8; 22], after: &[u8; 22]) -> De
         d.round,
         before,
         after,
-        (d.count % 17) as usize,
-        (d.stand_ins % 5) as usize,
+        (d.plan.count % 17) as usize,
+        (d.plan.stand_ins % 5) as usize,
     );
     next.is_dump_lost = next.is_dump_lost | !ok;
     next
@@ -67,8 +67,8 @@ fn head(d: Desk, rows: &[u64; 256], marks: &[u8; 22]) -> Desk {
     let ok = picture::dump::head(
         d.dump,
         &codes,
-        (d.count % 17) as usize,
-        (d.stand_ins % 5) as usize,
+        (d.plan.count % 17) as usize,
+        (d.plan.stand_ins % 5) as usize,
         marks,
     );
     let mut next = d;

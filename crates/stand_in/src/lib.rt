@@ -164,7 +164,7 @@ impl StandIn {
             return s.released();
         }
         if self.is_slow() {
-            s.holds = less(self.holds);
+            s.holds = statement::less(self.holds);
             return s;
         }
         let act = self.act;
@@ -240,7 +240,7 @@ impl StandIn {
         if self.waits < 2 {
             return s.place(i, bytes);
         }
-        s.waits = less(self.waits);
+        s.waits = statement::less(self.waits);
         s
     }
 
@@ -257,10 +257,6 @@ impl StandIn {
         s.act = PLACED;
         s
     }
-}
-
-fn less(n: u64) -> u64 {
-    if 0 < n { n - 1 } else { 0 }
 }
 
 // Whether a command is to another code than a stand-in's own, where neither is every code.

@@ -157,8 +157,18 @@ pub struct Statement {
     pub bytes: u64,
 }
 
+// What is seen of the parties of a bus: whether the controller may start and nothing is submitted, and a bit for each unit that pulls BAV
+// for a request, and that holds one.
+pub struct Seen {
+    pub is_free: bool,
+    pub asking: u64,
+    pub requesting: u64,
+}
+
 // What a step of the controller has come to.
 pub struct Told {
+    // Whether there is anything to tell.
+    pub is_told: bool,
     // A frame that has begun or ended, NO_FRAME for none, and its device code.
     pub frame: u64,
     pub code: u64,
@@ -281,6 +291,11 @@ pub fn front(n: Numbers) -> u64 {
 // 1 for what is so; what is not so is not found.
 pub fn flag(so: bool) -> u64 {
     if so { 1 } else { NONE }
+}
+
+// One less, where there is one.
+pub fn less(n: u64) -> u64 {
+    if 0 < n { n - 1 } else { 0 }
 }
 
 // So many bytes of the statement go to a place behind them.

@@ -3,29 +3,21 @@ use borrow.Author.Needs.{needs}
 use Prim.Native.Nat.{_-_}
 use Rattle.hexbus.proofs.scripts.Statement.{statement}
 use Rattle.hexbus.proofs.scripts.Tie as tie
-use Rattle.desk.proofs.again.Reads as again-reads
-use Rattle.desk.proofs.start.Reads as start-reads
 use Rattle.desk.proofs.tally.all.Reads as all-reads
 use Rattle.hexbus.proofs.named.Reads as named-reads
 use Rattle.os.proofs.arg_count.Reads as arg-count-reads
 
 abbrev Inv-loop : tie.InvT-loop
-Inv-loop forms w text₀ bytes₀ n d₀ i₀ text bytes d i = Unit {0}
+Inv-loop forms w text₀ bytes₀ n t₀ i₀ text bytes t i = Unit {0}
 
 abbrev μ-loop : tie.MeasureT-loop
-μ-loop forms w text₀ bytes₀ n d₀ i₀ text bytes d i = n - i
+μ-loop forms w text₀ bytes₀ n t₀ i₀ text bytes t i = n - i
 
 arg-count-requires : tie.Need-arg-count-requires Inv-loop μ-loop
 arg-count-requires c κs = search needs
 
-start-requires : tie.Need-start-requires Inv-loop μ-loop
-start-requires c κs = search needs
-
 loop-holds : tie.Need-loop-holds Inv-loop μ-loop
 loop-holds c = search needs
-
-again-requires : tie.Need-again-requires Inv-loop μ-loop
-again-requires c κs = search needs
 
 named-requires : tie.Need-named-requires Inv-loop μ-loop
 named-requires c κs = search needs
@@ -52,9 +44,7 @@ scripts-spec =
     Inv-loop
     μ-loop
     arg-count-requires
-    start-requires
     loop-holds
-    again-requires
     named-requires
     add-i
     loop-less

@@ -1,27 +1,20 @@
 -- What is left to go through grows less.
 use borrow.Author.Needs.{needs}
-use Prim.Native.Nat.{_-_}
 use Rattle.desk.proofs.hosts.busy_hosts.Statement.{statement}
 use Rattle.desk.proofs.hosts.busy_hosts.Tie as tie
-use Rattle.desk.proofs.hosts.Host.is_busy.Reads as is-busy-reads
-use Rattle.desk.proofs.hosts.Host.later.Reads as later-reads
-use Rattle.desk.proofs.hosts.at.Reads as at-reads
-use Rattle.desk.proofs.hosts.put.Reads as put-reads
+use Rattle.desk.proofs.hosts.is_busy.Reads as is-busy-reads
 
 abbrev Inv-loop : tie.InvT-loop
 Inv-loop rows₀ hosts₀ i₀ rows hosts i = Unit {0}
 
 abbrev μ-loop : tie.MeasureT-loop
-μ-loop rows₀ hosts₀ i₀ rows hosts i = 17 - i
+μ-loop rows₀ hosts₀ i₀ rows hosts i = i
 
 loop-holds : tie.Need-loop-holds Inv-loop μ-loop
 loop-holds c = search needs
 
-sub-at : tie.Need-sub-at Inv-loop μ-loop
-sub-at c = search needs
-
-at-requires : tie.Need-at-requires Inv-loop μ-loop
-at-requires c κs = search needs
+sub-i : tie.Need-sub-i Inv-loop μ-loop
+sub-i c = search needs
 
 mul-hosts : tie.Need-mul-hosts Inv-loop μ-loop
 mul-hosts c = search needs
@@ -34,18 +27,6 @@ cast-hosts c = search needs
 
 add-hosts : tie.Need-add-hosts Inv-loop μ-loop
 add-hosts c = search needs
-
-sub-put : tie.Need-sub-put Inv-loop μ-loop
-sub-put c = search needs
-
-later-requires : tie.Need-later-requires Inv-loop μ-loop
-later-requires c κs = search needs
-
-put-requires : tie.Need-put-requires Inv-loop μ-loop
-put-requires c κs = search needs
-
-add-i : tie.Need-add-i Inv-loop μ-loop
-add-i c = search needs
 
 loop-less : tie.Need-loop-less Inv-loop μ-loop
 loop-less c = search needs
@@ -63,16 +44,11 @@ busy-hosts-spec =
     Inv-loop
     μ-loop
     loop-holds
-    sub-at
-    at-requires
+    sub-i
     mul-hosts
     is-busy-requires
     cast-hosts
     add-hosts
-    sub-put
-    later-requires
-    put-requires
-    add-i
     loop-less
     loop-again
     returns)

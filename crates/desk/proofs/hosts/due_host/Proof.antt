@@ -3,8 +3,7 @@ use borrow.Author.Needs.{needs}
 use Prim.Native.Nat.{_-_}
 use Rattle.desk.proofs.hosts.due_host.Statement.{statement}
 use Rattle.desk.proofs.hosts.due_host.Tie as tie
-use Rattle.desk.proofs.hosts.at.Reads as at-reads
-use Rattle.desk.proofs.hosts.put.Reads as put-reads
+use Rattle.desk.proofs.hosts.is_due.Reads as is-due-reads
 
 abbrev Inv-loop : tie.InvT-loop
 Inv-loop d rows₀ i₀ rows i = Unit {0}
@@ -15,14 +14,8 @@ abbrev μ-loop : tie.MeasureT-loop
 loop-holds : tie.Need-loop-holds Inv-loop μ-loop
 loop-holds c = search needs
 
-at-requires : tie.Need-at-requires Inv-loop μ-loop
-at-requires c κs = search needs
-
-add-h : tie.Need-add-h Inv-loop μ-loop
-add-h c = search needs
-
-put-requires : tie.Need-put-requires Inv-loop μ-loop
-put-requires c κs = search needs
+is-due-requires : tie.Need-is-due-requires Inv-loop μ-loop
+is-due-requires c κs = search needs
 
 returns : tie.Need-returns Inv-loop μ-loop
 returns c = search needs
@@ -46,9 +39,7 @@ due-host-spec =
     Inv-loop
     μ-loop
     loop-holds
-    at-requires
-    add-h
-    put-requires
+    is-due-requires
     returns
     add-i
     loop-less

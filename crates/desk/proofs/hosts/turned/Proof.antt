@@ -3,8 +3,6 @@ use borrow.Author.Needs.{needs}
 use Prim.Native.Nat.{_-_}
 use Rattle.desk.proofs.hosts.turned.Statement.{statement}
 use Rattle.desk.proofs.hosts.turned.Tie as tie
-use Rattle.desk.proofs.hosts.at.Reads as at-reads
-use Rattle.desk.proofs.hosts.put.Reads as put-reads
 
 abbrev Inv-loop : tie.InvT-loop
 Inv-loop rows₀ place i₀ rows i = Unit {0}
@@ -15,20 +13,35 @@ abbrev μ-loop : tie.MeasureT-loop
 loop-holds : tie.Need-loop-holds Inv-loop μ-loop
 loop-holds c = search needs
 
-at-requires : tie.Need-at-requires Inv-loop μ-loop
-at-requires c κs = search needs
+add-rows : tie.Need-add-rows Inv-loop μ-loop
+add-rows c = search needs
 
-add-h : tie.Need-add-h Inv-loop μ-loop
-add-h c = search needs
+mul-rows : tie.Need-mul-rows Inv-loop μ-loop
+mul-rows c = search needs
 
-cast-h : tie.Need-cast-h Inv-loop μ-loop
-cast-h c = search needs
+element-copy-out-rows : tie.Need-element-copy-out-rows Inv-loop μ-loop
+element-copy-out-rows c = search needs
 
-add-h-2 : tie.Need-add-h-2 Inv-loop μ-loop
-add-h-2 c = search needs
+add-rows-2 : tie.Need-add-rows-2 Inv-loop μ-loop
+add-rows-2 c = search needs
 
-put-requires : tie.Need-put-requires Inv-loop μ-loop
-put-requires c κs = search needs
+mul-rows-2 : tie.Need-mul-rows-2 Inv-loop μ-loop
+mul-rows-2 c = search needs
+
+element-copy-out-rows-2 : tie.Need-element-copy-out-rows-2 Inv-loop μ-loop
+element-copy-out-rows-2 c = search needs
+
+add-rows-3 : tie.Need-add-rows-3 Inv-loop μ-loop
+add-rows-3 c = search needs
+
+add-rows-4 : tie.Need-add-rows-4 Inv-loop μ-loop
+add-rows-4 c = search needs
+
+mul-rows-3 : tie.Need-mul-rows-3 Inv-loop μ-loop
+mul-rows-3 c = search needs
+
+element-write-rows : tie.Need-element-write-rows Inv-loop μ-loop
+element-write-rows c = search needs
 
 add-i : tie.Need-add-i Inv-loop μ-loop
 add-i c = search needs
@@ -39,8 +52,29 @@ loop-less c = search needs
 loop-again : tie.Need-loop-again Inv-loop μ-loop
 loop-again c = search needs
 
+add-at : tie.Need-add-at Inv-loop μ-loop
+add-at c = search needs
+
+mul-rows-4 : tie.Need-mul-rows-4 Inv-loop μ-loop
+mul-rows-4 c = search needs
+
+element-copy-out-rows-3 : tie.Need-element-copy-out-rows-3 Inv-loop μ-loop
+element-copy-out-rows-3 c = search needs
+
+add-rows-5 : tie.Need-add-rows-5 Inv-loop μ-loop
+add-rows-5 c = search needs
+
+mul-rows-5 : tie.Need-mul-rows-5 Inv-loop μ-loop
+mul-rows-5 c = search needs
+
+element-write-rows-2 : tie.Need-element-write-rows-2 Inv-loop μ-loop
+element-write-rows-2 c = search needs
+
 returns : tie.Need-returns Inv-loop μ-loop
 returns c = search needs
+
+returns-2 : tie.Need-returns-2 Inv-loop μ-loop
+returns-2 c = search needs
 
 pub turned-spec : {M : Type 1} → statement M
 turned-spec =
@@ -49,12 +83,24 @@ turned-spec =
     Inv-loop
     μ-loop
     loop-holds
-    at-requires
-    add-h
-    cast-h
-    add-h-2
-    put-requires
+    add-rows
+    mul-rows
+    element-copy-out-rows
+    add-rows-2
+    mul-rows-2
+    element-copy-out-rows-2
+    add-rows-3
+    add-rows-4
+    mul-rows-3
+    element-write-rows
     add-i
     loop-less
     loop-again
-    returns)
+    add-at
+    mul-rows-4
+    element-copy-out-rows-3
+    add-rows-5
+    mul-rows-5
+    element-write-rows-2
+    returns
+    returns-2)

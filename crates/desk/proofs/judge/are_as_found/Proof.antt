@@ -7,10 +7,10 @@ use Rattle.statement.proofs.Numbers.at.Reads as at-reads
 use Rattle.statement.proofs.or.Reads as or-reads
 
 abbrev Inv-loop : tie.InvT-loop
-Inv-loop named found form lowest i₀ i = Unit {0}
+Inv-loop found named form lowest i₀ i = Unit {0}
 
 abbrev μ-loop : tie.MeasureT-loop
-μ-loop named found form lowest i₀ i = 13 - i
+μ-loop found named form lowest i₀ i = 13 - i
 
 loop-holds : tie.Need-loop-holds Inv-loop μ-loop
 loop-holds c = search needs

@@ -3,14 +3,18 @@ use borrow.Author.Needs.{needs}
 use Prim.Native.Nat.{_-_}
 use Rattle.desk.proofs.reading.read.Statement.{statement}
 use Rattle.desk.proofs.reading.read.Tie as tie
+use Rattle.desk.proofs.plan.start.Reads as start-reads
 use Rattle.desk.proofs.reading.checked.Reads as checked-reads
 use Rattle.desk.proofs.reading.ended.Reads as ended-reads
 
 abbrev Inv-loop : tie.InvT-loop
-Inv-loop forms name text rows₀ bytes₀ d₀ i₀ rows bytes d i = Unit {0}
+Inv-loop forms name text rows₀ bytes₀ p₀ i₀ rows bytes p i = Unit {0}
 
 abbrev μ-loop : tie.MeasureT-loop
-μ-loop forms name text rows₀ bytes₀ d₀ i₀ rows bytes d i = 1000000000 - i
+μ-loop forms name text rows₀ bytes₀ p₀ i₀ rows bytes p i = 1000000000 - i
+
+start-requires : tie.Need-start-requires Inv-loop μ-loop
+start-requires c κs = search needs
 
 loop-holds : tie.Need-loop-holds Inv-loop μ-loop
 loop-holds c = search needs
@@ -39,6 +43,7 @@ read-spec =
     (tie.spec
     Inv-loop
     μ-loop
+    start-requires
     loop-holds
     checked-requires
     add-i

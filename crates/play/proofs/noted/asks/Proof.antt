@@ -3,7 +3,7 @@ use borrow.Author.Needs.{needs}
 use Prim.Native.Nat.{_-_}
 use Rattle.play.proofs.noted.asks.Statement.{statement}
 use Rattle.play.proofs.noted.asks.Tie as tie
-use Rattle.desk.proofs.code.Reads as code-reads
+use Rattle.desk.proofs.hosts.number.Reads as number-reads
 use Rattle.desk.proofs.tell.say.Reads as say-reads
 
 abbrev Inv-loop : tie.InvT-loop
@@ -15,8 +15,8 @@ abbrev μ-loop : tie.MeasureT-loop
 loop-holds : tie.Need-loop-holds Inv-loop μ-loop
 loop-holds c = search needs
 
-code-requires : tie.Need-code-requires Inv-loop μ-loop
-code-requires c κs = search needs
+number-requires : tie.Need-number-requires Inv-loop μ-loop
+number-requires c κs = search needs
 
 say-requires : tie.Need-say-requires Inv-loop μ-loop
 say-requires c κs = search needs
@@ -40,7 +40,7 @@ asks-spec =
     Inv-loop
     μ-loop
     loop-holds
-    code-requires
+    number-requires
     say-requires
     add-i
     loop-less

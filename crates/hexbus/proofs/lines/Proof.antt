@@ -1,11 +1,11 @@
 -- What is left to go through grows less.
 use borrow.Author.Needs.{needs}
 use Prim.Native.Nat.{_-_}
-use Rattle.hexbus.proofs.acts.Statement.{statement}
-use Rattle.hexbus.proofs.acts.Tie as tie
-use Rattle.hexbus.proofs.bench.after.Reads as after-reads
+use Rattle.hexbus.proofs.lines.Statement.{statement}
+use Rattle.hexbus.proofs.lines.Tie as tie
 use Rattle.hexbus.proofs.bench.start.Reads as start-reads
-use Rattle.play.proofs.next.Reads as next-reads
+use Rattle.hexbus.proofs.line.Reads as line-reads
+use Rattle.play.proofs.ended.Reads as ended-reads
 
 abbrev Inv-loop : tie.InvT-loop
 Inv-loop forms name text rows₀ bytes₀ response₀ memory₀ b₀ i₀ rows bytes response memory b i = Unit {0}
@@ -19,11 +19,8 @@ start-requires c κs = search needs
 loop-holds : tie.Need-loop-holds Inv-loop μ-loop
 loop-holds c = search needs
 
-next-requires : tie.Need-next-requires Inv-loop μ-loop
-next-requires c κs = search needs
-
-after-requires : tie.Need-after-requires Inv-loop μ-loop
-after-requires c κs = search needs
+line-requires : tie.Need-line-requires Inv-loop μ-loop
+line-requires c κs = search needs
 
 add-i : tie.Need-add-i Inv-loop μ-loop
 add-i c = search needs
@@ -34,20 +31,23 @@ loop-less c = search needs
 loop-again : tie.Need-loop-again Inv-loop μ-loop
 loop-again c = search needs
 
+ended-requires : tie.Need-ended-requires Inv-loop μ-loop
+ended-requires c κs = search needs
+
 returns : tie.Need-returns Inv-loop μ-loop
 returns c = search needs
 
-pub acts-spec : {M : Type 1} → statement M
-acts-spec =
+pub lines-spec : {M : Type 1} → statement M
+lines-spec =
     tie.close
     (tie.spec
     Inv-loop
     μ-loop
     start-requires
     loop-holds
-    next-requires
-    after-requires
+    line-requires
     add-i
     loop-less
     loop-again
+    ended-requires
     returns)

@@ -1,8 +1,8 @@
 -- What is left to go through grows less.
 use borrow.Author.Needs.{needs}
 use Prim.Native.Nat.{_-_}
-use Rattle.desk.proofs.place_of.Statement.{statement}
-use Rattle.desk.proofs.place_of.Tie as tie
+use Rattle.desk.proofs.plan.place_of.Statement.{statement}
+use Rattle.desk.proofs.plan.place_of.Tie as tie
 
 abbrev Inv-loop : tie.InvT-loop
 Inv-loop rows row count number n i₀ i = Unit {0}
