@@ -25,9 +25,9 @@ pub fn told(before: Stage, c: Controller, outcome: Stepping) -> Told {
             }
             Event::Handed(code) => t.handed = code as u64,
         },
-        Stepping::Level => t.refusal = 5,
-        Stepping::Data => t.refusal = 10,
-        Stepping::Buffer => t.refusal = 11,
+        Stepping::Level => t.number = 5,
+        Stepping::Data => t.number = 10,
+        Stepping::Buffer => t.number = 11,
     }
     t
 }
@@ -38,12 +38,14 @@ fn framed(before: Stage, after: Stage, ring: Ring) -> Told {
         Stage::Free => service(after, ring),
         Stage::Waiting(f) => submitted(f),
         Stage::Listening(f, _, r, _) => ended(after, f, r.status()),
-        _ => nothing(),
+        _ => number(0),
     }
 }
 
-fn nothing() -> Told {
+// A call has come to a number.
+pub fn number(number: u64) -> Told {
     Told {
+        number,
         is_told: false,
         frame: statement::NO_FRAME,
         code: 0,
@@ -54,14 +56,13 @@ fn nothing() -> Told {
         is_ended: false,
         received: 0,
         handed: 0,
-        refusal: 0,
     }
 }
 
 // The application's frame begins.
 fn submitted(f: Frame) -> Told {
     let k = f.command;
-    let mut t = nothing();
+    let mut t = number(0);
     t.frame = statement::OF_THE_APPLICATION;
     t.code = k.device as u64;
     t.command = k.command as u64;
@@ -72,7 +73,7 @@ fn submitted(f: Frame) -> Told {
 
 // A service frame begins: the entry whose turn it is has moved to the back.
 fn service(after: Stage, ring: Ring) -> Told {
-    let mut t = nothing();
+    let mut t = number(0);
     let Stage::Sending(f, _, _, _) = after else {
         return t;
     };
@@ -89,7 +90,7 @@ fn service(after: Stage, ring: Ring) -> Told {
 
 // A service frame has ended where the controller listened and now rests.
 fn ended(after: Stage, f: Frame, status: u8) -> Told {
-    let mut t = nothing();
+    let mut t = number(0);
     let Stage::Resting(_) = after else {
         return t;
     };

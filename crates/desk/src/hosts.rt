@@ -31,10 +31,15 @@ pub fn number(rows: &[u64; 256], row: usize, place: u64) -> u64 {
     rows[row % 128 + (place % 16) as usize]
 }
 
-// The hosts that are busy in the next round, a bit for each; then each is busy for one round less.
-pub fn busy_hosts(d: Desk, rows: &mut [u64; 256]) -> u32 {
+// The hosts that are busy in a round, a bit for each; then each is busy for one round less.
+pub fn busy_hosts(d: Desk, act: u64, rows: &mut [u64; 256]) -> u32 {
+    let is_round = act == statement::A_ROUND;
     let mut hosts = 0u32;
-    let mut i = if d.has_busy_hosts { 17usize } else { 0 };
+    let mut i = if d.has_busy_hosts & is_round {
+        17usize
+    } else {
+        0
+    };
     while 0 < i {
         i = i - 1;
         hosts = hosts % 65536 * 2 + is_busy(rows, i) as u32 % 2;
@@ -74,16 +79,22 @@ pub fn raise(rows: &mut [u64; 256], place: u64, round: u64, every: u64) {
     rows[DUE + i] = round;
 }
 
-// The place of a host that is to raise a request by itself in this round, 16 for none. It is next due so many rounds later.
-pub fn due_host(d: Desk, rows: &mut [u64; 256]) -> u64 {
-    let mut i = if d.has_raising_hosts { 0u64 } else { 16 };
+// What the bus does now. Before a round it is an act of a unit whose host is due to raise a request by itself, which is then due again so
+// many rounds later.
+pub fn now(d: Desk, rows: &mut [u64; 256]) -> u64 {
+    let is_round = d.act == statement::A_ROUND;
+    let mut i = if d.has_raising_hosts & !d.has_raised & is_round {
+        0u64
+    } else {
+        16
+    };
     while i < 16 {
         if is_due(rows, i, d.round) {
             return i;
         }
         i += 1;
     }
-    16
+    d.act
 }
 
 fn is_due(rows: &mut [u64; 256], place: u64, round: u64) -> bool {

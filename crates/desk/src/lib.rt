@@ -44,9 +44,10 @@ pub struct Desk {
     pub refusal: u64,
     // How many bytes were last taken.
     pub taken: u64,
-    // Whether hosts are ever busy, and raise requests by themselves.
+    // Whether hosts are ever busy, whether they raise requests by themselves, and whether one has done so before the present round.
     pub has_busy_hosts: bool,
     pub has_raising_hosts: bool,
+    pub has_raised: bool,
     // For how many rounds more lines are held low from outside, and which.
     pub hold: u64,
     pub held_low: Lines,
@@ -87,13 +88,6 @@ pub const UNREACHED: u64 = 99;
 // A host that is busy for so many rounds is busy for ever.
 pub const FOR_EVER: u64 = 1000000000000;
 
-// What the bus may do: a call or a step of the unit at a place under 16, the same of the controller, a round, a unit more.
-pub const OF_CONTROLLER: u64 = 16;
-
-pub const A_ROUND: u64 = 17;
-
-pub const ONE_MORE: u64 = 18;
-
 // The desk before the first statement of a script, with so many letters of failures.
 pub fn start(logged: usize) -> Desk {
     let released = Lines {
@@ -123,6 +117,7 @@ pub fn start(logged: usize) -> Desk {
         taken: 0,
         has_busy_hosts: false,
         has_raising_hosts: false,
+        has_raised: false,
         hold: 0,
         held_low: released,
         lines: released,

@@ -1,16 +1,23 @@
 // Runs a bus on a desk: a controller and up to sixteen units, played by a script (docs/SCRIPTS.md). A program has no exit status: at its
 // very end it writes `ok` to descriptor 9 if all that it was asked for was done and every expectation held. The launcher reads that.
-mod bench;
-
 use asked::Wanted;
 use asked::files;
-use bench::Bench;
+use bench::Acted;
 use bus::Bus;
 use desk::Desk;
+use desk::hosts;
 use desk::tally;
 use desk::tally::Tally;
 use libc::STDOUT_FILENO;
+use play::noted;
+use play::pictured;
 use statement::Statement;
+
+// A bus, and what is kept beside it.
+struct Bench {
+    bus: Bus,
+    desk: Desk,
+}
 
 // Where the verdict goes.
 const VERDICT: i32 = 9;
@@ -222,8 +229,78 @@ fn part(
     response: &mut [u8; 65536],
     memory: &mut [u8; 12288],
 ) -> Bench {
-    let b = bench::acts(first, s, rows, bytes, response, memory);
+    let b = acts(first, s, rows, bytes, response, memory);
     concluded(forms, name, text, b, s, rows, bytes, response, memory)
+}
+
+// As often as it is to.
+fn acts(
+    first: Bench,
+    s: Statement,
+    rows: &mut [u64; 256],
+    bytes: &mut [u8; 159744],
+    response: &mut [u8; 65536],
+    memory: &mut [u8; 12288],
+) -> Bench {
+    let mut b = first;
+    let mut i = 0u64;
+    while i < 1000000000000000000 {
+        if !play::goes_on(b.desk, rows) {
+            break;
+        }
+        b = act(b, s, rows, bytes, response, memory);
+        i += 1;
+    }
+    b
+}
+
+fn act(
+    b: Bench,
+    s: Statement,
+    rows: &mut [u64; 256],
+    bytes: &mut [u8; 159744],
+    response: &mut [u8; 65536],
+    memory: &mut [u8; 12288],
+) -> Bench {
+    let d = b.desk;
+    let act = hosts::now(d, rows);
+    let busy = hosts::busy_hosts(d, act, rows);
+    let levels = play::levels_for(d, s, act, rows);
+    let a = bench::act(
+        b.bus,
+        act,
+        s,
+        levels,
+        busy,
+        d.length,
+        d.lent,
+        bytes,
+        response,
+        memory,
+    );
+    let t = a.told;
+    let next = noted::acted(d, s, act, t, levels, rows, bytes, response);
+    acted(a, next, pictured::is_wanted(d, act, s.form), rows, bytes)
+}
+
+// What is seen of the bus after an act. A request that is handed over is acknowledged at once, where the script says so.
+fn acted(
+    a: Acted,
+    d: Desk,
+    is_pictured: bool,
+    rows: &mut [u64; 256],
+    bytes: &mut [u8; 159744],
+) -> Bench {
+    let mut bus = a.bus;
+    if (0 < a.told.handed) & d.acknowledges {
+        bus = bench::acknowledged(bus, a.told.handed);
+    }
+    let s = bench::seen(bus, d.plan.count);
+    let mut desk = noted::seen(d, s.lines, s.is_free, s.asking, s.requesting, rows);
+    if is_pictured {
+        desk = pictured::round(desk, bench::marks(bus, d.plan.count), rows, bytes);
+    }
+    Bench { bus, desk }
 }
 
 // After a look at the bus.

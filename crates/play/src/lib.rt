@@ -4,17 +4,17 @@ pub mod found;
 pub mod noted;
 pub mod pictured;
 
-use desk::A_ROUND;
 use desk::Desk;
-use desk::OF_CONTROLLER;
-use desk::ONE_MORE;
 use desk::hosts;
 use desk::judge;
 use desk::plan;
 use desk::tell;
 use libc::STDERR_FILENO;
 use line::Lines;
+use statement::A_ROUND;
 use statement::Numbers;
+use statement::OF_CONTROLLER;
+use statement::ONE_MORE;
 use statement::Statement;
 
 // A run until something has happened is at most so long, where the script sets no limit.
@@ -174,6 +174,14 @@ pub fn levels(d: Desk, rows: &[u64; 256]) -> Lines {
         return line::wired(l, d.held_low);
     }
     l
+}
+
+// The levels at which the bus acts: these in a round, and else those that the statement names.
+pub fn levels_for(d: Desk, s: Statement, act: u64, rows: &[u64; 256]) -> Lines {
+    if act == A_ROUND {
+        return levels(d, rows);
+    }
+    desk::levels(s.numbers)
 }
 
 // The bus has done what it was to do for a statement, or for a part of it, which is then numbered. What a look at a party has found.

@@ -1,19 +1,51 @@
 // What is noted and said of what the bus did.
-use desk::A_ROUND;
 use desk::Desk;
 use desk::hosts;
 use desk::plan;
 use desk::tell;
 use line::Lines;
+use statement::A_ROUND;
 use statement::NEW;
 use statement::NONE;
+use statement::OF_CONTROLLER;
+use statement::ONE_MORE;
 use statement::OTHER;
-use statement::Seen;
 use statement::Statement;
 use statement::Told;
 
-// The unit at a place has acted for the statement, or its host by itself in a run: the number that this came to.
-pub fn of_unit(
+// What an act of the bus at these levels came to.
+pub fn acted(
+    d: Desk,
+    s: Statement,
+    act: u64,
+    t: Told,
+    levels: Lines,
+    rows: &mut [u64; 256],
+    bytes: &mut [u8; 159744],
+    response: &[u8],
+) -> Desk {
+    if (act < 16) & (d.act == A_ROUND) {
+        return by_itself(d, act, t.number, rows, bytes);
+    }
+    let mut next = d;
+    next.done = d.done % desk::FOR_EVER + 1;
+    match act {
+        A_ROUND => round(next, t, levels, rows, bytes, response),
+        OF_CONTROLLER => of_controller(next, s, t, rows, response),
+        ONE_MORE => one_more(next, s, t.number, rows),
+        _ => of_unit(next, s, act, t.number, rows, bytes),
+    }
+}
+
+// One unit more, if its settings are in range.
+fn one_more(d: Desk, s: Statement, refusal: u64, rows: &mut [u64; 256]) -> Desk {
+    let mut next = desk::refused(d, refusal);
+    next.plan = plan::unit(d.plan, s.numbers, rows);
+    next
+}
+
+// The unit at a place has acted for the statement: the number that this came to.
+fn of_unit(
     d: Desk,
     s: Statement,
     i: u64,
@@ -24,9 +56,6 @@ pub fn of_unit(
     let form = s.form;
     let every = s.numbers.second;
     let mut next = d;
-    if d.act == A_ROUND {
-        return by_itself(d, i, number, rows, bytes);
-    }
     match form {
         statement::FEED => return desk::refused(d, number),
         statement::TAKE => next.taken = number,
@@ -57,6 +86,7 @@ fn raised(d: Desk, i: u64, number: u64, rows: &mut [u64; 256], bytes: &[u8; 1597
 // A request of a host that raises by itself. A refusal before it in the same run stands.
 fn by_itself(d: Desk, i: u64, number: u64, rows: &mut [u64; 256], bytes: &[u8; 159744]) -> Desk {
     let mut next = raised(d, i, number, rows, bytes);
+    next.has_raised = true;
     if (number == NEW) | (number == 0) {
         next.refusal = d.refusal;
         return next;
@@ -73,12 +103,17 @@ fn stepped(d: Desk, refusal: u64) -> Desk {
     next
 }
 
-// The controller has acted for the statement: the refusal, 0 for none.
-pub fn of_controller(d: Desk, s: Statement, refusal: u64) -> Desk {
+// The controller has acted for the statement.
+fn of_controller(d: Desk, s: Statement, t: Told, rows: &mut [u64; 256], response: &[u8]) -> Desk {
     let n = s.numbers;
     let mut next = d;
-    if 0 < refusal {
-        return desk::refused(d, refusal);
+    if s.form == statement::STEP {
+        next.round = d.round % desk::FOR_EVER + 1;
+        next.refusal = 0;
+        return told(next, t, rows, response);
+    }
+    if 0 < t.number {
+        return desk::refused(d, t.number);
     }
     if s.form == statement::RESTART {
         next.is_submitted = false;
@@ -95,24 +130,21 @@ pub fn of_controller(d: Desk, s: Statement, refusal: u64) -> Desk {
     next
 }
 
-// A round, or a step of the controller by hand: what it came to. In a round one less is left in which lines are held, and stand-ins step.
-pub fn round(
+// A round: one less is left in which lines are held, and stand-ins step.
+fn round(
     d: Desk,
     t: Told,
-    seen: Lines,
+    levels: Lines,
     rows: &mut [u64; 256],
     bytes: &mut [u8; 159744],
     response: &[u8],
 ) -> Desk {
     let mut next = d;
+    next.has_raised = false;
     next.round = d.round % desk::FOR_EVER + 1;
-    if d.act == A_ROUND {
-        next.hold = statement::less(d.hold);
-        if 0 < d.plan.stand_ins {
-            stand_in::steps(rows, d.plan.stand_ins, seen, bytes);
-        }
-    } else {
-        next.refusal = 0;
+    next.hold = statement::less(d.hold);
+    if 0 < d.plan.stand_ins {
+        stand_in::steps(rows, d.plan.stand_ins, levels, bytes);
     }
     if t.is_told {
         return told(next, t, rows, response);
@@ -129,8 +161,8 @@ fn told(d: Desk, t: Told, rows: &mut [u64; 256], response: &[u8]) -> Desk {
     if 0 < t.handed {
         return handed(d, t.handed, rows);
     }
-    if 0 < t.refusal {
-        let next = desk::refused(d, t.refusal);
+    if 0 < t.number {
+        let next = desk::refused(d, t.number);
         tell::refusal(next, statement::RUN);
         return next;
     }
@@ -191,14 +223,20 @@ fn handed(d: Desk, code: u64, rows: &mut [u64; 256]) -> Desk {
 }
 
 // What is seen of the bus after an act. Units that begin to pull BAV are named.
-pub fn seen(d: Desk, s: Seen, lines: Lines, rows: &[u64; 256]) -> Desk {
+pub fn seen(
+    d: Desk,
+    lines: Lines,
+    is_free: bool,
+    asking: u64,
+    requesting: u64,
+    rows: &[u64; 256],
+) -> Desk {
     let mut next = d;
-    next.done = d.done % desk::FOR_EVER + 1;
     next.lines = lines;
-    next.is_free = s.is_free;
-    next.asking = s.asking;
-    next.requesting = s.requesting;
-    if d.asking != s.asking {
+    next.is_free = is_free;
+    next.asking = asking;
+    next.requesting = requesting;
+    if d.asking != asking {
         asks(next, d.asking, rows);
     }
     next

@@ -6,9 +6,10 @@ use picture::ALL;
 use picture::RELEASED;
 use statement::STRIP_BYTES;
 
-// Whether rounds are dumped or pictured.
-pub fn is_wanted(d: Desk) -> bool {
-    (0 < d.dump) | d.is_pictured
+// Whether an act is dumped or pictured: a round, or a step by hand.
+pub fn is_wanted(d: Desk, act: u64, form: u64) -> bool {
+    let is_stepped = (act == statement::A_ROUND) | (form == statement::STEP);
+    is_stepped & ((0 < d.dump) | d.is_pictured)
 }
 
 // Behind a round, or a step by hand: what each party leaves on the lines, units by their place, then the controller. All together and

@@ -157,17 +157,18 @@ pub struct Statement {
     pub bytes: u64,
 }
 
-// What is seen of the parties of a bus: whether the controller may start and nothing is submitted, and a bit for each unit that pulls BAV
-// for a request, and that holds one.
-pub struct Seen {
-    pub is_free: bool,
-    pub asking: u64,
-    pub requesting: u64,
-}
+// What the bus may do for a statement: a call or a step of the unit at a place under 16, the same of the controller, a round, a unit more.
+pub const OF_CONTROLLER: u64 = 16;
 
-// What a step of the controller has come to.
+pub const A_ROUND: u64 = 17;
+
+pub const ONE_MORE: u64 = 18;
+
+// What an act has come to.
 pub struct Told {
-    // Whether there is anything to tell.
+    // The number of a call: its refusal, 0 for none; how many bytes were taken; NEW for a request that is new.
+    pub number: u64,
+    // Whether there is anything to tell of a step of the controller.
     pub is_told: bool,
     // A frame that has begun or ended, NO_FRAME for none, and its device code.
     pub frame: u64,
@@ -181,8 +182,6 @@ pub struct Told {
     pub is_ended: bool,
     pub received: u64,
     pub handed: u64,
-    // The refusal, 0 for none.
-    pub refusal: u64,
 }
 
 pub const NO_FRAME: u64 = 0;

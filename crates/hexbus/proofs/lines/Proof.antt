@@ -3,7 +3,7 @@ use borrow.Author.Needs.{needs}
 use Prim.Native.Nat.{_-_}
 use Rattle.hexbus.proofs.lines.Statement.{statement}
 use Rattle.hexbus.proofs.lines.Tie as tie
-use Rattle.hexbus.proofs.bench.start.Reads as start-reads
+use Rattle.bench.proofs.start.Reads as start-reads
 use Rattle.hexbus.proofs.line.Reads as line-reads
 use Rattle.play.proofs.ended.Reads as ended-reads
 

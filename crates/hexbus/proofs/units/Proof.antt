@@ -3,7 +3,7 @@ use borrow.Author.Needs.{needs}
 use Prim.Native.Nat.{_-_}
 use Rattle.hexbus.proofs.units.Statement.{statement}
 use Rattle.hexbus.proofs.units.Tie as tie
-use Rattle.hexbus.proofs.bench.looks.Reads as looks-reads
+use Rattle.bench.proofs.looks.Reads as looks-reads
 use Rattle.play.proofs.found.show_unit.Reads as show-unit-reads
 
 abbrev Inv-loop : tie.InvT-loop

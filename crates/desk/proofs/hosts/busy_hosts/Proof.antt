@@ -5,10 +5,10 @@ use Rattle.desk.proofs.hosts.busy_hosts.Tie as tie
 use Rattle.desk.proofs.hosts.is_busy.Reads as is-busy-reads
 
 abbrev Inv-loop : tie.InvT-loop
-Inv-loop rows₀ hosts₀ i₀ rows hosts i = Unit {0}
+Inv-loop act rows₀ is-round hosts₀ i₀ rows hosts i = Unit {0}
 
 abbrev μ-loop : tie.MeasureT-loop
-μ-loop rows₀ hosts₀ i₀ rows hosts i = i
+μ-loop act rows₀ is-round hosts₀ i₀ rows hosts i = i
 
 loop-holds : tie.Need-loop-holds Inv-loop μ-loop
 loop-holds c = search needs

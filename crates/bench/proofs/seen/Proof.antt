@@ -1,7 +1,8 @@
 -- What is left to go through grows less.
 use borrow.Author.Needs.{needs}
-use Rattle.hexbus.proofs.bench.parties.Statement.{statement}
-use Rattle.hexbus.proofs.bench.parties.Tie as tie
+use Rattle.bench.proofs.seen.Statement.{statement}
+use Rattle.bench.proofs.seen.Tie as tie
+use Rattle.bus.proofs.Bus.levels.Reads as levels-reads
 use Rattle.controller.proofs.is_idle.Reads as is-idle-reads
 
 abbrev Inv-loop : tie.InvT-loop
@@ -9,6 +10,9 @@ Inv-loop count bus s₀ i₀ s i = Unit {0}
 
 abbrev μ-loop : tie.MeasureT-loop
 μ-loop count bus s₀ i₀ s i = i
+
+levels-requires : tie.Need-levels-requires Inv-loop μ-loop
+levels-requires c κs = search needs
 
 is-idle-requires : tie.Need-is-idle-requires Inv-loop μ-loop
 is-idle-requires c κs = search needs
@@ -52,12 +56,13 @@ loop-again c = search needs
 returns : tie.Need-returns Inv-loop μ-loop
 returns c = search needs
 
-pub parties-spec : {M : Type 1} → statement M
-parties-spec =
+pub seen-spec : {M : Type 1} → statement M
+seen-spec =
     tie.close
     (tie.spec
     Inv-loop
     μ-loop
+    levels-requires
     is-idle-requires
     loop-holds
     sub-i

@@ -1,9 +1,9 @@
 -- What is left to go through grows less.
 use borrow.Author.Needs.{needs}
 use Prim.Native.Nat.{_-_}
-use Rattle.hexbus.proofs.bench.acts.Statement.{statement}
-use Rattle.hexbus.proofs.bench.acts.Tie as tie
-use Rattle.hexbus.proofs.bench.acted.Reads as acted-reads
+use Rattle.hexbus.proofs.acts.Statement.{statement}
+use Rattle.hexbus.proofs.acts.Tie as tie
+use Rattle.hexbus.proofs.act.Reads as act-reads
 use Rattle.play.proofs.goes_on.Reads as goes-on-reads
 
 abbrev Inv-loop : tie.InvT-loop
@@ -18,8 +18,8 @@ loop-holds c = search needs
 goes-on-requires : tie.Need-goes-on-requires Inv-loop μ-loop
 goes-on-requires c κs = search needs
 
-acted-requires : tie.Need-acted-requires Inv-loop μ-loop
-acted-requires c κs = search needs
+act-requires : tie.Need-act-requires Inv-loop μ-loop
+act-requires c κs = search needs
 
 add-i : tie.Need-add-i Inv-loop μ-loop
 add-i c = search needs
@@ -44,7 +44,7 @@ acts-spec =
     μ-loop
     loop-holds
     goes-on-requires
-    acted-requires
+    act-requires
     add-i
     loop-less
     loop-again

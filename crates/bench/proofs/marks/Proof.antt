@@ -1,8 +1,8 @@
 -- What is left to go through grows less.
 use borrow.Author.Needs.{needs}
 use Prim.Native.Nat.{_-_}
-use Rattle.hexbus.proofs.bench.marks.Statement.{statement}
-use Rattle.hexbus.proofs.bench.marks.Tie as tie
+use Rattle.bench.proofs.marks.Statement.{statement}
+use Rattle.bench.proofs.marks.Tie as tie
 use Rattle.controller.proofs.pulls.Reads as pulls-reads
 use Rattle.picture.proofs.mark.Reads as mark-reads
 use Rattle.unit.proofs.pulls.Reads as pulls-reads′

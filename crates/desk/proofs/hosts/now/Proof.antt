@@ -1,15 +1,15 @@
 -- What is left to go through grows less.
 use borrow.Author.Needs.{needs}
 use Prim.Native.Nat.{_-_}
-use Rattle.desk.proofs.hosts.due_host.Statement.{statement}
-use Rattle.desk.proofs.hosts.due_host.Tie as tie
+use Rattle.desk.proofs.hosts.now.Statement.{statement}
+use Rattle.desk.proofs.hosts.now.Tie as tie
 use Rattle.desk.proofs.hosts.is_due.Reads as is-due-reads
 
 abbrev Inv-loop : tie.InvT-loop
-Inv-loop d rows₀ i₀ rows i = Unit {0}
+Inv-loop d rows₀ is-round i₀ rows i = Unit {0}
 
 abbrev μ-loop : tie.MeasureT-loop
-μ-loop d rows₀ i₀ rows i = 16 - i
+μ-loop d rows₀ is-round i₀ rows i = 16 - i
 
 loop-holds : tie.Need-loop-holds Inv-loop μ-loop
 loop-holds c = search needs
@@ -32,8 +32,8 @@ loop-again c = search needs
 returns-2 : tie.Need-returns-2 Inv-loop μ-loop
 returns-2 c = search needs
 
-pub due-host-spec : {M : Type 1} → statement M
-due-host-spec =
+pub now-spec : {M : Type 1} → statement M
+now-spec =
     tie.close
     (tie.spec
     Inv-loop
