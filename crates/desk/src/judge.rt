@@ -1,7 +1,6 @@
 // Expectations and failures. A failure is said with its script and line, and all of them again at the end.
 use crate::Desk;
 use crate::UNREACHED;
-use crate::plan::Plan;
 use crate::tell;
 use libc::STDOUT_FILENO;
 use statement::LOG_BYTES;
@@ -11,20 +10,19 @@ use statement::Statement;
 
 // An expectation of numbers: those that the statement names, and those that were found. The words of a failure; 0 letters for none.
 pub fn numbers(
-    p: Plan,
-    s: Statement,
+    d: Desk,
     found: Numbers,
     forms: &[u8],
     name: &[u8],
     text: &[u8],
     page: &mut [u8; 4096],
 ) -> usize {
-    if are_as_found(s, found) {
+    if are_as_found(d.statement, found) {
         return 0;
     }
-    let at = begun(page, name, text, p.line, p.start);
+    let at = begun(page, name, text, d.plan.line, d.plan.start);
     let end = put(page, at, 2, 0);
-    fault::statement(page, end, forms, s.form, found)
+    fault::statement(page, end, forms, d.statement.form, found)
 }
 
 // What is not named or not found is 0, and a nibble 15.
@@ -50,13 +48,13 @@ fn are_as_found(s: Statement, found: Numbers) -> bool {
 // An expectation of bytes: those of the statement, and those that were found.
 pub fn bytes(
     d: Desk,
-    form: u64,
     name: &[u8],
     text: &[u8],
     wanted: &[u8],
     found: &[u8],
     page: &mut [u8; 4096],
 ) -> usize {
+    let form = d.statement.form;
     let is_early = (form == statement::RECEIVED) & (d.status == OTHER);
     if is_found(form, wanted, found) & !is_early {
         return 0;

@@ -10,13 +10,18 @@ pub mod tell;
 use crate::plan::Plan;
 use line::Lines;
 use picture::RELEASED;
+use statement::BLANK;
 use statement::NONE;
 use statement::Numbers;
 use statement::OTHER;
+use statement::Statement;
 
 pub struct Desk {
     // The place in the script, and the parties that there are.
     pub plan: Plan,
+    // The statement that is under way, and whether it is.
+    pub statement: Statement,
+    pub is_under_way: bool,
     // The rounds so far, and those of the last run.
     pub round: u64,
     pub ran: u64,
@@ -97,6 +102,12 @@ pub fn start(logged: usize) -> Desk {
     };
     Desk {
         plan: plan::start(),
+        statement: Statement {
+            form: BLANK,
+            numbers: Numbers::none(),
+            bytes: 0,
+        },
+        is_under_way: false,
         round: 0,
         ran: 0,
         act: 0,
@@ -156,14 +167,6 @@ pub fn awaited(d: Desk, what: u64) -> Desk {
     next.pending = what;
     next.pending_line = d.plan.line;
     next.pending_start = d.plan.start;
-    next
-}
-
-// Lines are held low from outside.
-pub fn hold(d: Desk, n: Numbers) -> Desk {
-    let mut next = d;
-    next.hold = n.first;
-    next.held_low = levels(n);
     next
 }
 

@@ -38,20 +38,22 @@ pub const ROUND: u64 = 15;
 
 pub const END: u64 = 16;
 
-const GIVES: u64 = 17;
+pub const QUOTE: u64 = 17;
 
-const NOTHING: u64 = 18;
+const GIVES: u64 = 18;
 
-const RING: u64 = 19;
+const NOTHING: u64 = 19;
 
-const DATA: u64 = 20;
+const RING: u64 = 20;
 
-const MORE: u64 = 21;
+const DATA: u64 = 21;
 
-const REFUSAL: u64 = 22;
+const MORE: u64 = 22;
+
+const REFUSAL: u64 = 23;
 
 // The first of the meanings of a refusal.
-const MEANINGS: u64 = 23;
+const MEANINGS: u64 = 24;
 
 // Says words with numbers among them. @ stands for the round, # and the other signs (page) for the next of the numbers.
 pub fn say(d: Desk, which: u64, first: u64, second: u64, third: u64) {
@@ -70,7 +72,7 @@ pub fn say(d: Desk, which: u64, first: u64, second: u64, third: u64) {
 |@# pulls BAV for its request
 | turns #
 |@|
-|@# gives its host| nothing|@ring of #:|          data| ..|@refusal #: |the time-out is 8 to 65,535
+|> |@# gives its host| nothing|@ring of #:|          data| ..|@refusal #: |the time-out is 8 to 65,535
 |the own code is 1 to 255, the retry count 4 to 65,535
 |not enabled
 |a nibble level over 15

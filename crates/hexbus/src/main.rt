@@ -11,7 +11,6 @@ use desk::tally::Tally;
 use libc::STDOUT_FILENO;
 use play::noted;
 use play::pictured;
-use statement::Statement;
 
 // A bus, and what is kept beside it.
 struct Bench {
@@ -153,7 +152,7 @@ fn whole(forms: &[u8], name: &[u8], text: &[u8], first: Desk, bytes: &mut [u8; 1
     let mut rows = [0u64; 256];
     let mut response = [0u8; 65536];
     let mut memory = [0xEEu8; 12288];
-    lines(
+    steps(
         forms,
         name,
         text,
@@ -165,8 +164,8 @@ fn whole(forms: &[u8], name: &[u8], text: &[u8], first: Desk, bytes: &mut [u8; 1
     )
 }
 
-// Line by line.
-fn lines(
+// Step by step.
+fn steps(
     forms: &[u8],
     name: &[u8],
     text: &[u8],
@@ -182,94 +181,51 @@ fn lines(
     };
     let mut i = 0u64;
     while i < 1000000000000000000 {
-        if text.len() <= b.desk.plan.next {
+        if (text.len() <= b.desk.plan.next) & !b.desk.is_under_way {
             break;
         }
-        b = line(forms, name, text, b, rows, bytes, response, memory);
+        b = step(forms, name, text, b, rows, bytes, response, memory);
         i += 1;
     }
     play::ended(name, text, b.desk, rows, bytes)
 }
 
-// The statement of the next line. A `do` has three parts.
-fn line(
+// The next statement, where none is under way; then an act of the bus for it, or what has come of all of them.
+fn step(
     forms: &[u8],
     name: &[u8],
     text: &[u8],
-    first: Bench,
+    b: Bench,
     rows: &mut [u64; 256],
     bytes: &mut [u8; 159744],
     response: &mut [u8; 65536],
     memory: &mut [u8; 12288],
 ) -> Bench {
-    let next = play::stated(forms, name, text, first.desk, bytes);
-    let s = next.statement;
-    let mut b = first;
-    b.desk = play::planned(next.desk, s, rows, bytes);
-    let mut i = 0u64;
-    while i < 3 {
-        b = part(forms, name, text, b, s, rows, bytes, response, memory);
-        if b.desk.part == 0 {
-            break;
-        }
-        i += 1;
+    let mut d = b.desk;
+    if !d.is_under_way {
+        d = play::next(forms, name, text, d, rows, bytes);
     }
-    b
-}
-
-// What the bus does for a statement, or for a part of it, and what comes of that.
-fn part(
-    forms: &[u8],
-    name: &[u8],
-    text: &[u8],
-    first: Bench,
-    s: Statement,
-    rows: &mut [u64; 256],
-    bytes: &mut [u8; 159744],
-    response: &mut [u8; 65536],
-    memory: &mut [u8; 12288],
-) -> Bench {
-    let b = acts(first, s, rows, bytes, response, memory);
-    concluded(forms, name, text, b, s, rows, bytes, response, memory)
-}
-
-// As often as it is to.
-fn acts(
-    first: Bench,
-    s: Statement,
-    rows: &mut [u64; 256],
-    bytes: &mut [u8; 159744],
-    response: &mut [u8; 65536],
-    memory: &mut [u8; 12288],
-) -> Bench {
-    let mut b = first;
-    let mut i = 0u64;
-    while i < 1000000000000000000 {
-        if !play::goes_on(b.desk, rows) {
-            break;
-        }
-        b = act(b, s, rows, bytes, response, memory);
-        i += 1;
+    if play::goes_on(d, rows) {
+        return act(b.bus, d, rows, bytes, response, memory);
     }
-    b
+    concluded(forms, name, text, b.bus, d, rows, bytes, response, memory)
 }
 
 fn act(
-    b: Bench,
-    s: Statement,
+    bus: Bus,
+    d: Desk,
     rows: &mut [u64; 256],
     bytes: &mut [u8; 159744],
     response: &mut [u8; 65536],
     memory: &mut [u8; 12288],
 ) -> Bench {
-    let d = b.desk;
     let act = hosts::now(d, rows);
     let busy = hosts::busy_hosts(d, act, rows);
-    let levels = play::levels_for(d, s, act, rows);
+    let levels = play::levels_for(d, act, rows);
     let a = bench::act(
-        b.bus,
+        bus,
         act,
-        s,
+        d.statement,
         levels,
         busy,
         d.length,
@@ -279,8 +235,8 @@ fn act(
         memory,
     );
     let t = a.told;
-    let next = noted::acted(d, s, act, t, levels, rows, bytes, response);
-    acted(a, next, pictured::is_wanted(d, act, s.form), rows, bytes)
+    let next = noted::acted(d, act, t, levels, rows, bytes, response);
+    acted(a, next, pictured::is_wanted(d, act), rows, bytes)
 }
 
 // What is seen of the bus after an act. A request that is handed over is acknowledged at once, where the script says so.
@@ -308,39 +264,33 @@ fn concluded<'a>(
     forms: &[u8],
     name: &[u8],
     text: &[u8],
-    b: Bench,
-    s: Statement,
+    bus: Bus,
+    before: Desk,
     rows: &mut [u64; 256],
     bytes: &mut [u8; 159744],
     response: &'a [u8; 65536],
     memory: &'a [u8; 12288],
 ) -> Bench {
-    let bus = b.bus;
-    let mut desk = b.desk;
-    desk.entries = bench::entries(bus, bytes);
-    if s.form == statement::SHOW_UNITS {
-        units(bus, desk, forms, rows);
+    let mut d = before;
+    let form = d.statement.form;
+    d.entries = bench::entries(bus, bytes);
+    if form == statement::SHOW_UNITS {
+        units(bus, d, forms, rows);
     }
-    let found = bench::looks(
-        bus,
-        s.form,
-        desk::plan::party(desk.plan, rows, s.numbers.first),
+    let party = desk::plan::party(d.plan, rows, d.statement.numbers.first);
+    let found = bench::looks(bus, form, party);
+    let desk = play::concluded(
+        forms,
+        name,
+        text,
+        d,
+        found,
+        rows,
+        bytes,
+        response,
+        memory,
     );
-    Bench {
-        bus,
-        desk: play::concluded(
-            forms,
-            name,
-            text,
-            desk,
-            s,
-            found,
-            rows,
-            bytes,
-            response,
-            memory,
-        ),
-    }
+    Bench { bus, desk }
 }
 
 // Shows each unit.

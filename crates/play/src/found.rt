@@ -8,7 +8,6 @@ use statement::HEARD_BYTES;
 use statement::Numbers;
 use statement::OTHER;
 use statement::RING_BYTES;
-use statement::Statement;
 use statement::TAKEN_BYTES;
 
 // An expectation of bytes, or of numbers.
@@ -17,7 +16,6 @@ pub fn expected<'a>(
     name: &[u8],
     text: &[u8],
     d: Desk,
-    s: Statement,
     looks: Numbers,
     rows: &[u64; 256],
     bytes: &mut [u8; 159744],
@@ -25,11 +23,11 @@ pub fn expected<'a>(
     memory: &'a [u8; 12288],
 ) -> Desk {
     let mut page = [0u8; 4096];
-    let end = if is_of_bytes(s.form) {
-        of_bytes(d, s, name, text, rows, bytes, response, memory, &mut page)
+    let end = if is_of_bytes(d.statement.form) {
+        of_bytes(d, name, text, rows, bytes, response, memory, &mut page)
     } else {
-        let found = numbers(d, s, looks, rows);
-        judge::numbers(d.plan, s, found, forms, name, text, &mut page)
+        let found = numbers(d, looks, rows);
+        judge::numbers(d, found, forms, name, text, &mut page)
     };
     judge::judged(d, bytes, &mut page, end)
 }
@@ -46,7 +44,6 @@ fn is_of_bytes(form: u64) -> bool {
 // ring, those that a stand-in has heard.
 fn of_bytes<'a>(
     d: Desk,
-    s: Statement,
     name: &[u8],
     text: &[u8],
     rows: &[u64; 256],
@@ -55,8 +52,8 @@ fn of_bytes<'a>(
     memory: &'a [u8],
     page: &mut [u8; 4096],
 ) -> usize {
-    let form = s.form;
-    let code = s.numbers.first;
+    let form = d.statement.form;
+    let code = d.statement.numbers.first;
     let buffer = 768 * (plan::find(d.plan, rows, code) % 16) as usize;
     let place = plan::find_stand_in(d.plan, rows, code) % 4;
     let heard = HEARD_BYTES + 1024 * place as usize;
@@ -68,13 +65,13 @@ fn of_bytes<'a>(
         statement::RING => word::part(bytes, RING_BYTES, RING_BYTES + (d.entries % 64) as usize),
         _ => word::part(bytes, heard, heard + stand_in::heard(rows, place) % 2048),
     };
-    let wanted = word::front(bytes, s.bytes as usize);
-    judge::bytes(d, form, name, text, wanted, found, page)
+    let wanted = word::front(bytes, d.statement.bytes as usize);
+    judge::bytes(d, name, text, wanted, found, page)
 }
 
 // The numbers of the desk and of the lines. Those of a unit or of the controller were found by a look at it.
-fn numbers(d: Desk, s: Statement, looks: Numbers, rows: &[u64; 256]) -> Numbers {
-    let form = s.form;
+fn numbers(d: Desk, looks: Numbers, rows: &[u64; 256]) -> Numbers {
+    let form = d.statement.form;
     let mut n = Numbers::none();
     match form {
         statement::QUEUED => return looks,
@@ -92,7 +89,7 @@ fn numbers(d: Desk, s: Statement, looks: Numbers, rows: &[u64; 256]) -> Numbers 
             } else {
                 hosts::WAITED
             };
-            let code = s.numbers.first;
+            let code = d.statement.numbers.first;
             n.first = code;
             n.second = hosts::number(rows, row, plan::find(d.plan, rows, code));
         }

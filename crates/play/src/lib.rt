@@ -20,37 +20,39 @@ use statement::Statement;
 // A run until something has happened is at most so long, where the script sets no limit.
 const LIMIT: u64 = 100000;
 
-// A desk, and the statement that is under way.
-pub struct Next {
-    pub desk: Desk,
-    pub statement: Statement,
-}
-
-// The statement of the next line, said as it was written before what comes of it; of `say` the words alone.
-pub fn stated(forms: &[u8], name: &[u8], text: &[u8], d: Desk, bytes: &mut [u8; 159744]) -> Next {
+// The statement of the next line, said as it was written, and what the bus is to do for it.
+pub fn next(
+    forms: &[u8],
+    name: &[u8],
+    text: &[u8],
+    d: Desk,
+    rows: &mut [u64; 256],
+    bytes: &mut [u8; 159744],
+) -> Desk {
     let p = plan::next_line(d.plan, text);
     let line = word::part(text, p.start, p.end);
     let read = script::read(forms, line, p.pass, bytes);
     let s = read.statement;
     let mut next = d;
     next.plan = p;
+    next.statement = s;
+    next.is_under_way = true;
     next = judge::settled(next, name, text, s.form, bytes);
-    if s.form == statement::SAY {
-        let words = word::next(line, read.reading.at);
-        said(d, b"", word::part(line, words.start, line.len()));
-    } else if s.form < statement::BLANK {
-        said(d, b"> ", word::front(line, 100));
-    }
-    Next {
-        desk: next,
-        statement: s,
-    }
+    said(next, line, read.reading.at);
+    planned(next, rows, bytes)
 }
 
-fn said(d: Desk, before: &[u8], words: &[u8]) {
-    page::say(d.out, before);
-    page::show(d.out, words);
-    tell::say(d, tell::END, 0, 0, 0);
+// A statement is said before what comes of it; of `say` the words alone, from a place of its line on.
+fn said(d: Desk, line: &[u8], at: usize) {
+    if d.statement.form == statement::SAY {
+        let words = word::next(line, at);
+        page::show(d.out, word::part(line, words.start, line.len()));
+        tell::say(d, tell::END, 0, 0, 0);
+    } else if d.statement.form < statement::BLANK {
+        tell::say(d, tell::QUOTE, 0, 0, 0);
+        page::show(d.out, word::front(line, 100));
+        tell::say(d, tell::END, 0, 0, 0);
+    }
 }
 
 // The script has ended.
@@ -74,25 +76,30 @@ fn actor(form: u64) -> u8 {
 }
 
 // What the bus is to do for a statement.
-pub fn planned(d: Desk, s: Statement, rows: &mut [u64; 256], bytes: &mut [u8; 159744]) -> Desk {
-    let n = s.numbers;
-    let party = plan::party(d.plan, rows, n.first);
-    let mut first = part(d, 0, OF_CONTROLLER, 0, statement::RUN);
+fn planned(d: Desk, rows: &mut [u64; 256], bytes: &mut [u8; 159744]) -> Desk {
+    let s = d.statement;
+    let mut next = part(d, 0, OF_CONTROLLER, 1, s.form);
     if s.form <= statement::STEP {
-        first.refusal = 0;
-        first.is_reached = true;
+        next.refusal = 0;
+        next.is_reached = true;
     }
     match actor(s.form) {
-        b'c' => first.most = 1,
-        b'm' => return part(first, 0, ONE_MORE, 1, statement::RUN),
-        b'p' => return part(first, 0, party, 1, statement::RUN),
-        b't' => return part(first, 0, party, statement::or(n.sixth, 1), statement::RUN),
-        b'r' => return part(first, 0, A_ROUND, statement::or(n.first, LIMIT), s.form),
-        b'd' => return part(first, 1, A_ROUND, LIMIT, statement::UNTIL_FREE),
-        b's' => return set(first, s, rows, bytes),
-        _ => {}
+        b'c' => {}
+        b'm' => next.act = ONE_MORE,
+        b'p' => next.act = plan::party(d.plan, rows, s.numbers.first),
+        b't' => {
+            next.act = plan::party(d.plan, rows, s.numbers.first);
+            next.most = statement::or(s.numbers.sixth, 1);
+        }
+        b'r' => {
+            next.act = A_ROUND;
+            next.most = statement::or(s.numbers.first, LIMIT);
+        }
+        b'd' => next = part(next, 1, A_ROUND, LIMIT, statement::UNTIL_FREE),
+        b's' => next = set(next, rows, bytes),
+        _ => next.most = 0,
     }
-    first
+    next
 }
 
 // A part of what the bus is to do: the act, how often at the most, and the form that names when it is over.
@@ -107,21 +114,25 @@ fn part(d: Desk, number: u64, act: u64, most: u64, until: u64) -> Desk {
 }
 
 // What application, hosts, lines and stand-ins do from now on.
-fn set(d: Desk, s: Statement, rows: &mut [u64; 256], bytes: &mut [u8; 159744]) -> Desk {
-    let form = s.form;
-    let n = s.numbers;
+fn set(d: Desk, rows: &mut [u64; 256], bytes: &mut [u8; 159744]) -> Desk {
+    let form = d.statement.form;
+    let n = d.statement.numbers;
     let mut next = d;
+    next.most = 0;
     match form {
         statement::STAND_IN => next.plan = plan::stand_in(d.plan, n, rows),
         statement::ANSWER => answer(
             plan::find_stand_in(d.plan, rows, n.first) % 4,
-            s,
+            d.statement,
             rows,
             bytes,
         ),
         statement::EACH => next.acknowledges = true,
         statement::BY_HAND => next.acknowledges = false,
-        statement::HOLD => return desk::hold(d, n),
+        statement::HOLD => {
+            next.hold = n.first;
+            next.held_low = desk::levels(n);
+        }
         _ => {
             next.has_busy_hosts = true;
             hosts::busy(form, n, plan::party(d.plan, rows, n.first), rows);
@@ -177,11 +188,11 @@ pub fn levels(d: Desk, rows: &[u64; 256]) -> Lines {
 }
 
 // The levels at which the bus acts: these in a round, and else those that the statement names.
-pub fn levels_for(d: Desk, s: Statement, act: u64, rows: &[u64; 256]) -> Lines {
+pub fn levels_for(d: Desk, act: u64, rows: &[u64; 256]) -> Lines {
     if act == A_ROUND {
         return levels(d, rows);
     }
-    desk::levels(s.numbers)
+    desk::levels(d.statement.numbers)
 }
 
 // The bus has done what it was to do for a statement, or for a part of it, which is then numbered. What a look at a party has found.
@@ -190,36 +201,36 @@ pub fn concluded<'a>(
     name: &[u8],
     text: &[u8],
     d: Desk,
-    s: Statement,
     found: Numbers,
     rows: &[u64; 256],
     bytes: &mut [u8; 159744],
     response: &'a [u8; 65536],
     memory: &'a [u8; 12288],
 ) -> Desk {
+    let s = d.statement;
     let form = s.form;
     let mut next = d;
-    if form == statement::DO {
-        next = submits(d, rows);
-    } else if form <= statement::STEP {
-        next = acted(d, s, rows, bytes);
-    } else if form <= statement::SHOW_FAILURES {
-        next = shown(d, form, bytes, response);
-    } else if (statement::SAY < form) & (form < statement::BLANK) {
-        next = found::expected(
-            forms,
-            name,
-            text,
-            d,
-            s,
-            found,
-            rows,
-            bytes,
-            response,
-            memory,
-        );
+    match form {
+        statement::DO => next = submits(d, rows),
+        statement::CONTROLLER..=statement::STEP => next = acted(d, rows, bytes),
+        statement::REPEAT..=statement::SHOW_FAILURES => next = shown(d, bytes, response),
+        statement::STATUS..=statement::STANDS => {
+            next = found::expected(
+                forms,
+                name,
+                text,
+                d,
+                found,
+                rows,
+                bytes,
+                response,
+                memory,
+            )
+        }
+        _ => {}
     }
     if next.part == 0 {
+        next.is_under_way = false;
         next.plan = plan::past(next.plan, s);
     }
     next
@@ -247,7 +258,8 @@ fn submits(d: Desk, rows: &[u64; 256]) -> Desk {
 }
 
 // Calls and rounds.
-fn acted(d: Desk, s: Statement, rows: &[u64; 256], bytes: &[u8]) -> Desk {
+fn acted(d: Desk, rows: &[u64; 256], bytes: &[u8]) -> Desk {
+    let s = d.statement;
     let mut next = d;
     if s.form == statement::STEP {
         next.ran = d.done;
@@ -282,7 +294,8 @@ fn unreached(d: Desk) -> Desk {
     next
 }
 
-fn shown(d: Desk, form: u64, bytes: &[u8], response: &[u8]) -> Desk {
+fn shown(d: Desk, bytes: &[u8], response: &[u8]) -> Desk {
+    let form = d.statement.form;
     let mut next = d;
     match form {
         statement::SHOW_RING => tell::ring(d, bytes),

@@ -10,13 +10,11 @@ use statement::NONE;
 use statement::OF_CONTROLLER;
 use statement::ONE_MORE;
 use statement::OTHER;
-use statement::Statement;
 use statement::Told;
 
 // What an act of the bus at these levels came to.
 pub fn acted(
     d: Desk,
-    s: Statement,
     act: u64,
     t: Told,
     levels: Lines,
@@ -31,30 +29,29 @@ pub fn acted(
     next.done = d.done % desk::FOR_EVER + 1;
     match act {
         A_ROUND => round(next, t, levels, rows, bytes, response),
-        OF_CONTROLLER => of_controller(next, s, t, rows, response),
-        ONE_MORE => one_more(next, s, t.number, rows),
-        _ => of_unit(next, s, act, t.number, rows, bytes),
+        OF_CONTROLLER => of_controller(next, t, rows, response),
+        ONE_MORE => one_more(next, t.number, rows),
+        _ => of_unit(next, act, t.number, rows, bytes),
     }
 }
 
 // One unit more, if its settings are in range.
-fn one_more(d: Desk, s: Statement, refusal: u64, rows: &mut [u64; 256]) -> Desk {
+fn one_more(d: Desk, refusal: u64, rows: &mut [u64; 256]) -> Desk {
     let mut next = desk::refused(d, refusal);
-    next.plan = plan::unit(d.plan, s.numbers, rows);
+    next.plan = plan::unit(d.plan, d.statement.numbers, rows);
     next
 }
 
 // The unit at a place has acted for the statement: the number that this came to.
 fn of_unit(
     d: Desk,
-    s: Statement,
     i: u64,
     number: u64,
     rows: &mut [u64; 256],
     bytes: &[u8; 159744],
 ) -> Desk {
-    let form = s.form;
-    let every = s.numbers.second;
+    let form = d.statement.form;
+    let every = d.statement.numbers.second;
     let mut next = d;
     match form {
         statement::FEED => return desk::refused(d, number),
@@ -104,7 +101,8 @@ fn stepped(d: Desk, refusal: u64) -> Desk {
 }
 
 // The controller has acted for the statement.
-fn of_controller(d: Desk, s: Statement, t: Told, rows: &mut [u64; 256], response: &[u8]) -> Desk {
+fn of_controller(d: Desk, t: Told, rows: &mut [u64; 256], response: &[u8]) -> Desk {
+    let s = d.statement;
     let n = s.numbers;
     let mut next = d;
     if s.form == statement::STEP {

@@ -7,8 +7,8 @@ use picture::RELEASED;
 use statement::STRIP_BYTES;
 
 // Whether an act is dumped or pictured: a round, or a step by hand.
-pub fn is_wanted(d: Desk, act: u64, form: u64) -> bool {
-    let is_stepped = (act == statement::A_ROUND) | (form == statement::STEP);
+pub fn is_wanted(d: Desk, act: u64) -> bool {
+    let is_stepped = (act == statement::A_ROUND) | (d.statement.form == statement::STEP);
     is_stepped & ((0 < d.dump) | d.is_pictured)
 }
 

@@ -1,11 +1,8 @@
 -- What is left to go through grows less.
+use Rattle.hexbus.proofs.steps.Statement.{statement}
+use Rattle.hexbus.proofs.steps.Tie as tie
 use borrow.Author.Needs.{needs}
 use Prim.Native.Nat.{_-_}
-use Rattle.hexbus.proofs.lines.Statement.{statement}
-use Rattle.hexbus.proofs.lines.Tie as tie
-use Rattle.bench.proofs.start.Reads as start-reads
-use Rattle.hexbus.proofs.line.Reads as line-reads
-use Rattle.play.proofs.ended.Reads as ended-reads
 
 abbrev Inv-loop : tie.InvT-loop
 Inv-loop forms name text rows₀ bytes₀ response₀ memory₀ b₀ i₀ rows bytes response memory b i = Unit {0}
@@ -19,8 +16,8 @@ start-requires c κs = search needs
 loop-holds : tie.Need-loop-holds Inv-loop μ-loop
 loop-holds c = search needs
 
-line-requires : tie.Need-line-requires Inv-loop μ-loop
-line-requires c κs = search needs
+step-requires : tie.Need-step-requires Inv-loop μ-loop
+step-requires c κs = search needs
 
 add-i : tie.Need-add-i Inv-loop μ-loop
 add-i c = search needs
@@ -37,15 +34,15 @@ ended-requires c κs = search needs
 returns : tie.Need-returns Inv-loop μ-loop
 returns c = search needs
 
-pub lines-spec : {M : Type 1} → statement M
-lines-spec =
+pub steps-spec : {M : Type 1} → statement M
+steps-spec =
     tie.close
     (tie.spec
     Inv-loop
     μ-loop
     start-requires
     loop-holds
-    line-requires
+    step-requires
     add-i
     loop-less
     loop-again
