@@ -15,7 +15,7 @@ pub fn numbers(
     forms: &[u8],
     name: &[u8],
     text: &[u8],
-    page: &mut [u8; 4096],
+    page: &mut [u8; 8192],
 ) -> usize {
     if are_as_found(d.statement, found) {
         return 0;
@@ -52,7 +52,7 @@ pub fn bytes(
     text: &[u8],
     wanted: &[u8],
     found: &[u8],
-    page: &mut [u8; 4096],
+    page: &mut [u8; 8192],
 ) -> usize {
     let form = d.statement.form;
     let is_early = (form == statement::RECEIVED) & (d.status == OTHER);
@@ -109,14 +109,14 @@ pub fn settled(d: Desk, name: &[u8], text: &[u8], form: u64, bytes: &mut [u8; 15
     if form == expecting {
         return next;
     }
-    let mut page = [0u8; 4096];
+    let mut page = [0u8; 8192];
     let at = begun(&mut page, name, text, d.pending_line, d.pending_start);
     let end = put(&mut page, at, 3 + is_unreached as u64 % 2, d.pending);
     judged(next, bytes, &mut page, end)
 }
 
 // Script, line and statement of a failure, at the front of a page.
-fn begun(page: &mut [u8], name: &[u8], text: &[u8], line: u64, start: usize) -> usize {
+fn begun(page: &mut [u8; 8192], name: &[u8], text: &[u8], line: u64, start: usize) -> usize {
     let at = put(page, 0, 0, 0);
     let named = page::shown(page, at, name);
     let numbered = put(page, named, 1, line);
@@ -129,7 +129,7 @@ fn begun(page: &mut [u8], name: &[u8], text: &[u8], line: u64, start: usize) -> 
 }
 
 // Words of a failure, with a number among them, behind n letters of a page.
-pub fn put(page: &mut [u8], n: usize, which: u64, number: u64) -> usize {
+pub fn put(page: &mut [u8; 8192], n: usize, which: u64, number: u64) -> usize {
     let words = word::piece(
         b"FAILS |:#: |; found:|; refusal #, and the next statement does not expect it|; not reached, and the next statement does not expect it| no command has ended| nothing|: it was not run\n",
         b'|',
@@ -139,7 +139,7 @@ pub fn put(page: &mut [u8], n: usize, which: u64, number: u64) -> usize {
 }
 
 // An expectation holds if there are no words of a failure. These are said, and kept for the end while there is room.
-pub fn judged(d: Desk, bytes: &mut [u8; 159744], page: &mut [u8; 4096], end: usize) -> Desk {
+pub fn judged(d: Desk, bytes: &mut [u8; 159744], page: &mut [u8; 8192], end: usize) -> Desk {
     let mut next = d;
     if end == 0 {
         next.held = d.held % 1000000000 + 1;
@@ -149,15 +149,21 @@ pub fn judged(d: Desk, bytes: &mut [u8; 159744], page: &mut [u8; 4096], end: usi
     let n = page::letter(page, end, b'\n');
     next.failed = d.failed % 1000000000 + 1;
     page::write(STDOUT_FILENO, page, n);
-    next.logged = kept(bytes, d.logged, word::front(page, n));
+    next.logged = kept(bytes, d.logged, page, n);
     next
 }
 
-// Words behind so many letters of failures that are kept; how many there are then.
-pub fn kept(bytes: &mut [u8], n: usize, words: &[u8]) -> usize {
-    let end = page::words(bytes, LOG_BYTES + n % 16385, words);
-    if LOG_BYTES < end {
-        return end - LOG_BYTES;
+// The letters of a page behind so many letters of failures, as many of them as there is room for; how many there are then.
+pub fn kept(bytes: &mut [u8; 159744], logged: usize, page: &[u8; 8192], n: usize) -> usize {
+    let mut end = logged;
+    let mut i = 0usize;
+    while i < n % 8193 {
+        if 16384 <= end {
+            break;
+        }
+        bytes[LOG_BYTES + end] = page[i];
+        end += 1;
+        i += 1;
     }
-    n
+    end
 }

@@ -10,6 +10,7 @@ pub mod tell;
 use crate::plan::Plan;
 use line::Lines;
 use picture::RELEASED;
+use stand_in::StandIn;
 use statement::BLANK;
 use statement::NONE;
 use statement::Numbers;
@@ -22,6 +23,8 @@ pub struct Desk {
     // The statement that is under way, and whether it is.
     pub statement: Statement,
     pub is_under_way: bool,
+    // The stand-ins of the plan.
+    pub stand_ins: [StandIn; 4],
     // The rounds so far, and those of the last run.
     pub round: u64,
     pub ran: u64,
@@ -81,8 +84,7 @@ pub struct Desk {
     pub marks: [u8; 22],
 }
 
-// The rows: the codes of units by their place, and of stand-ins, 0 for one of every code; then what there is of each host (hosts), and of
-// each stand-in (stand_in).
+// The rows: the codes of units by their place, and of stand-ins, 0 for one of every code; then what there is of each host (hosts).
 pub const CODES: usize = 0;
 
 pub const STAND_IN_CODES: usize = 16;
@@ -108,6 +110,7 @@ pub fn start(logged: usize) -> Desk {
             bytes: 0,
         },
         is_under_way: false,
+        stand_ins: [stand_in::new(0); 4],
         round: 0,
         ran: 0,
         act: 0,

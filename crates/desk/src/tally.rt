@@ -21,7 +21,7 @@ pub fn not_run(t: Tally, bytes: &mut [u8; 159744], name: &[u8]) -> Tally {
     let named = page::shown(&mut page, at, name);
     let end = judge::put(&mut page, named, 7, 0);
     let mut next = t;
-    next.logged = judge::kept(bytes, t.logged, word::front(&page, end));
+    next.logged = judge::kept(bytes, t.logged, &page, end);
     next.is_bad = true;
     next
 }

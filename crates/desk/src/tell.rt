@@ -142,7 +142,7 @@ pub fn given(d: Desk, code: u64, bytes: &[u8]) {
 // The ring in order, the front first, marked entries with a star.
 pub fn ring(d: Desk, bytes: &[u8]) {
     let n = d.entries % 64;
-    let mut page = [0u8; 4096];
+    let mut page = [0u8; 8192];
     say(d, RING, n / 2, 0, 0);
     put_ring(
         d,
@@ -151,14 +151,14 @@ pub fn ring(d: Desk, bytes: &[u8]) {
     );
 }
 
-fn put_ring(d: Desk, found: &[u8], page: &mut [u8; 4096]) {
+fn put_ring(d: Desk, found: &[u8], page: &mut [u8; 8192]) {
     let end = entries(page, 0, found);
     page::say(d.out, word::front(page, end));
     say(d, END, 0, 0, 0);
 }
 
 // Entries of a ring, two bytes each: a code and a mark.
-pub fn entries(page: &mut [u8; 4096], n: usize, found: &[u8]) -> usize {
+pub fn entries(page: &mut [u8; 8192], n: usize, found: &[u8]) -> usize {
     let mut at = n;
     let mut i = 0usize;
     while i < found.len() {

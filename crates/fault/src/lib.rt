@@ -106,7 +106,7 @@ fn next_words(out: i32, forms: &[u8], line: &[u8], words: u64) {
 
 // A form with values in their places, as a statement has them, behind n letters of a page.
 pub fn statement(
-    page: &mut [u8; 4096],
+    page: &mut [u8; 8192],
     n: usize,
     forms: &[u8],
     form: u64,
@@ -148,7 +148,7 @@ pub fn statement(
 }
 
 // A value as its kind is written, with a space before it. A name is put as it is.
-fn put(page: &mut [u8; 4096], n: usize, kind: &[u8], v: u64) -> usize {
+fn put(page: &mut [u8; 8192], n: usize, kind: &[u8], v: u64) -> usize {
     if kind.len() == 0 {
         return n;
     }

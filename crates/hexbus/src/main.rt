@@ -22,14 +22,14 @@ struct Bench {
 const VERDICT: i32 = 9;
 
 fn main() {
-    let mut forms = [0u8; 4096];
+    let mut forms = [0u8; 8192];
     if done(&mut forms) {
         io::write_all(VERDICT, b"ok\n");
     }
 }
 
 // What the first word asks for; whether it was done.
-fn done(page: &mut [u8; 4096]) -> bool {
+fn done(page: &mut [u8; 8192]) -> bool {
     let mut name = [0u8; 4096];
     let n = script::forms(page);
     let k = os::arg(1, &mut name);
@@ -205,7 +205,7 @@ fn step(
     if !d.is_under_way {
         d = play::next(forms, name, text, d, rows, bytes);
     }
-    if play::goes_on(d, rows) {
+    if play::goes_on(d) {
         return act(b.bus, d, rows, bytes, response, memory);
     }
     concluded(forms, name, text, b.bus, d, rows, bytes, response, memory)
@@ -221,7 +221,7 @@ fn act(
 ) -> Bench {
     let act = hosts::now(d, rows);
     let busy = hosts::busy_hosts(d, act, rows);
-    let levels = play::levels_for(d, act, rows);
+    let levels = play::levels_for(d, act);
     let a = bench::act(
         bus,
         act,
@@ -279,17 +279,7 @@ fn concluded<'a>(
     }
     let party = desk::plan::party(d.plan, rows, d.statement.numbers.first);
     let found = bench::looks(bus, form, party);
-    let desk = play::concluded(
-        forms,
-        name,
-        text,
-        d,
-        found,
-        rows,
-        bytes,
-        response,
-        memory,
-    );
+    let desk = play::concluded(forms, name, text, d, found, rows, bytes, response, memory);
     Bench { bus, desk }
 }
 

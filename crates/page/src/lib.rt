@@ -1,6 +1,6 @@
 // Text that programs write. What is said goes to a descriptor at once; to descriptor 0 nothing is written. What is put together piece by
-// piece stands on a page, which is lent memory: each call takes how many letters stand on it and returns how many do then. What would go
-// past its end is left out.
+// piece stands on a page, which is lent: each call takes how many letters stand on it and returns how many do then. What would go past its
+// end is left out.
 mod names;
 
 // Words as they are.
@@ -15,38 +15,42 @@ pub fn say(out: i32, words: &[u8]) {
 pub fn tell(out: i32, words: &[u8], first: u64, second: u64, third: u64, fourth: u64) {
     if 0 < out {
         let numbers = [first, second, third, fourth];
-        let mut page = [0u8; 256];
+        let mut page = [0u8; 8192];
         let n = fill(&mut page, 0, words, &numbers);
         write(out, &page, n);
     }
 }
 
-// Each byte in hexadecimal, with a space before it; up to 256 of them.
+// Each byte in hexadecimal, with a space before it; as many as stand on a page.
 pub fn bytes(out: i32, s: &[u8]) {
     if 0 < out {
-        let mut page = [0u8; 768];
+        let mut page = [0u8; 8192];
         let n = put_bytes(&mut page, 0, s);
         write(out, &page, n);
     }
 }
 
 // Writes the letters that stand on a page, and answers whether they were taken.
-pub fn write(out: i32, page: &[u8], n: usize) -> bool {
-    if n <= page.len() {
-        return io::write_all(out, &page[0..n]);
+pub fn write(out: i32, page: &[u8; 8192], n: usize) -> bool {
+    front(out, page, n)
+}
+
+fn front(out: i32, letters: &[u8], n: usize) -> bool {
+    if n <= letters.len() {
+        return io::write_all(out, &letters[0..n]);
     }
     false
 }
 
-pub fn letter(page: &mut [u8], n: usize, b: u8) -> usize {
-    if n < page.len() {
+pub fn letter(page: &mut [u8; 8192], n: usize, b: u8) -> usize {
+    if n < 8192 {
         page[n] = b;
         return n + 1;
     }
     n
 }
 
-pub fn words(page: &mut [u8], n: usize, s: &[u8]) -> usize {
+pub fn words(page: &mut [u8; 8192], n: usize, s: &[u8]) -> usize {
     let mut at = n;
     let mut i = 0;
     while i < s.len() {
@@ -56,17 +60,17 @@ pub fn words(page: &mut [u8], n: usize, s: &[u8]) -> usize {
     at
 }
 
-// Words that a person wrote, up to 4,096 letters of them: a control byte is shown as a dot.
+// Words that a person wrote, as many as stand on a page: a control byte is shown as a dot.
 pub fn show(out: i32, words: &[u8]) {
     if 0 < out {
-        let mut page = [0u8; 4096];
+        let mut page = [0u8; 8192];
         let n = shown(&mut page, 0, words);
         write(out, &page, n);
     }
 }
 
 // The same behind n letters of a page.
-pub fn shown(page: &mut [u8], n: usize, s: &[u8]) -> usize {
+pub fn shown(page: &mut [u8; 8192], n: usize, s: &[u8]) -> usize {
     let mut at = n;
     let mut i = 0;
     while i < s.len() {
@@ -78,14 +82,25 @@ pub fn shown(page: &mut [u8], n: usize, s: &[u8]) -> usize {
     at
 }
 
-pub fn decimal(page: &mut [u8], n: usize, number: u64) -> usize {
+pub fn decimal(page: &mut [u8; 8192], n: usize, number: u64) -> usize {
+    right(page, n, number, 0)
+}
+
+// A number to the right in so many letters.
+fn right(page: &mut [u8; 8192], n: usize, number: u64, width: usize) -> usize {
     let mut digits = [0u8; 20];
     let k = io::decimal(number, &mut digits);
-    words(page, n, &digits[..k])
+    let mut at = n;
+    let mut i = k;
+    while i < width {
+        at = letter(page, at, b' ');
+        i += 1;
+    }
+    words(page, at, &digits[..k])
 }
 
 // Words with numbers among them, behind n letters of a page.
-pub fn fill(page: &mut [u8], n: usize, words: &[u8], numbers: &[u64; 4]) -> usize {
+pub fn fill(page: &mut [u8; 8192], n: usize, words: &[u8], numbers: &[u64; 4]) -> usize {
     let mut at = n;
     let mut k = 0;
     let mut i = 0;
@@ -102,7 +117,7 @@ pub fn fill(page: &mut [u8], n: usize, words: &[u8], numbers: &[u64; 4]) -> usiz
 }
 
 // Each byte in hexadecimal behind n letters of a page, with a space before it.
-pub fn put_bytes(page: &mut [u8], n: usize, s: &[u8]) -> usize {
+pub fn put_bytes(page: &mut [u8; 8192], n: usize, s: &[u8]) -> usize {
     let mut at = n;
     let mut i = 0;
     while i < s.len() {
@@ -114,7 +129,7 @@ pub fn put_bytes(page: &mut [u8], n: usize, s: &[u8]) -> usize {
 }
 
 // A byte as two digits, upper case as in the papers.
-pub fn hex(page: &mut [u8], n: usize, b: u8) -> usize {
+pub fn hex(page: &mut [u8; 8192], n: usize, b: u8) -> usize {
     let at = letter(page, n, digit(b / 16));
     letter(page, at, digit(b))
 }

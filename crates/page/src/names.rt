@@ -10,7 +10,7 @@ pub fn is_sign(b: u8) -> bool {
 }
 
 // A letter, or the number that it stands for.
-pub fn sign(page: &mut [u8], n: usize, b: u8, number: u64) -> usize {
+pub fn sign(page: &mut [u8; 8192], n: usize, b: u8, number: u64) -> usize {
     let byte = (number % 256) as u8;
     match b {
         b'#' => crate::decimal(page, n, number),
@@ -27,27 +27,16 @@ pub fn sign(page: &mut [u8], n: usize, b: u8, number: u64) -> usize {
             byte,
             b"00 open\n01 close\n03 read data\n04 write data\n08 service request enable\n09 service request disable\n0A service request poll\nFE null operation\nFF bus reset\n",
         ),
-        b'@' => round(page, n, number),
+        b'@' => {
+            let at = crate::right(page, n, number, 8);
+            crate::words(page, at, b"  ")
+        }
         _ => crate::letter(page, n, b),
     }
 }
 
-// A round, to the right in eight letters, and two blanks.
-fn round(page: &mut [u8], n: usize, number: u64) -> usize {
-    let mut digits = [0u8; 20];
-    let k = io::decimal(number, &mut digits);
-    let mut at = n;
-    let mut i = k;
-    while i < 8 {
-        at = crate::letter(page, at, b' ');
-        i += 1;
-    }
-    at = crate::words(page, at, &digits[..k]);
-    crate::words(page, at, b"  ")
-}
-
 // A byte in hexadecimal, and its name, if a line of the list begins with it.
-fn named(page: &mut [u8], n: usize, b: u8, list: &[u8]) -> usize {
+fn named(page: &mut [u8; 8192], n: usize, b: u8, list: &[u8]) -> usize {
     let mut at = crate::hex(page, n, b);
     let high = crate::digit(b / 16);
     let low = crate::digit(b);
@@ -67,7 +56,7 @@ fn named(page: &mut [u8], n: usize, b: u8, list: &[u8]) -> usize {
     at
 }
 
-fn letter_if(page: &mut [u8], n: usize, so: bool, b: u8) -> usize {
+fn letter_if(page: &mut [u8; 8192], n: usize, so: bool, b: u8) -> usize {
     if so {
         return crate::letter(page, n, b);
     }

@@ -33,7 +33,7 @@ pub fn round(
     count: usize,
     standins: usize,
 ) -> bool {
-    let mut page = [b'\n'; 1024];
+    let mut page = [b'\n'; 8192];
     page[0] = b'#';
     let n = page::decimal(&mut page, 1, number) % 32 + 1;
     let end = scopes(
@@ -51,7 +51,7 @@ pub fn round(
 
 // The end of a dump: the time after its last round.
 pub fn end(descriptor: i32, number: u64) -> bool {
-    let mut page = [b'\n'; 32];
+    let mut page = [b'\n'; 8192];
     page[0] = b'#';
     let n = page::decimal(&mut page, 1, number);
     crate::sent(descriptor, &page, 0, n % 32 + 1)
@@ -62,7 +62,7 @@ const NAMES: u64 = 18446744073709551615;
 
 // What is written of each scope in turn: the bus, stand-ins, units, the controller.
 fn scopes(
-    page: &mut [u8],
+    page: &mut [u8; 8192],
     n: usize,
     words: &[u8],
     number: u64,
@@ -133,7 +133,7 @@ const STAND_IN: u64 = WIRES + 32;
 const ANY: u64 = WIRES + 64;
 
 // The lines of the words that are chosen, the first by the lowest bit.
-fn put(page: &mut [u8], n: usize, words: &[u8], lines: u64, i: usize, mark: u8) -> usize {
+fn put(page: &mut [u8; 8192], n: usize, words: &[u8], lines: u64, i: usize, mark: u8) -> usize {
     let mut left = lines;
     let mut at = n;
     let mut k = 0;
@@ -148,7 +148,7 @@ fn put(page: &mut [u8], n: usize, words: &[u8], lines: u64, i: usize, mark: u8) 
 
 // A letter of a line that is chosen, or what it stands for: @ for the code of the scope, ~ for the letter by which its wires are known,
 // ( to - for the bits of its mark from D0 to BAV.
-fn sign(page: &mut [u8], n: usize, b: u8, left: u64, i: usize, mark: u8) -> usize {
+fn sign(page: &mut [u8; 8192], n: usize, b: u8, left: u64, i: usize, mark: u8) -> usize {
     if left % 2 == 0 {
         return n;
     }

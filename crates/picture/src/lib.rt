@@ -16,11 +16,9 @@ pub fn mark(l: Lines) -> u8 {
 }
 
 // Writes the n letters that stand on a page, if there are more than so many; whether that succeeded.
-fn sent(descriptor: i32, page: &[u8], least: usize, n: usize) -> bool {
+fn sent(descriptor: i32, page: &[u8; 8192], least: usize, n: usize) -> bool {
     if least < n {
-        if n <= page.len() {
-            return io::write_all(descriptor, &page[0..n]);
-        }
+        return page::write(descriptor, page, n);
     }
     true
 }

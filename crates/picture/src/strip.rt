@@ -35,7 +35,7 @@ const LETTERS: [u8; 22] = *b"abcdefghijklmnopC wxyz";
 
 // The picture of the n rounds up to this one.
 pub fn show(out: i32, strip: &[u8], at: usize, n: usize, last: u64) {
-    let mut page = [b'\n'; 512];
+    let mut page = [b'\n'; 8192];
     let start = named(&mut page, 0, b"          rounds ", first(n, last));
     let to = named(&mut page, start, b" to ", last);
     let end = rows(&mut page, to, strip, at, n % 97);
@@ -51,12 +51,12 @@ fn first(n: usize, last: u64) -> u64 {
 }
 
 // Words, and a number behind them.
-fn named(page: &mut [u8], n: usize, words: &[u8], number: u64) -> usize {
+fn named(page: &mut [u8; 8192], n: usize, words: &[u8], number: u64) -> usize {
     let at = page::words(page, n, words);
     page::decimal(page, at, number)
 }
 
-fn rows(page: &mut [u8], n: usize, strip: &[u8], first: usize, columns: usize) -> usize {
+fn rows(page: &mut [u8; 8192], n: usize, strip: &[u8], first: usize, columns: usize) -> usize {
     let end = 4 * (columns % 97 + 15);
     let mut at = n;
     let mut i = 0;

@@ -22,7 +22,7 @@ pub fn expected<'a>(
     response: &'a [u8; 65536],
     memory: &'a [u8; 12288],
 ) -> Desk {
-    let mut page = [0u8; 4096];
+    let mut page = [0u8; 8192];
     let end = if is_of_bytes(d.statement.form) {
         of_bytes(d, name, text, rows, bytes, response, memory, &mut page)
     } else {
@@ -50,20 +50,21 @@ fn of_bytes<'a>(
     bytes: &'a [u8],
     response: &'a [u8],
     memory: &'a [u8],
-    page: &mut [u8; 4096],
+    page: &mut [u8; 8192],
 ) -> usize {
     let form = d.statement.form;
     let code = d.statement.numbers.first;
     let buffer = 768 * (plan::find(d.plan, rows, code) % 16) as usize;
-    let place = plan::find_stand_in(d.plan, rows, code) % 4;
-    let heard = HEARD_BYTES + 1024 * place as usize;
+    let place = (plan::find_stand_in(d.plan, rows, code) % 4) as usize;
+    let heard = HEARD_BYTES + 1024 * place;
+    let s = d.stand_ins[place];
     let found = match form {
         statement::RECEIVED => word::front(response, d.received as usize),
         statement::RESPONSE => response,
         statement::BUFFER => word::part(memory, buffer, buffer + 256),
         statement::TAKEN => word::part(bytes, TAKEN_BYTES, TAKEN_BYTES + (d.taken % 512) as usize),
         statement::RING => word::part(bytes, RING_BYTES, RING_BYTES + (d.entries % 64) as usize),
-        _ => word::part(bytes, heard, heard + stand_in::heard(rows, place) % 2048),
+        _ => word::part(bytes, heard, heard + s.noted() % 2048),
     };
     let wanted = word::front(bytes, d.statement.bytes as usize);
     judge::bytes(d, name, text, wanted, found, page)
@@ -78,7 +79,7 @@ fn numbers(d: Desk, looks: Numbers, rows: &[u64; 256]) -> Numbers {
         statement::LOOKS..=statement::PULLS => return looks,
         statement::STANDS => return looks,
         statement::LINES => {
-            let l = crate::levels(d, rows);
+            let l = crate::levels(d);
             n.first = statement::flag(l.bav);
             n.second = statement::flag(l.hsk);
             n.third = l.nibble as u64;
@@ -93,13 +94,13 @@ fn numbers(d: Desk, looks: Numbers, rows: &[u64; 256]) -> Numbers {
             n.first = code;
             n.second = hosts::number(rows, row, plan::find(d.plan, rows, code));
         }
-        _ => n.first = number(d, form, rows),
+        _ => n.first = number(d, form),
     }
     n
 }
 
 // The one number that an expectation finds; of what has no number, 1 where it is not so.
-fn number(d: Desk, form: u64, rows: &[u64; 256]) -> u64 {
+fn number(d: Desk, form: u64) -> u64 {
     match form {
         statement::STATUS => d.status,
         statement::REQUEST => d.request,
@@ -111,22 +112,22 @@ fn number(d: Desk, form: u64, rows: &[u64; 256]) -> u64 {
             1000000000
         },
         statement::ROUNDS => d.ran,
-        statement::IS_QUIET => statement::flag(!is_quiet(d, rows)),
+        statement::IS_QUIET => statement::flag(!is_quiet(d)),
         statement::UNREACHED => statement::flag(d.is_reached),
         _ => if d.refusal == 0 { OTHER } else { d.refusal },
     }
 }
 
 // Whether no party has anything to do: no line is pulled, no frame or rest runs, nothing is submitted, no unit holds a request.
-pub fn is_quiet(d: Desk, rows: &[u64; 256]) -> bool {
-    let l = crate::levels(d, rows);
+pub fn is_quiet(d: Desk) -> bool {
+    let l = crate::levels(d);
     let is_pulled = l.bav | l.hsk | (l.nibble != 15);
     d.is_free & !is_pulled & (d.requesting == 0)
 }
 
 // The unit at a place in the words in which it is expected, and how many turns it had.
 pub fn show_unit(d: Desk, forms: &[u8], looks: Numbers, i: u64, rows: &[u64; 256]) {
-    let mut page = [0u8; 4096];
+    let mut page = [0u8; 8192];
     put_unit(
         d,
         forms,
@@ -136,7 +137,7 @@ pub fn show_unit(d: Desk, forms: &[u8], looks: Numbers, i: u64, rows: &[u64; 256
     );
 }
 
-fn put_unit(d: Desk, forms: &[u8], looks: Numbers, turns: u64, page: &mut [u8; 4096]) {
+fn put_unit(d: Desk, forms: &[u8], looks: Numbers, turns: u64, page: &mut [u8; 8192]) {
     let n = fault::statement(page, 0, forms, statement::LOOKS, looks);
     tell::say(d, tell::ROUND, 0, 0, 0);
     page::say(d.out, word::part(page, 8, n));

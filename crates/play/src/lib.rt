@@ -120,13 +120,8 @@ fn set(d: Desk, rows: &mut [u64; 256], bytes: &mut [u8; 159744]) -> Desk {
     let mut next = d;
     next.most = 0;
     match form {
-        statement::STAND_IN => next.plan = plan::stand_in(d.plan, n, rows),
-        statement::ANSWER => answer(
-            plan::find_stand_in(d.plan, rows, n.first) % 4,
-            d.statement,
-            rows,
-            bytes,
-        ),
+        statement::STAND_IN => return stood_in(d, rows),
+        statement::ANSWER => return answered(d, rows, bytes),
         statement::EACH => next.acknowledges = true,
         statement::BY_HAND => next.acknowledges = false,
         statement::HOLD => {
@@ -141,19 +136,33 @@ fn set(d: Desk, rows: &mut [u64; 256], bytes: &mut [u8; 159744]) -> Desk {
     next
 }
 
+// One stand-in more.
+fn stood_in(d: Desk, rows: &mut [u64; 256]) -> Desk {
+    let place = (d.plan.stand_ins % 4) as usize;
+    let mut next = d;
+    next.plan = plan::stand_in(d.plan, d.statement.numbers, rows);
+    next.stand_ins[place] = stand_in::new(rows[desk::STAND_IN_CODES + place]);
+    next
+}
+
 // What a stand-in answers.
-fn answer(i: u64, s: Statement, rows: &mut [u64; 256], bytes: &mut [u8; 159744]) {
+fn answered(d: Desk, rows: &[u64; 256], bytes: &mut [u8; 159744]) -> Desk {
+    let s = d.statement;
+    let place = (plan::find_stand_in(d.plan, rows, s.numbers.first) % 4) as usize;
     let length = s.bytes % 1025;
-    stand_in::answer(rows, i, s.numbers, length);
+    let mut next = d;
+    let one = d.stand_ins[place];
+    next.stand_ins[place] = one.answers(s.numbers, length);
     statement::copy(
         bytes,
-        statement::ANSWER_BYTES + 1024 * (i % 4) as usize,
+        statement::ANSWER_BYTES + 1024 * place,
         length as usize,
     );
+    next
 }
 
 // Whether the bus does so once more. How far a long run is, is said.
-pub fn goes_on(d: Desk, rows: &[u64; 256]) -> bool {
+pub fn goes_on(d: Desk) -> bool {
     if (d.done % 1000000 == 0) & (0 < d.done) & (d.act == A_ROUND) {
         page::tell(
             STDERR_FILENO,
@@ -164,23 +173,24 @@ pub fn goes_on(d: Desk, rows: &[u64; 256]) -> bool {
             0,
         );
     }
-    (d.done < d.most) & !is_over(d, rows)
+    (d.done < d.most) & !is_over(d)
 }
 
 // Whether the run has come to the end that it was to come to.
-fn is_over(d: Desk, rows: &[u64; 256]) -> bool {
+fn is_over(d: Desk) -> bool {
     let until = d.until;
     match until {
         statement::ENDED => !d.is_submitted,
-        statement::QUIET => found::is_quiet(d, rows),
+        statement::QUIET => found::is_quiet(d),
         statement::UNTIL_FREE => d.is_free,
         _ => false,
     }
 }
 
 // The levels left by all pulls: those of the parties of the bus, of stand-ins, and of what holds lines low from outside.
-pub fn levels(d: Desk, rows: &[u64; 256]) -> Lines {
-    let l = stand_in::levels(rows, d.plan.stand_ins, d.lines);
+pub fn levels(d: Desk) -> Lines {
+    let all = d.stand_ins;
+    let l = stand_in::levels(all, d.plan.stand_ins, d.lines);
     if 0 < d.hold {
         return line::wired(l, d.held_low);
     }
@@ -188,9 +198,9 @@ pub fn levels(d: Desk, rows: &[u64; 256]) -> Lines {
 }
 
 // The levels at which the bus acts: these in a round, and else those that the statement names.
-pub fn levels_for(d: Desk, act: u64, rows: &[u64; 256]) -> Lines {
+pub fn levels_for(d: Desk, act: u64) -> Lines {
     if act == A_ROUND {
-        return levels(d, rows);
+        return levels(d);
     }
     desk::levels(d.statement.numbers)
 }
@@ -211,21 +221,11 @@ pub fn concluded<'a>(
     let form = s.form;
     let mut next = d;
     match form {
-        statement::DO => next = submits(d, rows),
-        statement::CONTROLLER..=statement::STEP => next = acted(d, rows, bytes),
+        statement::DO => next = submits(d),
+        statement::CONTROLLER..=statement::STEP => next = acted(d, bytes),
         statement::REPEAT..=statement::SHOW_FAILURES => next = shown(d, bytes, response),
         statement::STATUS..=statement::STANDS => {
-            next = found::expected(
-                forms,
-                name,
-                text,
-                d,
-                found,
-                rows,
-                bytes,
-                response,
-                memory,
-            )
+            next = found::expected(forms, name, text, d, found, rows, bytes, response, memory)
         }
         _ => {}
     }
@@ -237,11 +237,11 @@ pub fn concluded<'a>(
 }
 
 // A `do` waits until the bus is free, submits, and runs until the command has ended.
-fn submits(d: Desk, rows: &[u64; 256]) -> Desk {
+fn submits(d: Desk) -> Desk {
     let mut next = d;
     next.part = 0;
     if d.part == 3 {
-        return ran(next, rows);
+        return ran(next);
     }
     if d.part == 2 {
         tell::refusal(d, statement::DO);
@@ -251,14 +251,14 @@ fn submits(d: Desk, rows: &[u64; 256]) -> Desk {
         return next;
     }
     next.ran = d.done;
-    if is_over(d, rows) {
+    if is_over(d) {
         return part(next, 2, OF_CONTROLLER, 1, statement::RUN);
     }
     unreached(next)
 }
 
 // Calls and rounds.
-fn acted(d: Desk, rows: &[u64; 256], bytes: &[u8]) -> Desk {
+fn acted(d: Desk, bytes: &[u8]) -> Desk {
     let s = d.statement;
     let mut next = d;
     if s.form == statement::STEP {
@@ -266,7 +266,7 @@ fn acted(d: Desk, rows: &[u64; 256], bytes: &[u8]) -> Desk {
         return next;
     }
     if d.act == A_ROUND {
-        return ran(d, rows);
+        return ran(d);
     }
     if s.form == statement::TAKE {
         tell::given(d, s.numbers.first, bytes);
@@ -276,9 +276,9 @@ fn acted(d: Desk, rows: &[u64; 256], bytes: &[u8]) -> Desk {
 }
 
 // A run, and how long it was.
-fn ran(d: Desk, rows: &[u64; 256]) -> Desk {
+fn ran(d: Desk) -> Desk {
     let mut next = d;
-    if (d.until != statement::RUN) & !is_over(d, rows) {
+    if (d.until != statement::RUN) & !is_over(d) {
         next = unreached(d);
     }
     next.ran = d.done;

@@ -43,13 +43,7 @@ fn one_more(d: Desk, refusal: u64, rows: &mut [u64; 256]) -> Desk {
 }
 
 // The unit at a place has acted for the statement: the number that this came to.
-fn of_unit(
-    d: Desk,
-    i: u64,
-    number: u64,
-    rows: &mut [u64; 256],
-    bytes: &[u8; 159744],
-) -> Desk {
+fn of_unit(d: Desk, i: u64, number: u64, rows: &mut [u64; 256], bytes: &[u8; 159744]) -> Desk {
     let form = d.statement.form;
     let every = d.statement.numbers.second;
     let mut next = d;
@@ -142,7 +136,9 @@ fn round(
     next.round = d.round % desk::FOR_EVER + 1;
     next.hold = statement::less(d.hold);
     if 0 < d.plan.stand_ins {
-        stand_in::steps(rows, d.plan.stand_ins, levels, bytes);
+        let before = d.stand_ins;
+        let all = stand_in::steps(before, d.plan.stand_ins, levels, bytes);
+        next.stand_ins = all;
     }
     if t.is_told {
         return told(next, t, rows, response);

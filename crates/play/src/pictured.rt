@@ -15,7 +15,7 @@ pub fn is_wanted(d: Desk, act: u64) -> bool {
 // Behind a round, or a step by hand: what each party leaves on the lines, units by their place, then the controller. All together and
 // stand-ins are added here.
 pub fn round(d: Desk, marks: [u8; 22], rows: &[u64; 256], bytes: &mut [u8; 159744]) -> Desk {
-    let after = with_stand_ins(d, marks, rows);
+    let after = with_stand_ins(d, marks);
     let before = d.marks;
     let mut next = d;
     next.marks = after;
@@ -28,12 +28,13 @@ pub fn round(d: Desk, marks: [u8; 22], rows: &[u64; 256], bytes: &mut [u8; 15974
     next
 }
 
-fn with_stand_ins(d: Desk, marks: [u8; 22], rows: &[u64; 256]) -> [u8; 22] {
+fn with_stand_ins(d: Desk, marks: [u8; 22]) -> [u8; 22] {
     let mut after = marks;
-    after[ALL] = picture::mark(crate::levels(d, rows));
-    let mut i = 0u64;
+    after[ALL] = picture::mark(crate::levels(d));
+    let mut i = 0usize;
     while i < 4 {
-        after[18 + i as usize] = picture::mark(stand_in::pulls(rows, i));
+        let s = d.stand_ins[i];
+        after[18 + i] = picture::mark(s.pulls());
         i += 1;
     }
     after

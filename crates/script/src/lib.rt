@@ -9,7 +9,7 @@ use word::Word;
 
 // The forms, at the front of a page; how many letters they have. A word in capitals is a kind of value, a bar stands between words one
 // of which is meant, and what stands in brackets may be left out.
-pub fn forms(page: &mut [u8; 4096]) -> usize {
+pub fn forms(page: &mut [u8; 8192]) -> usize {
     page::words(
         page,
         0,

@@ -1,29 +1,32 @@
 -- What is left to go through grows less.
-use borrow.Author.Needs.{needs}
-use Prim.Native.Nat.{_-_}
 use Rattle.stand_in.proofs.steps.Statement.{statement}
 use Rattle.stand_in.proofs.steps.Tie as tie
-use Rattle.stand_in.proofs.StandIn.stepped.Reads as stepped-reads
-use Rattle.stand_in.proofs.load.Reads as load-reads
-use Rattle.stand_in.proofs.store.Reads as store-reads
+use borrow.Author.Needs.{needs}
+use Prim.Native.Nat.{_-_}
 
 abbrev Inv-loop : tie.InvT-loop
-Inv-loop rows₀ count seen bytes₀ n i₀ rows bytes i = Unit {0}
+Inv-loop count seen bytes₀ all n next₀ i₀ bytes next i = Unit {0}
 
 abbrev μ-loop : tie.MeasureT-loop
-μ-loop rows₀ count seen bytes₀ n i₀ rows bytes i = 5 - i
+μ-loop count seen bytes₀ all n next₀ i₀ bytes next i = 5 - i
 
 loop-holds : tie.Need-loop-holds Inv-loop μ-loop
 loop-holds c = search needs
 
-load-requires : tie.Need-load-requires Inv-loop μ-loop
-load-requires c κs = search needs
+mul-s : tie.Need-mul-s Inv-loop μ-loop
+mul-s c = search needs
+
+array-copy-out-s : tie.Need-array-copy-out-s Inv-loop μ-loop
+array-copy-out-s c = search needs
 
 stepped-requires : tie.Need-stepped-requires Inv-loop μ-loop
 stepped-requires c κs = search needs
 
-store-requires : tie.Need-store-requires Inv-loop μ-loop
-store-requires c κs = search needs
+mul-next : tie.Need-mul-next Inv-loop μ-loop
+mul-next c = search needs
+
+array-set-from-next : tie.Need-array-set-from-next Inv-loop μ-loop
+array-set-from-next c = search needs
 
 add-i : tie.Need-add-i Inv-loop μ-loop
 add-i c = search needs
@@ -44,9 +47,11 @@ steps-spec =
     Inv-loop
     μ-loop
     loop-holds
-    load-requires
+    mul-s
+    array-copy-out-s
     stepped-requires
-    store-requires
+    mul-next
+    array-set-from-next
     add-i
     loop-less
     loop-again

