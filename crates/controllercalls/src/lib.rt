@@ -6,6 +6,7 @@ use application::Making;
 use application::Submitting;
 use controller::Controller;
 use controller::Stepped;
+use controller::Stepping;
 use frame::Stage;
 use header::Command;
 use line::Lines;
@@ -31,19 +32,15 @@ pub fn act(
 ) -> Acted {
     let form = s.form;
     match form {
-        statement::CONTROLLER => make(c, statement::or(s.numbers.first, 200)),
-        statement::RESTART => make(c, c.timeout as u64),
-        statement::SUBMIT..=statement::DO => submit(c, s, bytes, response),
-        statement::ACKNOWLEDGE => acknowledge(c, (s.numbers.first % 256) as u8),
-        _ => left(c, 0),
+        statement::CONTROLLER => return make(c, statement::or(s.numbers.first, 200)),
+        statement::RESTART => return make(c, c.timeout as u64),
+        statement::SUBMIT..=statement::DO => return submit(c, s, bytes, response),
+        statement::ACKNOWLEDGE => return acknowledge(c, (s.numbers.first % 256) as u8),
+        _ => (),
     }
-}
-
-// It is left as it is.
-fn left(controller: Controller, refusal: u64) -> Acted {
     Acted {
-        controller,
-        refusal,
+        controller: c,
+        refusal: 0,
     }
 }
 
@@ -52,18 +49,26 @@ fn make(c: Controller, timeout: u64) -> Acted {
     let made = application::make((timeout % 4294967296) as u32);
     let outcome = made.outcome;
     match outcome {
-        Making::New => left(made.controller, 0),
-        Making::Setting => left(c, 5),
+        Making::New => with(made.controller, 0),
+        Making::Setting => with(c, 5),
     }
 }
 
-// The application acknowledges the request of a code.
+// The application acknowledges the request of a code. A refusal leaves the controller as it is.
 pub fn acknowledge(c: Controller, code: u8) -> Acted {
     let acknowledged = application::acknowledge(c, code);
     let outcome = acknowledged.outcome;
-    match outcome {
-        Acknowledging::Cleared => left(acknowledged.controller, 0),
-        Acknowledging::NotMarked => left(c, 8),
+    let refusal = match outcome {
+        Acknowledging::Cleared => 0,
+        Acknowledging::NotMarked => 8,
+    };
+    with(acknowledged.controller, refusal)
+}
+
+fn with(controller: Controller, refusal: u64) -> Acted {
+    Acted {
+        controller,
+        refusal,
     }
 }
 
@@ -75,42 +80,30 @@ fn submit(
     bytes: &mut [u8; 159744],
     response: &mut [u8; 65536],
 ) -> Acted {
-    let front = statement::front(s.numbers) % 4;
-    let length = s.bytes % 65537 + front;
-    let command = command_of(s.numbers, if front == 3 { 4 } else { 0 });
-    let lent = (statement::or(s.numbers.sixth, 65535) % 65536) as usize;
-    let refusal = if s.form == statement::FORCE {
-        forcing(c)
-    } else {
-        submitting(
-            c,
-            command,
-            word::front(bytes, length as usize),
-            word::front(response, lent),
-        )
-    };
+    let refusal = refusal(c, s, bytes, response);
     if 0 < refusal {
-        return left(c, refusal);
+        return Acted {
+            controller: c,
+            refusal,
+        };
     }
-    keep(s, bytes, front as usize);
+    keep(s, bytes);
     fill(response);
-    left(waiting(c, command, length), 0)
+    waiting(c, s)
 }
 
-// The command of a statement, with this buffer length where it gives none.
-fn command_of(n: Numbers, buffer: u64) -> Command {
-    Command {
-        device: (n.first % 256) as u8,
-        command: (n.second % 256) as u8,
-        logical_unit: (statement::or(n.third, 0) % 256) as u8,
-        record_number: (statement::or(n.fourth, 0) % 65536) as u16,
-        buffer_length: (statement::or(n.fifth, buffer) % 65536) as u16,
+// The refusal of a command, 0 for none. One that is forced is refused only while another runs.
+fn refusal(c: Controller, s: Statement, bytes: &[u8], response: &[u8]) -> u64 {
+    if s.form == statement::FORCE {
+        return forcing(c);
     }
-}
-
-// The refusal of a command by the application's checks, 0 for none.
-fn submitting(c: Controller, command: Command, data: &[u8], response: &[u8]) -> u64 {
-    let submitted = application::submit(c, command, data, response);
+    let lent = statement::or(s.numbers.sixth, 65535) % 65536;
+    let submitted = application::submit(
+        c,
+        command_of(s.numbers),
+        word::front(bytes, length_of(s) as usize),
+        word::front(response, lent as usize),
+    );
     let outcome = submitted.outcome;
     match outcome {
         Submitting::Accepted => 0,
@@ -127,18 +120,42 @@ fn forcing(c: Controller) -> u64 {
     if controller::is_idle(stage) { 0 } else { 1 }
 }
 
-// A controller that waits with a command, as one that has accepted it.
-fn waiting(c: Controller, command: Command, length: u64) -> Controller {
+// The command of a statement. Where it gives no buffer length, this is 4 for an open in words.
+fn command_of(n: Numbers) -> Command {
+    let buffer = if statement::front(n) == 3 { 4 } else { 0 };
+    Command {
+        device: (n.first % 256) as u8,
+        command: (n.second % 256) as u8,
+        logical_unit: (statement::or(n.third, 0) % 256) as u8,
+        record_number: (statement::or(n.fourth, 0) % 65536) as u16,
+        buffer_length: (statement::or(n.fifth, buffer) % 65536) as u16,
+    }
+}
+
+// How many bytes of data the command has.
+fn length_of(s: Statement) -> u64 {
+    s.bytes % 65537 + statement::front(s.numbers) % 4
+}
+
+// A controller that waits with the command, as one that has accepted it.
+fn waiting(c: Controller, s: Statement) -> Acted {
+    let length = (length_of(s) % 65536) as u16;
+    let command = command_of(s.numbers);
     let ring = c.ring;
-    Controller {
+    let controller = Controller {
         timeout: c.timeout,
-        stage: Stage::Waiting(frame::submitted(command, (length % 65536) as u16)),
+        stage: Stage::Waiting(frame::submitted(command, length)),
         ring,
+    };
+    Acted {
+        controller,
+        refusal: 0,
     }
 }
 
 // The data of a command: for an open in words its length and attributes, then the bytes of the statement.
-fn keep(s: Statement, bytes: &mut [u8; 159744], front: usize) {
+fn keep(s: Statement, bytes: &mut [u8; 159744]) {
+    let front = statement::front(s.numbers) as usize;
     let length = statement::or(s.numbers.twelfth, 0);
     if 0 < front {
         bytes[COMMAND_BYTES] = (length % 256) as u8;
@@ -175,22 +192,26 @@ pub fn step(
     bytes: &[u8; 159744],
     response: &mut [u8; 65536],
 ) -> Stepped {
-    let busy = s.numbers.fifth != NONE;
-    let most = (statement::or(s.numbers.seventh, lent) % 65536) as usize;
-    if s.numbers.eighth == NONE {
-        return with_lent(c, seen, busy, data(bytes, length), most, response);
-    }
+    let data = data_of(s, length, bytes);
+    let most = statement::or(s.numbers.seventh, lent) % 65536;
     with_lent(
         c,
         seen,
-        busy,
-        word::front(bytes, s.bytes as usize),
-        most,
+        s.numbers.fifth != NONE,
+        data,
+        most as usize,
         response,
     )
 }
 
-// A step with so much of the response buffer lent, all of it where there is no more.
+fn data_of(s: Statement, length: u64, bytes: &[u8]) -> &[u8] {
+    if s.numbers.eighth == NONE {
+        return data(bytes, length);
+    }
+    word::front(bytes, s.bytes as usize)
+}
+
+// A step with so much of the response buffer lent.
 fn with_lent(
     c: Controller,
     seen: Lines,
@@ -202,7 +223,11 @@ fn with_lent(
     if lent <= response.len() {
         return controller::step(c, seen, busy, data, &mut response[0..lent]);
     }
-    controller::step(c, seen, busy, data, response)
+    // No script lends more than there is.
+    Stepped {
+        controller: c,
+        outcome: Stepping::Buffer,
+    }
 }
 
 // The numbers that an expectation finds of the controller: what it pulls, or all that the application may look at.
@@ -227,8 +252,9 @@ pub fn entries(r: Ring, bytes: &mut [u8; 159744]) -> u64 {
     let mut i = 0usize;
     while i < 16 {
         let e = r.entry(i);
-        bytes[RING_BYTES + 2 * i] = e.code;
-        bytes[RING_BYTES + 2 * i + 1] = e.marked as u8;
+        let at = RING_BYTES + 2 * i;
+        bytes[at] = e.code;
+        bytes[at + 1] = e.marked as u8;
         i += 1;
     }
     2 * (r.len() as u64 % 17)

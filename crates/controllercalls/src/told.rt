@@ -10,9 +10,7 @@ use turn::Event;
 
 // From the stage before it.
 pub fn told(before: Stage, c: Controller, outcome: Stepping) -> Told {
-    let after = c.stage;
-    let ring = c.ring;
-    let mut t = framed(before, after, ring);
+    let mut t = framed(before, c);
     let is_frame = t.frame != statement::NO_FRAME;
     t.is_told = true;
     match outcome {
@@ -33,7 +31,9 @@ pub fn told(before: Stage, c: Controller, outcome: Stepping) -> Told {
 }
 
 // Frames that begin, and service frames that end.
-fn framed(before: Stage, after: Stage, ring: Ring) -> Told {
+fn framed(before: Stage, c: Controller) -> Told {
+    let after = c.stage;
+    let ring = c.ring;
     match before {
         Stage::Free => service(after, ring),
         Stage::Waiting(f) => submitted(f),

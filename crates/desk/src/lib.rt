@@ -9,8 +9,6 @@ pub mod tell;
 
 use crate::plan::Plan;
 use line::Lines;
-use picture::RELEASED;
-use stand_in::StandIn;
 use statement::BLANK;
 use statement::NONE;
 use statement::Numbers;
@@ -23,8 +21,6 @@ pub struct Desk {
     // The statement that is under way, and whether it is.
     pub statement: Statement,
     pub is_under_way: bool,
-    // The stand-ins of the plan.
-    pub stand_ins: [StandIn; 4],
     // The rounds so far, and those of the last run.
     pub round: u64,
     pub ran: u64,
@@ -78,13 +74,13 @@ pub struct Desk {
     pub out: i32,
     pub dump: i32,
     pub is_dump_lost: bool,
-    // Whether frames are pictured, how many columns stand on the strip, and the marks of the last round (picture).
+    // Whether frames are pictured, and how many columns stand on the strip.
     pub is_pictured: bool,
     pub columns: usize,
-    pub marks: [u8; 22],
 }
 
-// The rows: the codes of units by their place, and of stand-ins, 0 for one of every code; then what there is of each host (hosts).
+// The rows: the codes of units by their place, and of stand-ins, 0 for one of every code; then what there is of each host (hosts), and of
+// each stand-in (stand_in).
 pub const CODES: usize = 0;
 
 pub const STAND_IN_CODES: usize = 16;
@@ -110,7 +106,6 @@ pub fn start(logged: usize) -> Desk {
             bytes: 0,
         },
         is_under_way: false,
-        stand_ins: [stand_in::new(0); 4],
         round: 0,
         ran: 0,
         act: 0,
@@ -150,7 +145,6 @@ pub fn start(logged: usize) -> Desk {
         is_dump_lost: false,
         is_pictured: false,
         columns: 0,
-        marks: [RELEASED; 22],
     }
 }
 

@@ -205,7 +205,7 @@ fn step(
     if !d.is_under_way {
         d = play::next(forms, name, text, d, rows, bytes);
     }
-    if play::goes_on(d) {
+    if play::goes_on(d, rows) {
         return act(b.bus, d, rows, bytes, response, memory);
     }
     concluded(forms, name, text, b.bus, d, rows, bytes, response, memory)
@@ -221,7 +221,7 @@ fn act(
 ) -> Bench {
     let act = hosts::now(d, rows);
     let busy = hosts::busy_hosts(d, act, rows);
-    let levels = play::levels_for(d, act);
+    let levels = play::levels_for(d, act, rows);
     let a = bench::act(
         bus,
         act,

@@ -55,16 +55,15 @@ fn of_bytes<'a>(
     let form = d.statement.form;
     let code = d.statement.numbers.first;
     let buffer = 768 * (plan::find(d.plan, rows, code) % 16) as usize;
-    let place = (plan::find_stand_in(d.plan, rows, code) % 4) as usize;
-    let heard = HEARD_BYTES + 1024 * place;
-    let s = d.stand_ins[place];
+    let place = plan::find_stand_in(d.plan, rows, code) % 4;
+    let heard = HEARD_BYTES + 1024 * place as usize;
     let found = match form {
         statement::RECEIVED => word::front(response, d.received as usize),
         statement::RESPONSE => response,
         statement::BUFFER => word::part(memory, buffer, buffer + 256),
         statement::TAKEN => word::part(bytes, TAKEN_BYTES, TAKEN_BYTES + (d.taken % 512) as usize),
         statement::RING => word::part(bytes, RING_BYTES, RING_BYTES + (d.entries % 64) as usize),
-        _ => word::part(bytes, heard, heard + s.noted() % 2048),
+        _ => word::part(bytes, heard, heard + stand_in::heard(rows, place) % 2048),
     };
     let wanted = word::front(bytes, d.statement.bytes as usize);
     judge::bytes(d, name, text, wanted, found, page)
@@ -79,7 +78,7 @@ fn numbers(d: Desk, looks: Numbers, rows: &[u64; 256]) -> Numbers {
         statement::LOOKS..=statement::PULLS => return looks,
         statement::STANDS => return looks,
         statement::LINES => {
-            let l = crate::levels(d);
+            let l = crate::levels(d, rows);
             n.first = statement::flag(l.bav);
             n.second = statement::flag(l.hsk);
             n.third = l.nibble as u64;
@@ -94,13 +93,13 @@ fn numbers(d: Desk, looks: Numbers, rows: &[u64; 256]) -> Numbers {
             n.first = code;
             n.second = hosts::number(rows, row, plan::find(d.plan, rows, code));
         }
-        _ => n.first = number(d, form),
+        _ => n.first = number(d, form, rows),
     }
     n
 }
 
 // The one number that an expectation finds; of what has no number, 1 where it is not so.
-fn number(d: Desk, form: u64) -> u64 {
+fn number(d: Desk, form: u64, rows: &[u64; 256]) -> u64 {
     match form {
         statement::STATUS => d.status,
         statement::REQUEST => d.request,
@@ -112,15 +111,15 @@ fn number(d: Desk, form: u64) -> u64 {
             1000000000
         },
         statement::ROUNDS => d.ran,
-        statement::IS_QUIET => statement::flag(!is_quiet(d)),
+        statement::IS_QUIET => statement::flag(!is_quiet(d, rows)),
         statement::UNREACHED => statement::flag(d.is_reached),
         _ => if d.refusal == 0 { OTHER } else { d.refusal },
     }
 }
 
 // Whether no party has anything to do: no line is pulled, no frame or rest runs, nothing is submitted, no unit holds a request.
-pub fn is_quiet(d: Desk) -> bool {
-    let l = crate::levels(d);
+pub fn is_quiet(d: Desk, rows: &[u64; 256]) -> bool {
+    let l = crate::levels(d, rows);
     let is_pulled = l.bav | l.hsk | (l.nibble != 15);
     d.is_free & !is_pulled & (d.requesting == 0)
 }

@@ -120,8 +120,13 @@ fn set(d: Desk, rows: &mut [u64; 256], bytes: &mut [u8; 159744]) -> Desk {
     let mut next = d;
     next.most = 0;
     match form {
-        statement::STAND_IN => return stood_in(d, rows),
-        statement::ANSWER => return answered(d, rows, bytes),
+        statement::STAND_IN => next.plan = plan::stand_in(d.plan, n, rows),
+        statement::ANSWER => answer(
+            plan::find_stand_in(d.plan, rows, n.first) % 4,
+            d.statement,
+            rows,
+            bytes,
+        ),
         statement::EACH => next.acknowledges = true,
         statement::BY_HAND => next.acknowledges = false,
         statement::HOLD => {
@@ -136,33 +141,19 @@ fn set(d: Desk, rows: &mut [u64; 256], bytes: &mut [u8; 159744]) -> Desk {
     next
 }
 
-// One stand-in more.
-fn stood_in(d: Desk, rows: &mut [u64; 256]) -> Desk {
-    let place = (d.plan.stand_ins % 4) as usize;
-    let mut next = d;
-    next.plan = plan::stand_in(d.plan, d.statement.numbers, rows);
-    next.stand_ins[place] = stand_in::new(rows[desk::STAND_IN_CODES + place]);
-    next
-}
-
 // What a stand-in answers.
-fn answered(d: Desk, rows: &[u64; 256], bytes: &mut [u8; 159744]) -> Desk {
-    let s = d.statement;
-    let place = (plan::find_stand_in(d.plan, rows, s.numbers.first) % 4) as usize;
+fn answer(i: u64, s: Statement, rows: &mut [u64; 256], bytes: &mut [u8; 159744]) {
     let length = s.bytes % 1025;
-    let mut next = d;
-    let one = d.stand_ins[place];
-    next.stand_ins[place] = one.answers(s.numbers, length);
+    stand_in::answer(rows, i, s.numbers, length);
     statement::copy(
         bytes,
-        statement::ANSWER_BYTES + 1024 * place,
+        statement::ANSWER_BYTES + 1024 * (i % 4) as usize,
         length as usize,
     );
-    next
 }
 
 // Whether the bus does so once more. How far a long run is, is said.
-pub fn goes_on(d: Desk) -> bool {
+pub fn goes_on(d: Desk, rows: &[u64; 256]) -> bool {
     if (d.done % 1000000 == 0) & (0 < d.done) & (d.act == A_ROUND) {
         page::tell(
             STDERR_FILENO,
@@ -173,24 +164,23 @@ pub fn goes_on(d: Desk) -> bool {
             0,
         );
     }
-    (d.done < d.most) & !is_over(d)
+    (d.done < d.most) & !is_over(d, rows)
 }
 
 // Whether the run has come to the end that it was to come to.
-fn is_over(d: Desk) -> bool {
+fn is_over(d: Desk, rows: &[u64; 256]) -> bool {
     let until = d.until;
     match until {
         statement::ENDED => !d.is_submitted,
-        statement::QUIET => found::is_quiet(d),
+        statement::QUIET => found::is_quiet(d, rows),
         statement::UNTIL_FREE => d.is_free,
         _ => false,
     }
 }
 
 // The levels left by all pulls: those of the parties of the bus, of stand-ins, and of what holds lines low from outside.
-pub fn levels(d: Desk) -> Lines {
-    let all = d.stand_ins;
-    let l = stand_in::levels(all, d.plan.stand_ins, d.lines);
+pub fn levels(d: Desk, rows: &[u64; 256]) -> Lines {
+    let l = stand_in::levels(rows, d.plan.stand_ins, d.lines);
     if 0 < d.hold {
         return line::wired(l, d.held_low);
     }
@@ -198,9 +188,9 @@ pub fn levels(d: Desk) -> Lines {
 }
 
 // The levels at which the bus acts: these in a round, and else those that the statement names.
-pub fn levels_for(d: Desk, act: u64) -> Lines {
+pub fn levels_for(d: Desk, act: u64, rows: &[u64; 256]) -> Lines {
     if act == A_ROUND {
-        return levels(d);
+        return levels(d, rows);
     }
     desk::levels(d.statement.numbers)
 }
@@ -221,8 +211,8 @@ pub fn concluded<'a>(
     let form = s.form;
     let mut next = d;
     match form {
-        statement::DO => next = submits(d),
-        statement::CONTROLLER..=statement::STEP => next = acted(d, bytes),
+        statement::DO => next = submits(d, rows),
+        statement::CONTROLLER..=statement::STEP => next = acted(d, rows, bytes),
         statement::REPEAT..=statement::SHOW_FAILURES => next = shown(d, bytes, response),
         statement::STATUS..=statement::STANDS => {
             next = found::expected(forms, name, text, d, found, rows, bytes, response, memory)
@@ -237,11 +227,11 @@ pub fn concluded<'a>(
 }
 
 // A `do` waits until the bus is free, submits, and runs until the command has ended.
-fn submits(d: Desk) -> Desk {
+fn submits(d: Desk, rows: &[u64; 256]) -> Desk {
     let mut next = d;
     next.part = 0;
     if d.part == 3 {
-        return ran(next);
+        return ran(next, rows);
     }
     if d.part == 2 {
         tell::refusal(d, statement::DO);
@@ -251,14 +241,14 @@ fn submits(d: Desk) -> Desk {
         return next;
     }
     next.ran = d.done;
-    if is_over(d) {
+    if is_over(d, rows) {
         return part(next, 2, OF_CONTROLLER, 1, statement::RUN);
     }
     unreached(next)
 }
 
 // Calls and rounds.
-fn acted(d: Desk, bytes: &[u8]) -> Desk {
+fn acted(d: Desk, rows: &[u64; 256], bytes: &[u8]) -> Desk {
     let s = d.statement;
     let mut next = d;
     if s.form == statement::STEP {
@@ -266,7 +256,7 @@ fn acted(d: Desk, bytes: &[u8]) -> Desk {
         return next;
     }
     if d.act == A_ROUND {
-        return ran(d);
+        return ran(d, rows);
     }
     if s.form == statement::TAKE {
         tell::given(d, s.numbers.first, bytes);
@@ -276,9 +266,9 @@ fn acted(d: Desk, bytes: &[u8]) -> Desk {
 }
 
 // A run, and how long it was.
-fn ran(d: Desk) -> Desk {
+fn ran(d: Desk, rows: &[u64; 256]) -> Desk {
     let mut next = d;
-    if (d.until != statement::RUN) & !is_over(d) {
+    if (d.until != statement::RUN) & !is_over(d, rows) {
         next = unreached(d);
     }
     next.ran = d.done;

@@ -136,9 +136,7 @@ fn round(
     next.round = d.round % desk::FOR_EVER + 1;
     next.hold = statement::less(d.hold);
     if 0 < d.plan.stand_ins {
-        let before = d.stand_ins;
-        let all = stand_in::steps(before, d.plan.stand_ins, levels, bytes);
-        next.stand_ins = all;
+        stand_in::steps(rows, d.plan.stand_ins, levels, bytes);
     }
     if t.is_told {
         return told(next, t, rows, response);

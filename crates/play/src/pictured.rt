@@ -4,6 +4,7 @@ use desk::Desk;
 use desk::STAND_IN_CODES;
 use picture::ALL;
 use picture::RELEASED;
+use statement::MARK_BYTES;
 use statement::STRIP_BYTES;
 
 // Whether an act is dumped or pictured: a round, or a step by hand.
@@ -15,12 +16,10 @@ pub fn is_wanted(d: Desk, act: u64) -> bool {
 // Behind a round, or a step by hand: what each party leaves on the lines, units by their place, then the controller. All together and
 // stand-ins are added here.
 pub fn round(d: Desk, marks: [u8; 22], rows: &[u64; 256], bytes: &mut [u8; 159744]) -> Desk {
-    let after = with_stand_ins(d, marks);
-    let before = d.marks;
+    let after = with_stand_ins(d, marks, rows);
     let mut next = d;
-    next.marks = after;
     if 0 < d.dump {
-        next = dumped(next, rows, &before, &after);
+        next = dumped(d, rows, bytes, &after);
     }
     if d.is_pictured {
         return strip(next, bytes, &after);
@@ -28,34 +27,56 @@ pub fn round(d: Desk, marks: [u8; 22], rows: &[u64; 256], bytes: &mut [u8; 15974
     next
 }
 
-fn with_stand_ins(d: Desk, marks: [u8; 22]) -> [u8; 22] {
+fn with_stand_ins(d: Desk, marks: [u8; 22], rows: &[u64; 256]) -> [u8; 22] {
     let mut after = marks;
-    after[ALL] = picture::mark(crate::levels(d));
-    let mut i = 0usize;
+    after[ALL] = picture::mark(crate::levels(d, rows));
+    let mut i = 0u64;
     while i < 4 {
-        let s = d.stand_ins[i];
-        after[18 + i] = picture::mark(s.pulls());
+        after[18 + i as usize] = picture::mark(stand_in::pulls(rows, i));
         i += 1;
     }
     after
 }
 
 // The dump of a round; before the first its head, and the lines of a quiet start.
-fn dumped(d: Desk, rows: &[u64; 256], before: &[u8; 22], after: &[u8; 22]) -> Desk {
+fn dumped(d: Desk, rows: &[u64; 256], bytes: &mut [u8; 159744], after: &[u8; 22]) -> Desk {
+    let mut before = [RELEASED; 22];
     let mut next = d;
     if d.round == 1 {
-        next = head(d, rows, before);
+        next = head(d, rows, &before);
+    } else {
+        before = last(bytes);
     }
+    note(bytes, after);
     let ok = picture::dump::round(
         d.dump,
         d.round,
-        before,
+        &before,
         after,
         (d.plan.count % 17) as usize,
         (d.plan.stand_ins % 5) as usize,
     );
     next.is_dump_lost = next.is_dump_lost | !ok;
     next
+}
+
+// The marks of the last round.
+fn last(bytes: &[u8; 159744]) -> [u8; 22] {
+    let mut marks = [RELEASED; 22];
+    let mut i = 0usize;
+    while i < 22 {
+        marks[i] = bytes[MARK_BYTES + i];
+        i += 1;
+    }
+    marks
+}
+
+fn note(bytes: &mut [u8; 159744], marks: &[u8; 22]) {
+    let mut i = 0usize;
+    while i < 22 {
+        bytes[MARK_BYTES + i] = marks[i];
+        i += 1;
+    }
 }
 
 fn head(d: Desk, rows: &[u64; 256], marks: &[u8; 22]) -> Desk {

@@ -1,5 +1,5 @@
 // Stand-ins for units: each hears commands to its code and answers as a script says, through the listener and the sender that every party
-// has.
+// has. Between rounds one stands in a row of lent numbers.
 use line::Lines;
 use line::Listener;
 use line::Sender;
@@ -38,89 +38,106 @@ const PLACED: u64 = 5;
 
 const SILENT: u64 = 7;
 
-// One with a code, 0 for every code, that answers nothing.
-pub fn new(code: u64) -> StandIn {
+// The places of the first code and of the first row, twelve numbers each.
+const CODES: usize = 16;
+
+const ROWS: usize = 192;
+
+fn load(rows: &[u64; 256], i: u64) -> StandIn {
+    let k = (i % 4) as usize;
+    let at = ROWS + 12 * k;
     StandIn {
-        code,
-        act: 0,
-        heard: 0,
-        sent: 0,
-        last: 0,
-        waits: 0,
-        holds: 0,
-        nibble: 0,
-        length: 0,
-        cut: 0,
-        after: 0,
-        at: 0,
-        slow: 0,
+        code: rows[CODES + k],
+        act: rows[at],
+        heard: rows[at + 1],
+        sent: rows[at + 2],
+        last: rows[at + 3],
+        waits: rows[at + 4],
+        holds: rows[at + 5],
+        nibble: rows[at + 6],
+        length: rows[at + 7],
+        cut: rows[at + 8],
+        after: rows[at + 9],
+        at: rows[at + 10],
+        slow: rows[at + 11],
     }
 }
 
+fn store(rows: &mut [u64; 256], i: u64, s: StandIn) {
+    let at = ROWS + 12 * (i % 4) as usize;
+    rows[at] = s.act;
+    rows[at + 1] = s.heard;
+    rows[at + 2] = s.sent;
+    rows[at + 3] = s.last;
+    rows[at + 4] = s.waits;
+    rows[at + 5] = s.holds;
+    rows[at + 6] = s.nibble;
+    rows[at + 7] = s.length;
+    rows[at + 8] = s.cut;
+    rows[at + 9] = s.after;
+    rows[at + 10] = s.at;
+    rows[at + 11] = s.slow;
+}
+
+// What a stand-in answers from now on: so many bytes, with the numbers of the statement. What it has heard is forgotten.
+pub fn answer(rows: &mut [u64; 256], i: u64, n: Numbers, length: u64) {
+    let mut s = load(rows, i);
+    s.after = statement::or(n.second, 2);
+    s.cut = statement::or(n.third, 65535);
+    s.slow = statement::or(n.fourth, 0);
+    s.holds = s.slow;
+    s.at = statement::or(n.fifth, 0);
+    s.length = length;
+    s.last = 0;
+    store(rows, i, s);
+}
+
+// How many whole bytes of its present or last command a stand-in has heard and noted.
+pub fn heard(rows: &[u64; 256], i: u64) -> usize {
+    let s = load(rows, i);
+    let nibbles = if s.heard == 0 { s.last } else { s.heard };
+    if nibbles < 2048 {
+        return nibbles as usize / 2;
+    }
+    1024
+}
+
 // The levels left by other parties and so many stand-ins.
-pub fn levels(all: [StandIn; 4], count: u64, others: Lines) -> Lines {
-    let n = (count % 5) as usize;
+pub fn levels(rows: &[u64; 256], count: u64, others: Lines) -> Lines {
+    let n = count % 5;
     let mut l = others;
-    let mut i = 0usize;
+    let mut i = 0u64;
     while i < n {
-        let s = all[i % 4];
-        l = line::wired(l, s.pulls());
+        l = line::wired(l, pulls(rows, i));
         i += 1;
     }
     l
 }
 
+// What one pulls.
+pub fn pulls(rows: &[u64; 256], i: u64) -> Lines {
+    let s = load(rows, i);
+    let ear = s.listener();
+    let sender = s.sender();
+    Lines {
+        bav: false,
+        hsk: ear.hsk() | sender.hsk(),
+        nibble: sender.nibble(),
+    }
+}
+
 // A round of each.
-pub fn steps(all: [StandIn; 4], count: u64, seen: Lines, bytes: &mut [u8; 159744]) -> [StandIn; 4] {
-    let n = (count % 5) as usize;
-    let mut next = all;
-    let mut i = 0usize;
+pub fn steps(rows: &mut [u64; 256], count: u64, seen: Lines, bytes: &mut [u8; 159744]) {
+    let n = count % 5;
+    let mut i = 0u64;
     while i < n {
-        let s = all[i % 4];
-        next[i % 4] = s.stepped(i, seen, bytes);
+        let s = load(rows, i);
+        store(rows, i, s.stepped(i, seen, bytes));
         i += 1;
     }
-    next
 }
 
 impl StandIn {
-    // What it answers from now on: so many bytes, with the numbers of the statement. What it has heard is forgotten.
-    pub fn answers(self, n: Numbers, length: u64) -> StandIn {
-        let mut s = self;
-        s.after = statement::or(n.second, 2);
-        s.cut = statement::or(n.third, 65535);
-        s.slow = statement::or(n.fourth, 0);
-        s.holds = s.slow;
-        s.at = statement::or(n.fifth, 0);
-        s.length = length;
-        s.last = 0;
-        s
-    }
-
-    // How many whole bytes of its present or last command it has heard and noted.
-    pub fn noted(self) -> usize {
-        let nibbles = if self.heard == 0 {
-            self.last
-        } else {
-            self.heard
-        };
-        if nibbles < 2048 {
-            return nibbles as usize / 2;
-        }
-        1024
-    }
-
-    // What it pulls.
-    pub fn pulls(self) -> Lines {
-        let ear = self.listener();
-        let sender = self.sender();
-        Lines {
-            bav: false,
-            hsk: ear.hsk() | sender.hsk(),
-            nibble: sender.nibble(),
-        }
-    }
-
     fn listener(self) -> Listener {
         let act = self.act;
         match act {
@@ -141,7 +158,7 @@ impl StandIn {
     }
 
     // BAV seen high is looked at before everything else: it is ready for the next command.
-    fn stepped(self, i: usize, seen: Lines, bytes: &mut [u8; 159744]) -> StandIn {
+    fn stepped(self, i: u64, seen: Lines, bytes: &mut [u8; 159744]) -> StandIn {
         let mut s = self;
         if !seen.bav {
             return s.released();
@@ -191,7 +208,7 @@ impl StandIn {
     }
 
     // A round of the command. Behind the two nibbles of another code it sits out.
-    fn hear(self, i: usize, seen: Lines, bytes: &mut [u8; 159744]) -> StandIn {
+    fn hear(self, i: u64, seen: Lines, bytes: &mut [u8; 159744]) -> StandIn {
         let n = self.heard;
         let ear = self.listener();
         let mut s = self;
@@ -218,7 +235,7 @@ impl StandIn {
     }
 
     // It waits before its answer.
-    fn pause(self, i: usize, bytes: &[u8; 159744]) -> StandIn {
+    fn pause(self, i: u64, bytes: &[u8; 159744]) -> StandIn {
         let mut s = self;
         if self.waits < 2 {
             return s.place(i, bytes);
@@ -228,7 +245,7 @@ impl StandIn {
     }
 
     // It places the next nibble of its answer, if there is one.
-    fn place(self, i: usize, bytes: &[u8; 159744]) -> StandIn {
+    fn place(self, i: u64, bytes: &[u8; 159744]) -> StandIn {
         let n = self.sent % 1000000;
         let mut s = self;
         if (self.length <= n / 2) | (self.cut <= n) {
@@ -243,22 +260,22 @@ impl StandIn {
 }
 
 // Whether a command is to another code than a stand-in's own, where neither is every code.
-fn is_other(own: u64, i: usize, bytes: &[u8; 159744]) -> bool {
-    let code = wide(bytes[HEARD_BYTES + 1024 * (i % 4)]);
+fn is_other(own: u64, i: u64, bytes: &[u8; 159744]) -> bool {
+    let code = wide(bytes[HEARD_BYTES + 1024 * (i % 4) as usize]);
     (0 < own) & (0 < code) & (own != code)
 }
 
 // Whether so many nibbles are a whole command.
-fn is_whole(bytes: &[u8; 159744], i: usize, n: u64) -> bool {
-    let base = HEARD_BYTES + 1024 * (i % 4);
+fn is_whole(bytes: &[u8; 159744], i: u64, n: u64) -> bool {
+    let base = HEARD_BYTES + 1024 * (i % 4) as usize;
     let length = field::value_of(bytes[base + 7], bytes[base + 8]) as u64;
     (18 <= n) & (n / 2 == 9 + length % 65536)
 }
 
 // Nibble n of a command is noted, the low nibble of a byte first.
-fn note(bytes: &mut [u8; 159744], i: usize, n: u64, nibble: u8) {
+fn note(bytes: &mut [u8; 159744], i: u64, n: u64, nibble: u8) {
     if n < 2048 {
-        let at = HEARD_BYTES + 1024 * (i % 4) + n as usize / 2;
+        let at = HEARD_BYTES + 1024 * (i % 4) as usize + n as usize / 2;
         if n % 2 == 0 {
             bytes[at] = field::byte_of(nibble, 0);
         } else {
@@ -268,8 +285,8 @@ fn note(bytes: &mut [u8; 159744], i: usize, n: u64, nibble: u8) {
 }
 
 // Nibble k of an answer.
-fn nibble(bytes: &[u8; 159744], i: usize, k: usize) -> u64 {
-    let byte = bytes[ANSWER_BYTES + 1024 * (i % 4) + k / 2 % 1024];
+fn nibble(bytes: &[u8; 159744], i: u64, k: usize) -> u64 {
+    let byte = bytes[ANSWER_BYTES + 1024 * (i % 4) as usize + k / 2 % 1024];
     (field::nibble(byte, k) % 16) as u64
 }
 

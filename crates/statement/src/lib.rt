@@ -117,7 +117,7 @@ pub const BLANK: u64 = 52;
 
 // Where, among the bytes that are lent, those of the command that was submitted last begin, behind those of a statement; behind them the
 // answers of stand-ins and what these have heard, 1,024 bytes each, the strip of a picture, bytes that were taken, the entries of the ring,
-// and failures.
+// the marks of the last round, and failures.
 pub const COMMAND_BYTES: usize = 65536;
 
 pub const ANSWER_BYTES: usize = 131072;
@@ -129,6 +129,8 @@ pub const STRIP_BYTES: usize = 139264;
 pub const TAKEN_BYTES: usize = 139776;
 
 pub const RING_BYTES: usize = 140032;
+
+pub const MARK_BYTES: usize = 140288;
 
 pub const LOG_BYTES: usize = 143360;
 

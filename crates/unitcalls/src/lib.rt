@@ -15,6 +15,13 @@ use statement::TAKEN_BYTES;
 use unit::Stepped;
 use unit::Unit;
 
+// Where the parts of a unit's memory begin.
+const BUFFER: usize = 0;
+
+const INPUT: usize = 256;
+
+const OUTPUT: usize = 512;
+
 // A unit after an act, and the number that this came to: the refusal, 0 for none; how many bytes were taken; NEW for a request that it did
 // not hold before.
 pub struct Acted {
@@ -31,27 +38,28 @@ pub fn act(
     bytes: &mut [u8; 159744],
     memory: &mut [u8; 12288],
 ) -> Acted {
-    let at = 768 * (i % 16) as usize;
     let form = s.form;
     match form {
-        statement::FEED => feed(u, (s.bytes % 65537) as usize, at, bytes, memory),
-        statement::TAKE => take(u, s.numbers.second, at, bytes, memory),
-        statement::RAISE => if s.numbers.second == NONE {
-            raise(u)
-        } else {
-            left(u)
-        },
-        statement::RESTART => restart(u, at, memory),
-        statement::STEP => step(u, s.numbers, at, seen, memory),
-        statement::DO => raise(u),
-        statement::ENDED..=statement::RUN => raise(u),
-        _ => left(u),
+        statement::FEED => return feed(u, s.bytes % 65537, i, bytes, memory),
+        statement::TAKE => return take(u, s.numbers.second, i, bytes, memory),
+        statement::RESTART => return restart(u, i, memory),
+        statement::STEP => return step(u, s.numbers, i, seen, memory),
+        _ => (),
     }
+    if raises(form, s.numbers.second) {
+        return raise(u);
+    }
+    Acted { unit: u, number: 0 }
 }
 
-// It is left as it is.
-fn left(unit: Unit) -> Acted {
-    Acted { unit, number: 0 }
+// Whether a statement has the host raise a request.
+fn raises(form: u64, second: u64) -> bool {
+    match form {
+        statement::RAISE => second == NONE,
+        statement::DO => true,
+        statement::ENDED..=statement::RUN => true,
+        _ => false,
+    }
 }
 
 // The unit of the statement, if its settings are in range.
@@ -60,100 +68,111 @@ pub fn make(n: Numbers) -> Made {
     host::make((n.first % 256) as u8, retry as u32)
 }
 
-// The 256 bytes of a unit's memory from a place on, and back.
-fn load(memory: &[u8; 12288], at: usize) -> [u8; 256] {
+// One of the three parts of a unit's memory: its command buffer, its input queue or its output queue, by where it begins in the 768 bytes
+// of the unit at a place.
+fn load(memory: &[u8; 12288], i: u64, from: usize) -> [u8; 256] {
+    let at = 768 * (i % 16) as usize + from % 513;
     let mut part = [0u8; 256];
-    let mut i = 0usize;
-    while i < 256 {
-        part[i] = memory[at % 12033 + i];
-        i += 1;
+    let mut k = 0usize;
+    while k < 256 {
+        part[k] = memory[at + k];
+        k += 1;
     }
     part
 }
 
-fn store(memory: &mut [u8; 12288], at: usize, part: &[u8; 256]) {
-    let mut i = 0usize;
-    while i < 256 {
-        memory[at % 12033 + i] = part[i];
-        i += 1;
-    }
-}
-
-// The host feeds the first bytes, until one is refused.
-fn feed(u: Unit, n: usize, at: usize, bytes: &[u8; 159744], memory: &mut [u8; 12288]) -> Acted {
-    let mut input = load(memory, at % 12033 + 256);
-    let fed = all_fed(u, &mut input, bytes, n);
-    store(memory, at % 12033 + 256, &input);
-    fed
-}
-
-fn all_fed(u: Unit, input: &mut [u8; 256], bytes: &[u8; 159744], n: usize) -> Acted {
-    let mut a = left(u);
+fn store(memory: &mut [u8; 12288], i: u64, from: usize, part: &[u8; 256]) {
+    let at = 768 * (i % 16) as usize + from % 513;
     let mut k = 0usize;
-    while k < n {
-        a = fed(a, input, bytes[k % 65536]);
+    while k < 256 {
+        memory[at + k] = part[k];
         k += 1;
     }
-    a
 }
 
-// One byte, if none was refused.
-fn fed(a: Acted, input: &mut [u8; 256], byte: u8) -> Acted {
-    let unit = a.unit;
-    if 0 < a.number {
-        return a;
-    }
-    match host::feed(unit, input, byte) {
-        Fed::Queued(v) => left(v),
-        Fed::Full => Acted { unit, number: 6 },
-        Fed::NotOpen => Acted { unit, number: 7 },
-    }
-}
-
-// It takes up to so many bytes, which are noted.
-fn take(u: Unit, most: u64, at: usize, bytes: &mut [u8; 159744], memory: &[u8; 12288]) -> Acted {
-    let output = load(memory, at % 12033 + 512);
-    let mut a = left(u);
-    while a.number < 256 {
-        if most <= a.number {
-            break;
+// The host feeds the first bytes. Once one is refused, so are those behind it.
+fn feed(mut u: Unit, n: u64, i: u64, bytes: &[u8; 159744], memory: &mut [u8; 12288]) -> Acted {
+    let mut input = load(memory, i, INPUT);
+    let mut number = 0u64;
+    let mut k = 0u64;
+    while k < n {
+        match host::feed(u, &mut input, bytes[(k % 65536) as usize]) {
+            Fed::Queued(v) => u = v,
+            Fed::Full => number = 6,
+            Fed::NotOpen => number = 7,
         }
-        match host::take(a.unit, &output) {
+        k += 1;
+    }
+    store(memory, i, INPUT, &input);
+    Acted { unit: u, number }
+}
+
+// It takes up to so many bytes, which are noted. Once there is none, there are no more.
+fn take(mut u: Unit, most: u64, i: u64, bytes: &mut [u8; 159744], memory: &[u8; 12288]) -> Acted {
+    let n = if most < 256 { most } else { 256 };
+    let output = load(memory, i, OUTPUT);
+    let mut number = 0u64;
+    let mut k = 0u64;
+    while k < n % 257 {
+        match host::take(u, &output) {
             Taken::Byte(byte, v) => {
-                bytes[TAKEN_BYTES + a.number as usize] = byte;
-                a.unit = v;
+                bytes[TAKEN_BYTES + k as usize] = byte;
+                u = v;
+                number = k + 1;
             }
-            Taken::Nothing => break,
+            Taken::Nothing => (),
         }
-        a.number += 1;
+        k += 1;
     }
-    a
+    Acted { unit: u, number }
 }
 
 // It raises a request. Raising again changes nothing.
 fn raise(u: Unit) -> Acted {
-    let s = u.serial;
-    let number = if s.requesting { 0 } else { NEW };
-    match host::raise(u) {
+    let number = if u.serial.requesting { 0 } else { NEW };
+    let raised = host::raise(u);
+    match raised {
         Raised::Held(v) => Acted { unit: v, number },
         Raised::NotEnabled => Acted { unit: u, number: 7 },
     }
 }
 
 // It is switched off and on: new, with the settings that it had, its command buffer EE.
-fn restart(u: Unit, at: usize, memory: &mut [u8; 12288]) -> Acted {
+fn restart(u: Unit, i: u64, memory: &mut [u8; 12288]) -> Acted {
     let blank = [0xEEu8; 256];
-    store(memory, at, &blank);
-    match host::make(u.own, u.retry as u32) {
-        Made::New(v) => left(v),
-        Made::Setting => left(u),
+    store(memory, i, BUFFER, &blank);
+    made(u, host::make(u.own, u.retry as u32))
+}
+
+fn made(u: Unit, made: Made) -> Acted {
+    match made {
+        Made::New(v) => Acted { unit: v, number: 0 },
+        Made::Setting => Acted { unit: u, number: 0 },
     }
 }
 
-// A step by hand.
-fn step(u: Unit, n: Numbers, at: usize, seen: Lines, memory: &mut [u8; 12288]) -> Acted {
-    match stepped(u, n, at, seen, memory) {
-        Stepped::On(v) => left(v),
+// A step by hand, with so much of the command buffer lent, all of it where there is no more.
+fn step(u: Unit, n: Numbers, i: u64, seen: Lines, memory: &mut [u8; 12288]) -> Acted {
+    let lent = if n.seventh < 256 { n.seventh } else { 256 };
+    let mut buffer = load(memory, i, BUFFER);
+    let input = load(memory, i, INPUT);
+    let mut output = load(memory, i, OUTPUT);
+    let stepped = unit::step(
+        u,
+        seen,
+        n.fifth != NONE,
+        &mut buffer[0..(lent % 257) as usize],
+        &input,
+        &mut output,
+    );
+    store(memory, i, BUFFER, &buffer);
+    store(memory, i, OUTPUT, &output);
+    after(u, stepped)
+}
+
+fn after(u: Unit, stepped: Stepped) -> Acted {
+    match stepped {
+        Stepped::On(v) => Acted { unit: v, number: 0 },
         Stepped::Level => Acted { unit: u, number: 5 },
         Stepped::Buffer => Acted {
             unit: u,
@@ -162,45 +181,11 @@ fn step(u: Unit, n: Numbers, at: usize, seen: Lines, memory: &mut [u8; 12288]) -
     }
 }
 
-fn stepped(u: Unit, n: Numbers, at: usize, seen: Lines, memory: &mut [u8; 12288]) -> Stepped {
-    let lent = statement::or(n.seventh, 256) as usize;
-    let mut buffer = load(memory, at);
-    let input = load(memory, at % 12033 + 256);
-    let mut output = load(memory, at % 12033 + 512);
-    let stepped = with_lent(
-        u,
-        seen,
-        n.fifth != NONE,
-        lent,
-        &mut buffer,
-        &input,
-        &mut output,
-    );
-    store(memory, at, &buffer);
-    store(memory, at % 12033 + 512, &output);
-    stepped
-}
-
-// A step with so much of the command buffer lent, all of it where there is no more.
-fn with_lent(
-    u: Unit,
-    seen: Lines,
-    busy: bool,
-    lent: usize,
-    buffer: &mut [u8],
-    input: &[u8; 256],
-    output: &mut [u8; 256],
-) -> Stepped {
-    if lent <= buffer.len() {
-        return unit::step(u, seen, busy, &mut buffer[0..lent], input, output);
-    }
-    unit::step(u, seen, busy, buffer, input, output)
-}
-
 // The numbers that an expectation finds of a unit: what it pulls, its phase, its queues, or all that its host may look at.
 pub fn looks(u: Unit, form: u64) -> Numbers {
     let l = unit::pulls(u);
     let looks = host::look(u);
+    let phase = phase(u);
     let input = looks.input as u64 % 1000000;
     let output = looks.output as u64 % 1000000;
     let mut n = Numbers::none();
@@ -211,15 +196,20 @@ pub fn looks(u: Unit, form: u64) -> Numbers {
             n.third = statement::flag(l.hsk);
             n.fourth = l.nibble as u64;
         }
-        statement::PHASE => n.second = phase(u),
+        statement::PHASE => n.second = phase,
         statement::QUEUED => {
             n.second = input;
             n.third = output;
         }
         _ => {
             let opening = looks.opening;
-            n.second = mode(opening);
-            n.third = accepted(opening);
+            match opening {
+                Opening::Closed => n.second = 256,
+                Opening::OpenFor(m, accepted) => {
+                    n.second = mode(m);
+                    n.third = accepted as u64;
+                }
+            }
             n.fourth = input;
             n.fifth = output;
             n.sixth = statement::flag(looks.enabled);
@@ -240,20 +230,10 @@ fn phase(u: Unit) -> u64 {
     }
 }
 
-fn mode(opening: Opening) -> u64 {
-    match opening {
-        Opening::Closed => 256,
-        Opening::OpenFor(mode, _) => match mode {
-            Mode::Input => 257,
-            Mode::Output => 258,
-            Mode::Update => 259,
-        },
-    }
-}
-
-fn accepted(opening: Opening) -> u64 {
-    match opening {
-        Opening::Closed => NONE,
-        Opening::OpenFor(_, length) => length as u64,
+fn mode(mode: Mode) -> u64 {
+    match mode {
+        Mode::Input => 257,
+        Mode::Output => 258,
+        Mode::Update => 259,
     }
 }

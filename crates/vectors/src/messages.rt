@@ -1,17 +1,15 @@
 // The messages that are run, each by a number: a command of the papers by its code, a response by 16 more than its status.
+use crate::words;
 use header::Command;
-use libc::STDOUT_FILENO;
 
-// The open of source document 000, 7.1, and that of M1, which differ in their data alone.
-pub const OPEN: u8 = 0x00;
-// The read of source document 000, 7.2.
-pub const READ: u8 = 0x03;
+// The open of source document 000, 7.1, and that of M1 are command 0: they differ in their data alone. This is the read of 7.2.
+const READ_COMMAND: u8 = 0x03;
 // A command whose header shows by its bytes which field each is of.
-pub const WRITE: u8 = 0x04;
+const WRITE_COMMAND: u8 = 0x04;
 
 pub const RESPONSE: u8 = 0x10;
 // No message: the classes of the device codes.
-pub const CLASSES: u8 = 0xFF;
+const CLASSES: u8 = 0xFF;
 
 pub fn fields_of(m: u8) -> Command {
     let mut c = Command {
@@ -21,10 +19,10 @@ pub fn fields_of(m: u8) -> Command {
         record_number: 0,
         buffer_length: 4,
     };
-    if m == READ {
+    if m == READ_COMMAND {
         c.buffer_length = 80;
     }
-    if m == WRITE {
+    if m == WRITE_COMMAND {
         c.logical_unit = 7;
         c.record_number = 0x0201;
         c.buffer_length = 0x0403;
@@ -32,52 +30,28 @@ pub fn fields_of(m: u8) -> Command {
     c
 }
 
-// Says what reading a slice as such a message comes to.
-pub fn read(m: u8, s: &[u8]) {
+// Says what reading a slice as such a message comes to, and hands back its data field.
+pub fn read(m: u8, s: &[u8]) -> &[u8] {
     if m < RESPONSE {
         match command::read(s) {
-            command::Reading::Fields(c) => fields(c),
-            command::Reading::Short => refused(9),
-            command::Reading::Disagrees => refused(10),
-        }
-    } else {
-        match response::read(s) {
-            response::Reading::Status(status) => {
-                page::tell(STDOUT_FILENO, b"status %", status as u64, 0, 0, 0)
+            command::Reading::Fields(c) => {
+                words::say(words::DEVICE, c.device as usize, c.command as usize);
+                words::say(
+                    words::UNIT,
+                    c.logical_unit as usize,
+                    c.record_number as usize,
+                );
+                words::say(words::BUFFER, c.buffer_length as usize, 0);
             }
-            response::Reading::Short => refused(9),
-            response::Reading::Disagrees => refused(10),
+            command::Reading::Short => words::say(words::REFUSAL, 9, 0),
+            command::Reading::Disagrees => words::say(words::REFUSAL, 10, 0),
         }
-    }
-}
-
-fn fields(c: Command) {
-    page::tell(
-        STDOUT_FILENO,
-        b"device #, command %, logical unit #, record number #",
-        c.device as u64,
-        c.command as u64,
-        c.logical_unit as u64,
-        c.record_number as u64,
-    );
-    page::tell(
-        STDOUT_FILENO,
-        b", buffer length #",
-        c.buffer_length as u64,
-        0,
-        0,
-        0,
-    );
-}
-
-pub fn refused(refusal: u64) {
-    page::tell(STDOUT_FILENO, b"refusal #", refusal, 0, 0, 0);
-}
-
-// The data field of such a message.
-pub fn data_of(m: u8, s: &[u8]) -> &[u8] {
-    if m < RESPONSE {
         return command::data_of(s);
+    }
+    match response::read(s) {
+        response::Reading::Status(status) => words::say(words::STATUS, status as usize, 0),
+        response::Reading::Short => words::say(words::REFUSAL, 9, 0),
+        response::Reading::Disagrees => words::say(words::REFUSAL, 10, 0),
     }
     response::data_of(s)
 }

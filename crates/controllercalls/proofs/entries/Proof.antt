@@ -1,10 +1,8 @@
 -- What is left to go through grows less.
-use borrow.Author.Needs.{needs}
-use Prim.Native.Nat.{_-_}
 use Rattle.controllercalls.proofs.entries.Statement.{statement}
 use Rattle.controllercalls.proofs.entries.Tie as tie
-use Rattle.ring.proofs.Ring.entry.Reads as entry-reads
-use Rattle.ring.proofs.Ring.len.Reads as len-reads
+use borrow.Author.Needs.{needs}
+use Prim.Native.Nat.{_-_}
 
 abbrev Inv-loop : tie.InvT-loop
 Inv-loop r bytes₀ i₀ bytes i = Unit {0}
@@ -18,11 +16,11 @@ loop-holds c = search needs
 entry-requires : tie.Need-entry-requires Inv-loop μ-loop
 entry-requires c κs = search needs
 
-mul-bytes : tie.Need-mul-bytes Inv-loop μ-loop
-mul-bytes c = search needs
+mul-at : tie.Need-mul-at Inv-loop μ-loop
+mul-at c = search needs
 
-add-bytes : tie.Need-add-bytes Inv-loop μ-loop
-add-bytes c = search needs
+add-at : tie.Need-add-at Inv-loop μ-loop
+add-at c = search needs
 
 element-write-bytes : tie.Need-element-write-bytes Inv-loop μ-loop
 element-write-bytes c = search needs
@@ -30,14 +28,8 @@ element-write-bytes c = search needs
 cast-bytes : tie.Need-cast-bytes Inv-loop μ-loop
 cast-bytes c = search needs
 
-mul-bytes-2 : tie.Need-mul-bytes-2 Inv-loop μ-loop
-mul-bytes-2 c = search needs
-
-add-bytes-2 : tie.Need-add-bytes-2 Inv-loop μ-loop
-add-bytes-2 c = search needs
-
-add-bytes-3 : tie.Need-add-bytes-3 Inv-loop μ-loop
-add-bytes-3 c = search needs
+add-bytes : tie.Need-add-bytes Inv-loop μ-loop
+add-bytes c = search needs
 
 element-write-bytes-2 : tie.Need-element-write-bytes-2 Inv-loop μ-loop
 element-write-bytes-2 c = search needs
@@ -68,13 +60,11 @@ entries-spec =
     μ-loop
     loop-holds
     entry-requires
-    mul-bytes
-    add-bytes
+    mul-at
+    add-at
     element-write-bytes
     cast-bytes
-    mul-bytes-2
-    add-bytes-2
-    add-bytes-3
+    add-bytes
     element-write-bytes-2
     add-i
     loop-less

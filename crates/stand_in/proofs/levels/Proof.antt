@@ -1,23 +1,19 @@
 -- What is left to go through grows less.
-use Rattle.stand_in.proofs.levels.Statement.{statement}
-use Rattle.stand_in.proofs.levels.Tie as tie
 use borrow.Author.Needs.{needs}
 use Prim.Native.Nat.{_-_}
+use Rattle.stand_in.proofs.levels.Statement.{statement}
+use Rattle.stand_in.proofs.levels.Tie as tie
+use Rattle.line.proofs.wired.Reads as wired-reads
+use Rattle.stand_in.proofs.pulls.Reads as pulls-reads
 
 abbrev Inv-loop : tie.InvT-loop
-Inv-loop count all n l₀ i₀ l i = Unit {0}
+Inv-loop rows count n l₀ i₀ l i = Unit {0}
 
 abbrev μ-loop : tie.MeasureT-loop
-μ-loop count all n l₀ i₀ l i = 5 - i
+μ-loop rows count n l₀ i₀ l i = 5 - i
 
 loop-holds : tie.Need-loop-holds Inv-loop μ-loop
 loop-holds c = search needs
-
-mul-s : tie.Need-mul-s Inv-loop μ-loop
-mul-s c = search needs
-
-array-copy-out-s : tie.Need-array-copy-out-s Inv-loop μ-loop
-array-copy-out-s c = search needs
 
 pulls-requires : tie.Need-pulls-requires Inv-loop μ-loop
 pulls-requires c κs = search needs
@@ -44,8 +40,6 @@ levels-spec =
     Inv-loop
     μ-loop
     loop-holds
-    mul-s
-    array-copy-out-s
     pulls-requires
     wired-requires
     add-i

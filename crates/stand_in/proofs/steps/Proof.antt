@@ -1,32 +1,29 @@
 -- What is left to go through grows less.
-use Rattle.stand_in.proofs.steps.Statement.{statement}
-use Rattle.stand_in.proofs.steps.Tie as tie
 use borrow.Author.Needs.{needs}
 use Prim.Native.Nat.{_-_}
+use Rattle.stand_in.proofs.steps.Statement.{statement}
+use Rattle.stand_in.proofs.steps.Tie as tie
+use Rattle.stand_in.proofs.StandIn.stepped.Reads as stepped-reads
+use Rattle.stand_in.proofs.load.Reads as load-reads
+use Rattle.stand_in.proofs.store.Reads as store-reads
 
 abbrev Inv-loop : tie.InvT-loop
-Inv-loop count seen bytes₀ all n next₀ i₀ bytes next i = Unit {0}
+Inv-loop rows₀ count seen bytes₀ n i₀ rows bytes i = Unit {0}
 
 abbrev μ-loop : tie.MeasureT-loop
-μ-loop count seen bytes₀ all n next₀ i₀ bytes next i = 5 - i
+μ-loop rows₀ count seen bytes₀ n i₀ rows bytes i = 5 - i
 
 loop-holds : tie.Need-loop-holds Inv-loop μ-loop
 loop-holds c = search needs
 
-mul-s : tie.Need-mul-s Inv-loop μ-loop
-mul-s c = search needs
-
-array-copy-out-s : tie.Need-array-copy-out-s Inv-loop μ-loop
-array-copy-out-s c = search needs
+load-requires : tie.Need-load-requires Inv-loop μ-loop
+load-requires c κs = search needs
 
 stepped-requires : tie.Need-stepped-requires Inv-loop μ-loop
 stepped-requires c κs = search needs
 
-mul-next : tie.Need-mul-next Inv-loop μ-loop
-mul-next c = search needs
-
-array-set-from-next : tie.Need-array-set-from-next Inv-loop μ-loop
-array-set-from-next c = search needs
+store-requires : tie.Need-store-requires Inv-loop μ-loop
+store-requires c κs = search needs
 
 add-i : tie.Need-add-i Inv-loop μ-loop
 add-i c = search needs
@@ -47,11 +44,9 @@ steps-spec =
     Inv-loop
     μ-loop
     loop-holds
-    mul-s
-    array-copy-out-s
+    load-requires
     stepped-requires
-    mul-next
-    array-set-from-next
+    store-requires
     add-i
     loop-less
     loop-again

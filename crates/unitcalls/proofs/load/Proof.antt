@@ -1,14 +1,20 @@
 -- What is left to go through grows less.
-use borrow.Author.Needs.{needs}
-use Prim.Native.Nat.{_-_}
 use Rattle.unitcalls.proofs.load.Statement.{statement}
 use Rattle.unitcalls.proofs.load.Tie as tie
+use borrow.Author.Needs.{needs}
+use Prim.Native.Nat.{_-_}
 
 abbrev Inv-loop : tie.InvT-loop
-Inv-loop memory at part₀ i₀ part i = Unit {0}
+Inv-loop memory i from at part₀ k₀ part k = Unit {0}
 
 abbrev μ-loop : tie.MeasureT-loop
-μ-loop memory at part₀ i₀ part i = 256 - i
+μ-loop memory i from at part₀ k₀ part k = 256 - k
+
+mul-at : tie.Need-mul-at Inv-loop μ-loop
+mul-at c = search needs
+
+add-at : tie.Need-add-at Inv-loop μ-loop
+add-at c = search needs
 
 loop-holds : tie.Need-loop-holds Inv-loop μ-loop
 loop-holds c = search needs
@@ -22,8 +28,8 @@ element-copy-out-part c = search needs
 array-write-part : tie.Need-array-write-part Inv-loop μ-loop
 array-write-part c = search needs
 
-add-i : tie.Need-add-i Inv-loop μ-loop
-add-i c = search needs
+add-k : tie.Need-add-k Inv-loop μ-loop
+add-k c = search needs
 
 loop-less : tie.Need-loop-less Inv-loop μ-loop
 loop-less c = search needs
@@ -40,11 +46,13 @@ load-spec =
     (tie.spec
     Inv-loop
     μ-loop
+    mul-at
+    add-at
     loop-holds
     add-part
     element-copy-out-part
     array-write-part
-    add-i
+    add-k
     loop-less
     loop-again
     returns)

@@ -7,25 +7,19 @@ use Rattle.vectors.proofs.main.Statement.{statement}
 use Rattle.vectors.proofs.main.Tie as tie
 
 abbrev Inv-loop : tie.InvT-loop
-Inv-loop data₀ i₀ «data» i = length «data» ≡ 65536
+Inv-loop long₀ i₀ t3 long i = length long ≡ 65536
 
 abbrev μ-loop : tie.MeasureT-loop
-μ-loop data₀ i₀ «data» i = 65536 - i
-
-run-requires : tie.Need-run-requires Inv-loop μ-loop
-run-requires c κs = search needs
-
-run-requires-2 : tie.Need-run-requires-2 Inv-loop μ-loop
-run-requires-2 c κs = search needs
+μ-loop long₀ i₀ t3 long i = 65536 - i
 
 loop-holds : tie.Need-loop-holds Inv-loop μ-loop
 loop-holds c = search needs
 
-cast-data : tie.Need-cast-data Inv-loop μ-loop
-cast-data c = search needs
+cast-long : tie.Need-cast-long Inv-loop μ-loop
+cast-long c = search needs
 
-array-write-data : tie.Need-array-write-data Inv-loop μ-loop
-array-write-data c = search needs
+array-write-long : tie.Need-array-write-long Inv-loop μ-loop
+array-write-long c = search needs
 
 add-i : tie.Need-add-i Inv-loop μ-loop
 add-i c = search needs
@@ -36,23 +30,14 @@ loop-less c = search needs
 loop-again : tie.Need-loop-again Inv-loop μ-loop
 loop-again c = search needs
 
-slice-aggregate-run : tie.Need-slice-aggregate-run Inv-loop μ-loop
-slice-aggregate-run c = search needs
+slice-aggregate-cases : tie.Need-slice-aggregate-cases Inv-loop μ-loop
+slice-aggregate-cases c = search needs
 
-run-requires-3 : tie.Need-run-requires-3 Inv-loop μ-loop
-run-requires-3 c κs = search needs
+slice-aggregate-cases-2 : tie.Need-slice-aggregate-cases-2 Inv-loop μ-loop
+slice-aggregate-cases-2 c = search needs
 
-sub-run : tie.Need-sub-run Inv-loop μ-loop
-sub-run c = search needs
-
-part-run-start : tie.Need-part-run-start Inv-loop μ-loop
-part-run-start c = search needs
-
-part-run-end : tie.Need-part-run-end Inv-loop μ-loop
-part-run-end c = search needs
-
-run-requires-4 : tie.Need-run-requires-4 Inv-loop μ-loop
-run-requires-4 c κs = search needs
+cases-requires : tie.Need-cases-requires Inv-loop μ-loop
+cases-requires c κs = search needs
 
 returns : tie.Need-returns Inv-loop μ-loop
 returns c = search needs
@@ -63,18 +48,13 @@ main-spec =
     (tie.spec
     Inv-loop
     μ-loop
-    run-requires
-    run-requires-2
     loop-holds
-    cast-data
-    array-write-data
+    cast-long
+    array-write-long
     add-i
     loop-less
     loop-again
-    slice-aggregate-run
-    run-requires-3
-    sub-run
-    part-run-start
-    part-run-end
-    run-requires-4
+    slice-aggregate-cases
+    slice-aggregate-cases-2
+    cases-requires
     returns)

@@ -1,14 +1,17 @@
 -- What is left to go through grows less.
-use Rattle.play.proofs.pictured.with_stand_ins.Statement.{statement}
-use Rattle.play.proofs.pictured.with_stand_ins.Tie as tie
 use borrow.Author.Needs.{needs}
 use Prim.Native.Nat.{_-_}
+use Rattle.play.proofs.pictured.with_stand_ins.Statement.{statement}
+use Rattle.play.proofs.pictured.with_stand_ins.Tie as tie
+use Rattle.picture.proofs.mark.Reads as mark-reads
+use Rattle.play.proofs.levels.Reads as levels-reads
+use Rattle.stand_in.proofs.pulls.Reads as pulls-reads
 
 abbrev Inv-loop : tie.InvT-loop
-Inv-loop d after₀ i₀ after i = Unit {0}
+Inv-loop rows after₀ i₀ after i = Unit {0}
 
 abbrev μ-loop : tie.MeasureT-loop
-μ-loop d after₀ i₀ after i = 4 - i
+μ-loop rows after₀ i₀ after i = 4 - i
 
 levels-requires : tie.Need-levels-requires Inv-loop μ-loop
 levels-requires c κs = search needs
@@ -21,12 +24,6 @@ array-write-after c = search needs
 
 loop-holds : tie.Need-loop-holds Inv-loop μ-loop
 loop-holds c = search needs
-
-mul-s : tie.Need-mul-s Inv-loop μ-loop
-mul-s c = search needs
-
-element-copy-out-s : tie.Need-element-copy-out-s Inv-loop μ-loop
-element-copy-out-s c = search needs
 
 pulls-requires : tie.Need-pulls-requires Inv-loop μ-loop
 pulls-requires c κs = search needs
@@ -62,8 +59,6 @@ with-stand-ins-spec =
     mark-requires
     array-write-after
     loop-holds
-    mul-s
-    element-copy-out-s
     pulls-requires
     mark-requires-2
     add-after

@@ -6,40 +6,25 @@ use Rattle.vectors.proofs.readings.cuts.Statement.{statement}
 use Rattle.vectors.proofs.readings.cuts.Tie as tie
 
 abbrev Inv-loop : tie.InvT-loop
-Inv-loop title m s k₀ t6 t7 k = Unit {0}
+Inv-loop m s k₀ k = Unit {0}
 
 abbrev μ-loop : tie.MeasureT-loop
-μ-loop title m s k₀ t6 t7 k = 1 + length s - k
-
-say-requires : tie.Need-say-requires Inv-loop μ-loop
-say-requires c κs = search needs
+μ-loop m s k₀ k = 1 + length s - k
 
 bytes-requires : tie.Need-bytes-requires Inv-loop μ-loop
 bytes-requires c κs = search needs
 
-slice-aggregate-say : tie.Need-slice-aggregate-say Inv-loop μ-loop
-slice-aggregate-say c = search needs
-
-say-requires-2 : tie.Need-say-requires-2 Inv-loop μ-loop
-say-requires-2 c κs = search needs
+say-requires : tie.Need-say-requires Inv-loop μ-loop
+say-requires c κs = search needs
 
 loop-holds : tie.Need-loop-holds Inv-loop μ-loop
 loop-holds c = search needs
 
-slice-aggregate-reading : tie.Need-slice-aggregate-reading Inv-loop μ-loop
-slice-aggregate-reading c = search needs
+say-requires-2 : tie.Need-say-requires-2 Inv-loop μ-loop
+say-requires-2 c κs = search needs
 
-sub-reading : tie.Need-sub-reading Inv-loop μ-loop
-sub-reading c = search needs
-
-part-reading-start : tie.Need-part-reading-start Inv-loop μ-loop
-part-reading-start c = search needs
-
-part-reading-end : tie.Need-part-reading-end Inv-loop μ-loop
-part-reading-end c = search needs
-
-slice-aggregate-reading-2 : tie.Need-slice-aggregate-reading-2 Inv-loop μ-loop
-slice-aggregate-reading-2 c = search needs
+front-requires : tie.Need-front-requires Inv-loop μ-loop
+front-requires c κs = search needs
 
 reading-requires : tie.Need-reading-requires Inv-loop μ-loop
 reading-requires c κs = search needs
@@ -62,16 +47,11 @@ cuts-spec =
     (tie.spec
     Inv-loop
     μ-loop
-    say-requires
     bytes-requires
-    slice-aggregate-say
-    say-requires-2
+    say-requires
     loop-holds
-    slice-aggregate-reading
-    sub-reading
-    part-reading-start
-    part-reading-end
-    slice-aggregate-reading-2
+    say-requires-2
+    front-requires
     reading-requires
     add-k
     loop-less

@@ -1,12 +1,11 @@
--- The count is at most the number of bytes passed, so it fits; the rest of a division is below what divides.
+-- The count is at most the number of bytes passed, so it fits.
 use borrow.Author.Needs.{needs}
 use native.Mathlib.Omega.{arith}
-use native.Mathlib.Nat.{mod-lt}
 use mathlib.Core.Logic.{⊎-elim}
 use lib.ListN.{length}
 use Prim.Native.Nat.{_≤_, _-_}
-use Rattle.vectors.proofs.lengths.same.Statement.{statement}
-use Rattle.vectors.proofs.lengths.same.Tie as tie
+use Rattle.vectors.proofs.writings.same.Statement.{statement}
+use Rattle.vectors.proofs.writings.same.Tie as tie
 
 abbrev Inv-loop : tie.InvT-loop
 Inv-loop s t n₀ k i₀ n i = n ≤ i
@@ -17,14 +16,14 @@ abbrev μ-loop : tie.MeasureT-loop
 loop-holds : tie.Need-loop-holds Inv-loop μ-loop
 loop-holds c = search needs
 
-shared-slice-read-if2 : tie.Need-shared-slice-read-if2 Inv-loop μ-loop
-shared-slice-read-if2 c = search needs
+letter-requires : tie.Need-letter-requires Inv-loop μ-loop
+letter-requires c κs = search needs
 
-rem-if2 : tie.Need-rem-if2 Inv-loop μ-loop
-rem-if2 c = search needs
+rem-letter : tie.Need-rem-letter Inv-loop μ-loop
+rem-letter c = search needs
 
-shared-slice-read-if2-2 : tie.Need-shared-slice-read-if2-2 Inv-loop μ-loop
-shared-slice-read-if2-2 c = search (needs, mod-lt)
+letter-requires-2 : tie.Need-letter-requires-2 Inv-loop μ-loop
+letter-requires-2 c κs = search needs
 
 add-n : tie.Need-add-n Inv-loop μ-loop
 add-n c = search needs
@@ -51,9 +50,9 @@ same-spec =
     Inv-loop
     μ-loop
     loop-holds
-    shared-slice-read-if2
-    rem-if2
-    shared-slice-read-if2-2
+    letter-requires
+    rem-letter
+    letter-requires-2
     add-n
     add-i
     loop-less

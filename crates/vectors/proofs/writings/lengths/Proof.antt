@@ -1,14 +1,14 @@
 -- The lengths that are left grow fewer.
 use borrow.Author.Needs.{needs}
 use Prim.Native.Nat.{_-_}
-use Rattle.vectors.proofs.lengths.lengths.Statement.{statement}
-use Rattle.vectors.proofs.lengths.lengths.Tie as tie
+use Rattle.vectors.proofs.writings.lengths.Statement.{statement}
+use Rattle.vectors.proofs.writings.lengths.Tie as tie
 
 abbrev Inv-loop : tie.InvT-loop
-Inv-loop title m short «data» lengths i₀ t8 i = Unit {0}
+Inv-loop title m «data» lengths i₀ i = Unit {0}
 
 abbrev μ-loop : tie.MeasureT-loop
-μ-loop title m short «data» lengths i₀ t8 i = 6 - i
+μ-loop title m «data» lengths i₀ i = 6 - i
 
 loop-holds : tie.Need-loop-holds Inv-loop μ-loop
 loop-holds c = search needs
@@ -19,14 +19,11 @@ mul-n c = search needs
 array-read-n : tie.Need-array-read-n Inv-loop μ-loop
 array-read-n c = search needs
 
-sub-rooms : tie.Need-sub-rooms Inv-loop μ-loop
-sub-rooms c = search needs
+tell-requires : tie.Need-tell-requires Inv-loop μ-loop
+tell-requires c κs = search needs
 
-part-rooms-start : tie.Need-part-rooms-start Inv-loop μ-loop
-part-rooms-start c = search needs
-
-part-rooms-end : tie.Need-part-rooms-end Inv-loop μ-loop
-part-rooms-end c = search needs
+front-requires : tie.Need-front-requires Inv-loop μ-loop
+front-requires c κs = search needs
 
 rooms-requires : tie.Need-rooms-requires Inv-loop μ-loop
 rooms-requires c κs = search needs
@@ -39,9 +36,6 @@ loop-less c = search needs
 
 loop-again : tie.Need-loop-again Inv-loop μ-loop
 loop-again c = search needs
-
-slice-aggregate-into : tie.Need-slice-aggregate-into Inv-loop μ-loop
-slice-aggregate-into c = search needs
 
 into-requires : tie.Need-into-requires Inv-loop μ-loop
 into-requires c κs = search needs
@@ -58,13 +52,11 @@ lengths-spec =
     loop-holds
     mul-n
     array-read-n
-    sub-rooms
-    part-rooms-start
-    part-rooms-end
+    tell-requires
+    front-requires
     rooms-requires
     add-i
     loop-less
     loop-again
-    slice-aggregate-into
     into-requires
     returns)
