@@ -86,7 +86,7 @@ fn stepped(before: Stage, bus: Bus, outcome: Stepping) -> Acted {
 }
 
 fn of_controller(
-    bus: Bus,
+    mut bus: Bus,
     s: Statement,
     seen: Lines,
     length: u64,
@@ -94,21 +94,20 @@ fn of_controller(
     bytes: &mut [u8; 159744],
     response: &mut [u8; 65536],
 ) -> Acted {
-    let mut next = bus;
+    let c = bus.controller;
     if s.form == statement::STEP {
-        let c = bus.controller;
         let before = c.stage;
         let by_hand = controllercalls::step(c, s, seen, length, lent, bytes, response);
         let after = by_hand.controller;
         let outcome = by_hand.outcome;
-        next.controller = after;
-        return stepped(before, next, outcome);
+        bus.controller = after;
+        return stepped(before, bus, outcome);
     }
-    let a = controllercalls::act(bus.controller, s, bytes, response);
+    let a = controllercalls::act(c, s, bytes, response);
     let after = a.controller;
-    next.controller = after;
+    bus.controller = after;
     Acted {
-        bus: next,
+        bus,
         told: told::number(a.refusal),
     }
 }
@@ -128,7 +127,7 @@ fn one_more(bus: Bus, n: Numbers) -> Acted {
 }
 
 fn of_unit(
-    bus: Bus,
+    mut bus: Bus,
     act: u64,
     s: Statement,
     seen: Lines,
@@ -139,21 +138,19 @@ fn of_unit(
     entries(bus, bytes);
     let a = unitcalls::act(bus.units[i], s, act, seen, bytes, memory);
     let u = a.unit;
-    let mut next = bus;
-    next.units[i] = u;
+    bus.units[i] = u;
     Acted {
-        bus: next,
+        bus,
         told: told::number(a.number),
     }
 }
 
 // The application acknowledges the request of a code.
-pub fn acknowledged(bus: Bus, code: u64) -> Bus {
+pub fn acknowledged(mut bus: Bus, code: u64) -> Bus {
     let a = controllercalls::acknowledge(bus.controller, (code % 256) as u8);
     let c = a.controller;
-    let mut next = bus;
-    next.controller = c;
-    next
+    bus.controller = c;
+    bus
 }
 
 // What is seen of the bus and its first units.
