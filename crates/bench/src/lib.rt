@@ -5,6 +5,7 @@ use controllercalls::told;
 use frame::Stage;
 use host::Made;
 use line::Lines;
+use statement::Doing;
 use statement::Numbers;
 use statement::Statement;
 use statement::Told;
@@ -30,45 +31,32 @@ pub fn start() -> Bus {
     Bus::new(made.controller)
 }
 
-// An act of the unit at a place under 16, of the controller, of all in a round, or one unit more: at these levels, with a bit for each host
-// that is busy, so long data of the command, and so much of the response buffer lent.
+// An act of the unit at a place under 16, of the controller, of all in a round, or one unit more.
 pub fn act(
     bus: Bus,
-    act: u64,
     s: Statement,
-    seen: Lines,
-    busy: u32,
-    length: u64,
-    lent: u64,
+    w: Doing,
     bytes: &mut [u8; 159744],
     response: &mut [u8; 65536],
     memory: &mut [u8; 12288],
 ) -> Acted {
+    let act = w.act;
     match act {
-        statement::A_ROUND => round(bus, seen, busy, length, lent, bytes, response, memory),
-        statement::OF_CONTROLLER => of_controller(bus, s, seen, length, lent, bytes, response),
+        statement::A_ROUND => round(bus, w, bytes, response, memory),
+        statement::OF_CONTROLLER => of_controller(bus, s, w, bytes, response),
         statement::ONE_MORE => one_more(bus, s.numbers),
-        _ => of_unit(bus, act, s, seen, bytes, memory),
+        _ => of_unit(bus, s, w, bytes, memory),
     }
 }
 
 // A round of every party, with what was lent for the controller's command.
-fn round(
-    bus: Bus,
-    seen: Lines,
-    busy: u32,
-    length: u64,
-    most: u64,
-    bytes: &[u8],
-    response: &mut [u8],
-    memory: &mut [u8; 12288],
-) -> Acted {
-    let lent = (most % 65536) as usize;
-    let data = controllercalls::data(bytes, length % 65536);
+fn round(bus: Bus, w: Doing, bytes: &[u8], response: &mut [u8], memory: &mut [u8; 12288]) -> Acted {
+    let lent = (w.lent % 65536) as usize;
+    let data = controllercalls::data(bytes, w.length % 65536);
     let c = bus.controller;
     let before = c.stage;
     if lent <= response.len() {
-        let r = bus.round(seen, busy, data, &mut response[0..lent], memory);
+        let r = bus.round(w.seen, w.busy, data, &mut response[0..lent], memory);
         let outcome = r.outcome;
         return stepped(before, r.bus, outcome);
     }
@@ -88,16 +76,14 @@ fn stepped(before: Stage, bus: Bus, outcome: Stepping) -> Acted {
 fn of_controller(
     mut bus: Bus,
     s: Statement,
-    seen: Lines,
-    length: u64,
-    lent: u64,
+    w: Doing,
     bytes: &mut [u8; 159744],
     response: &mut [u8; 65536],
 ) -> Acted {
     let c = bus.controller;
     if s.form == statement::STEP {
         let before = c.stage;
-        let by_hand = controllercalls::step(c, s, seen, length, lent, bytes, response);
+        let by_hand = controllercalls::step(c, s, w, bytes, response);
         let after = by_hand.controller;
         let outcome = by_hand.outcome;
         bus.controller = after;
@@ -128,15 +114,14 @@ fn one_more(bus: Bus, n: Numbers) -> Acted {
 
 fn of_unit(
     mut bus: Bus,
-    act: u64,
     s: Statement,
-    seen: Lines,
+    w: Doing,
     bytes: &mut [u8; 159744],
     memory: &mut [u8; 12288],
 ) -> Acted {
-    let i = (act % 16) as usize;
+    let i = (w.act % 16) as usize;
     entries(bus, bytes);
-    let a = unitcalls::act(bus.units[i], s, act, seen, bytes, memory);
+    let a = unitcalls::act(bus.units[i], s, w, bytes, memory);
     let u = a.unit;
     bus.units[i] = u;
     Acted {

@@ -12,6 +12,7 @@ use header::Command;
 use line::Lines;
 use ring::Ring;
 use statement::COMMAND_BYTES;
+use statement::Doing;
 use statement::NONE;
 use statement::Numbers;
 use statement::RING_BYTES;
@@ -186,17 +187,15 @@ pub fn data(bytes: &[u8], length: u64) -> &[u8] {
 pub fn step(
     c: Controller,
     s: Statement,
-    seen: Lines,
-    length: u64,
-    lent: u64,
+    w: Doing,
     bytes: &[u8; 159744],
     response: &mut [u8; 65536],
 ) -> Stepped {
-    let data = data_of(s, length, bytes);
-    let most = statement::or(s.numbers.seventh, lent) % 65536;
+    let data = data_of(s, w.length, bytes);
+    let most = statement::or(s.numbers.seventh, w.lent) % 65536;
     with_lent(
         c,
-        seen,
+        w.seen,
         s.numbers.fifth != NONE,
         data,
         most as usize,

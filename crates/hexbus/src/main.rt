@@ -5,7 +5,6 @@ use asked::files;
 use bench::Acted;
 use bus::Bus;
 use desk::Desk;
-use desk::hosts;
 use desk::tally;
 use desk::tally::Tally;
 use libc::STDOUT_FILENO;
@@ -184,7 +183,17 @@ fn steps(
         if (text.len() <= b.desk.plan.next) & !b.desk.is_under_way {
             break;
         }
-        b = step(forms, name, text, b, rows, bytes, response, memory);
+        b = step(
+            forms,
+            name,
+            text,
+            b.bus,
+            b.desk,
+            rows,
+            bytes,
+            response,
+            memory,
+        );
         i += 1;
     }
     play::ended(name, text, b.desk, rows, bytes)
@@ -195,20 +204,20 @@ fn step(
     forms: &[u8],
     name: &[u8],
     text: &[u8],
-    b: Bench,
+    bus: Bus,
+    mut d: Desk,
     rows: &mut [u64; 256],
     bytes: &mut [u8; 159744],
     response: &mut [u8; 65536],
     memory: &mut [u8; 12288],
 ) -> Bench {
-    let mut d = b.desk;
     if !d.is_under_way {
         d = play::next(forms, name, text, d, rows, bytes);
     }
     if play::goes_on(d, rows) {
-        return act(b.bus, d, rows, bytes, response, memory);
+        return act(bus, d, rows, bytes, response, memory);
     }
-    concluded(forms, name, text, b.bus, d, rows, bytes, response, memory)
+    concluded(forms, name, text, bus, d, rows, bytes, response, memory)
 }
 
 fn act(
@@ -219,41 +228,22 @@ fn act(
     response: &mut [u8; 65536],
     memory: &mut [u8; 12288],
 ) -> Bench {
-    let act = hosts::now(d, rows);
-    let busy = hosts::busy_hosts(d, act, rows);
-    let levels = play::levels_for(d, act, rows);
-    let a = bench::act(
-        bus,
-        act,
-        d.statement,
-        levels,
-        busy,
-        d.length,
-        d.lent,
-        bytes,
-        response,
-        memory,
-    );
+    let w = play::doing(d, rows);
+    let a = bench::act(bus, d.statement, w, bytes, response, memory);
     let t = a.told;
-    let next = noted::acted(d, act, t, levels, rows, bytes, response);
-    acted(a, next, pictured::is_wanted(d, act), rows, bytes)
+    let next = noted::acted(d, w, t, rows, bytes, response);
+    acted(a, next, w.act, rows, bytes)
 }
 
 // What is seen of the bus after an act. A request that is handed over is acknowledged at once, where the script says so.
-fn acted(
-    a: Acted,
-    d: Desk,
-    is_pictured: bool,
-    rows: &mut [u64; 256],
-    bytes: &mut [u8; 159744],
-) -> Bench {
+fn acted(a: Acted, d: Desk, act: u64, rows: &mut [u64; 256], bytes: &mut [u8; 159744]) -> Bench {
     let mut bus = a.bus;
     if (0 < a.told.handed) & d.acknowledges {
         bus = bench::acknowledged(bus, a.told.handed);
     }
     let s = bench::seen(bus, d.plan.count);
     let mut desk = noted::seen(d, s.lines, s.is_free, s.asking, s.requesting, rows);
-    if is_pictured {
+    if pictured::is_wanted(d, act) {
         desk = pictured::round(desk, bench::marks(bus, d.plan.count), rows, bytes);
     }
     Bench { bus, desk }
@@ -265,13 +255,12 @@ fn concluded<'a>(
     name: &[u8],
     text: &[u8],
     bus: Bus,
-    before: Desk,
+    mut d: Desk,
     rows: &mut [u64; 256],
     bytes: &mut [u8; 159744],
     response: &'a [u8; 65536],
     memory: &'a [u8; 12288],
 ) -> Bench {
-    let mut d = before;
     let form = d.statement.form;
     d.entries = bench::entries(bus, bytes);
     if form == statement::SHOW_UNITS {

@@ -12,6 +12,7 @@ use desk::tell;
 use libc::STDERR_FILENO;
 use line::Lines;
 use statement::A_ROUND;
+use statement::Doing;
 use statement::Numbers;
 use statement::OF_CONTROLLER;
 use statement::ONE_MORE;
@@ -187,12 +188,22 @@ pub fn levels(d: Desk, rows: &[u64; 256]) -> Lines {
     l
 }
 
-// The levels at which the bus acts: these in a round, and else those that the statement names.
-pub fn levels_for(d: Desk, act: u64, rows: &[u64; 256]) -> Lines {
-    if act == A_ROUND {
-        return levels(d, rows);
+// What the bus does now, in a round at these levels, and else at those that the statement names.
+pub fn doing(d: Desk, rows: &mut [u64; 256]) -> Doing {
+    let act = hosts::now(d, rows);
+    let busy = hosts::busy_hosts(d, act, rows);
+    let seen = if act == A_ROUND {
+        levels(d, rows)
+    } else {
+        desk::levels(d.statement.numbers)
+    };
+    Doing {
+        act,
+        seen,
+        busy,
+        length: d.length,
+        lent: d.lent,
     }
-    desk::levels(d.statement.numbers)
 }
 
 // The bus has done what it was to do for a statement, or for a part of it, which is then numbered. What a look at a party has found.

@@ -5,6 +5,7 @@ use desk::plan;
 use desk::tell;
 use line::Lines;
 use statement::A_ROUND;
+use statement::Doing;
 use statement::NEW;
 use statement::NONE;
 use statement::OF_CONTROLLER;
@@ -12,23 +13,23 @@ use statement::ONE_MORE;
 use statement::OTHER;
 use statement::Told;
 
-// What an act of the bus at these levels came to.
+// What an act of the bus came to.
 pub fn acted(
     d: Desk,
-    act: u64,
+    w: Doing,
     t: Told,
-    levels: Lines,
     rows: &mut [u64; 256],
     bytes: &mut [u8; 159744],
     response: &[u8],
 ) -> Desk {
+    let act = w.act;
     if (act < 16) & (d.act == A_ROUND) {
         return by_itself(d, act, t.number, rows, bytes);
     }
     let mut next = d;
     next.done = d.done % desk::FOR_EVER + 1;
     match act {
-        A_ROUND => round(next, t, levels, rows, bytes, response),
+        A_ROUND => round(next, t, w.seen, rows, bytes, response),
         OF_CONTROLLER => of_controller(next, t, rows, response),
         ONE_MORE => one_more(next, t.number, rows),
         _ => of_unit(next, act, t.number, rows, bytes),

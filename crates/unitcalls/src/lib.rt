@@ -7,6 +7,7 @@ use line::Lines;
 use phase::Phase;
 use serial::Mode;
 use serial::Opening;
+use statement::Doing;
 use statement::NEW;
 use statement::NONE;
 use statement::Numbers;
@@ -29,21 +30,21 @@ pub struct Acted {
     pub number: u64,
 }
 
-// What the statement says of the unit at a place, at the levels that it names. In a run its host raises a request by itself.
+// What the statement says of the unit that acts, at the levels that it names. In a run its host raises a request by itself.
 pub fn act(
     u: Unit,
     s: Statement,
-    i: u64,
-    seen: Lines,
+    w: Doing,
     bytes: &mut [u8; 159744],
     memory: &mut [u8; 12288],
 ) -> Acted {
+    let i = w.act;
     let form = s.form;
     match form {
         statement::FEED => return feed(u, s.bytes % 65537, i, bytes, memory),
         statement::TAKE => return take(u, s.numbers.second, i, bytes, memory),
         statement::RESTART => return restart(u, i, memory),
-        statement::STEP => return step(u, s.numbers, i, seen, memory),
+        statement::STEP => return step(u, s.numbers, i, w.seen, memory),
         _ => (),
     }
     if raises(form, s.numbers.second) {
