@@ -55,8 +55,13 @@ fn round(bus: Bus, w: Doing, bytes: &[u8], response: &mut [u8], memory: &mut [u8
     let data = controllercalls::data(bytes, w.length % 65536);
     let c = bus.controller;
     let before = c.stage;
+    let seen = Lines {
+        bav: w.bav,
+        hsk: w.hsk,
+        nibble: w.nibble,
+    };
     if lent <= response.len() {
-        let r = bus.round(w.seen, w.busy, data, &mut response[0..lent], memory);
+        let r = bus.round(seen, w.busy, data, &mut response[0..lent], memory);
         let outcome = r.outcome;
         return stepped(before, r.bus, outcome);
     }

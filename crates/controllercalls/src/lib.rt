@@ -191,11 +191,16 @@ pub fn step(
     bytes: &[u8; 159744],
     response: &mut [u8; 65536],
 ) -> Stepped {
+    let seen = Lines {
+        bav: w.bav,
+        hsk: w.hsk,
+        nibble: w.nibble,
+    };
     let data = data_of(s, w.length, bytes);
     let most = statement::or(s.numbers.seventh, w.lent) % 65536;
     with_lent(
         c,
-        w.seen,
+        seen,
         s.numbers.fifth != NONE,
         data,
         most as usize,

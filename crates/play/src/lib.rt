@@ -199,7 +199,9 @@ pub fn doing(d: Desk, rows: &mut [u64; 256]) -> Doing {
     };
     Doing {
         act,
-        seen,
+        bav: seen.bav,
+        hsk: seen.hsk,
+        nibble: seen.nibble,
         busy,
         length: d.length,
         lent: d.lent,

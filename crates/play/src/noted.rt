@@ -29,7 +29,7 @@ pub fn acted(
     let mut next = d;
     next.done = d.done % desk::FOR_EVER + 1;
     match act {
-        A_ROUND => round(next, t, w.seen, rows, bytes, response),
+        A_ROUND => round(next, w, t, rows, bytes, response),
         OF_CONTROLLER => of_controller(next, t, rows, response),
         ONE_MORE => one_more(next, t.number, rows),
         _ => of_unit(next, act, t.number, rows, bytes),
@@ -126,8 +126,8 @@ fn of_controller(d: Desk, t: Told, rows: &mut [u64; 256], response: &[u8]) -> De
 // A round: one less is left in which lines are held, and stand-ins step.
 fn round(
     d: Desk,
+    w: Doing,
     t: Told,
-    levels: Lines,
     rows: &mut [u64; 256],
     bytes: &mut [u8; 159744],
     response: &[u8],
@@ -137,7 +137,12 @@ fn round(
     next.round = d.round % desk::FOR_EVER + 1;
     next.hold = statement::less(d.hold);
     if 0 < d.plan.stand_ins {
-        stand_in::steps(rows, d.plan.stand_ins, levels, bytes);
+        let seen = Lines {
+            bav: w.bav,
+            hsk: w.hsk,
+            nibble: w.nibble,
+        };
+        stand_in::steps(rows, d.plan.stand_ins, seen, bytes);
     }
     if t.is_told {
         return told(next, t, rows, response);

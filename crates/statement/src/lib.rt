@@ -1,6 +1,5 @@
 // A statement of a script as numbers, and what a bus tells of itself in turn: what those who read scripts and those who run the bus have in
 // common.
-use line::Lines;
 
 // No number: none was given, or none was found.
 pub const NONE: u64 = 4294967295;
@@ -167,11 +166,13 @@ pub const A_ROUND: u64 = 17;
 
 pub const ONE_MORE: u64 = 18;
 
-// Such an act: the levels that are seen, a bit for each host that is busy, how long the data of the command is, and how much of the
+// Such an act: the levels that are seen (line), a bit for each host that is busy, how long the data of the command is, and how much of the
 // response buffer is lent.
 pub struct Doing {
     pub act: u64,
-    pub seen: Lines,
+    pub bav: bool,
+    pub hsk: bool,
+    pub nibble: u8,
     pub busy: u32,
     pub length: u64,
     pub lent: u64,

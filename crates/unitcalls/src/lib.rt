@@ -44,7 +44,7 @@ pub fn act(
         statement::FEED => return feed(u, s.bytes % 65537, i, bytes, memory),
         statement::TAKE => return take(u, s.numbers.second, i, bytes, memory),
         statement::RESTART => return restart(u, i, memory),
-        statement::STEP => return step(u, s.numbers, i, w.seen, memory),
+        statement::STEP => return step(u, s.numbers, w, memory),
         _ => (),
     }
     if raises(form, s.numbers.second) {
@@ -153,14 +153,19 @@ fn made(u: Unit, made: Made) -> Acted {
 }
 
 // A step by hand, with so much of the command buffer lent, all of it where there is no more.
-fn step(u: Unit, n: Numbers, i: u64, seen: Lines, memory: &mut [u8; 12288]) -> Acted {
+fn step(u: Unit, n: Numbers, w: Doing, memory: &mut [u8; 12288]) -> Acted {
+    let i = w.act;
     let lent = if n.seventh < 256 { n.seventh } else { 256 };
     let mut buffer = load(memory, i, BUFFER);
     let input = load(memory, i, INPUT);
     let mut output = load(memory, i, OUTPUT);
     let stepped = unit::step(
         u,
-        seen,
+        Lines {
+            bav: w.bav,
+            hsk: w.hsk,
+            nibble: w.nibble,
+        },
         n.fifth != NONE,
         &mut buffer[0..(lent % 257) as usize],
         &input,
