@@ -79,12 +79,6 @@ pub struct Desk {
     pub columns: usize,
 }
 
-// The rows: the codes of units by their place, and of stand-ins, 0 for one of every code; then what there is of each host (hosts), and of
-// each stand-in (stand_in).
-pub const CODES: usize = 0;
-
-pub const STAND_IN_CODES: usize = 16;
-
 // Not a refusal: a run did not come to the end that it was to come to.
 pub const UNREACHED: u64 = 99;
 

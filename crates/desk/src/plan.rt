@@ -1,10 +1,10 @@
 // What the statements of a script so far make of the bus, and whether a statement can stand where it stands.
-use crate::CODES;
-use crate::STAND_IN_CODES;
 use statement::NONE;
 use statement::Numbers;
 use statement::OTHER;
+use statement::STAND_IN_CODES;
 use statement::Statement;
+use statement::UNIT_CODES;
 
 pub struct Plan {
     // How many units and stand-ins there are, and whether rounds are run.
@@ -51,7 +51,7 @@ pub fn start() -> Plan {
 
 // Where the unit with a code stands; 16 where there is none.
 pub fn find(p: Plan, rows: &[u64; 256], code: u64) -> u64 {
-    place_of(rows, CODES, p.count, code)
+    place_of(rows, UNIT_CODES, p.count, code)
 }
 
 // Where the stand-in with a code stands, OTHER being every code; 16 where there is none.
@@ -152,7 +152,7 @@ pub fn unit(p: Plan, n: Numbers, rows: &mut [u64; 256]) -> Plan {
     let retry = statement::or(n.second, 20);
     let mut next = p;
     if (0 < n.first) & (4 <= retry) & (retry <= 65535) {
-        rows[CODES + p.count as usize % 16] = n.first;
+        rows[UNIT_CODES + p.count as usize % 16] = n.first;
         next.count = p.count % 16 + 1;
     }
     next

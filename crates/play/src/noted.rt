@@ -67,7 +67,7 @@ fn of_unit(d: Desk, i: u64, number: u64, rows: &mut [u64; 256], bytes: &[u8; 159
 // A request is new, was held already, or is refused.
 fn raised(d: Desk, i: u64, number: u64, rows: &mut [u64; 256], bytes: &[u8; 159744]) -> Desk {
     if number == NEW {
-        let code = hosts::number(rows, desk::CODES, i);
+        let code = hosts::number(rows, statement::UNIT_CODES, i);
         hosts::waiting(rows, i, tell::ahead(bytes, code));
         tell::say(d, tell::REQUEST, code, 0, 0);
         return d;
@@ -246,7 +246,7 @@ fn asks(d: Desk, before: u64, rows: &[u64; 256]) {
     let mut i = 0u64;
     while i < 16 {
         if old % 2 < now % 2 {
-            let code = hosts::number(rows, desk::CODES, i);
+            let code = hosts::number(rows, statement::UNIT_CODES, i);
             tell::say(d, tell::PULLS, code, 0, 0);
         }
         now = now / 2;

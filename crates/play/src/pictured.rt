@@ -1,11 +1,11 @@
 // The lines of a round, dumped and pictured.
-use desk::CODES;
 use desk::Desk;
-use desk::STAND_IN_CODES;
 use picture::ALL;
 use picture::RELEASED;
 use statement::MARK_BYTES;
+use statement::STAND_IN_CODES;
 use statement::STRIP_BYTES;
+use statement::UNIT_CODES;
 
 // Whether an act is dumped or pictured: a round, or a step by hand.
 pub fn is_wanted(d: Desk, act: u64) -> bool {
@@ -83,7 +83,7 @@ fn head(d: Desk, rows: &[u64; 256], marks: &[u8; 22]) -> Desk {
     let mut codes = [0u8; 22];
     let mut i = 0usize;
     while i < 16 {
-        codes[i] = (rows[CODES + i] % 256) as u8;
+        codes[i] = (rows[UNIT_CODES + i] % 256) as u8;
         codes[18 + i % 4] = (rows[STAND_IN_CODES + i % 4] % 256) as u8;
         i += 1;
     }

@@ -6,6 +6,7 @@ use line::Sender;
 use statement::ANSWER_BYTES;
 use statement::HEARD_BYTES;
 use statement::Numbers;
+use statement::STAND_IN_CODES;
 
 pub struct StandIn {
     // Its code, 0 for every code.
@@ -38,16 +39,14 @@ const PLACED: u64 = 5;
 
 const SILENT: u64 = 7;
 
-// The places of the first code and of the first row, twelve numbers each.
-const CODES: usize = 16;
-
+// Where the first row begins, of twelve numbers.
 const ROWS: usize = 192;
 
 fn load(rows: &[u64; 256], i: u64) -> StandIn {
     let k = (i % 4) as usize;
     let at = ROWS + 12 * k;
     StandIn {
-        code: rows[CODES + k],
+        code: rows[STAND_IN_CODES + k],
         act: rows[at],
         heard: rows[at + 1],
         sent: rows[at + 2],

@@ -134,6 +134,12 @@ pub const MARK_BYTES: usize = 140288;
 
 pub const LOG_BYTES: usize = 143360;
 
+// Where, in the rows of numbers that are lent, the codes of units begin, by their place, and those of stand-ins, 0 for one of every code.
+// Behind them is what there is of each host (desk), and of each stand-in (stand_in).
+pub const UNIT_CODES: usize = 0;
+
+pub const STAND_IN_CODES: usize = 16;
+
 // The numbers of a statement in the order of its form, NONE for what was not given and 1 for a name without a value; or those that were
 // found, in the same places.
 pub struct Numbers {
