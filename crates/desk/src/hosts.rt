@@ -1,4 +1,5 @@
-// What each host does by itself, and what is counted of its unit's requests and turns: rows by the place of a unit, the controller's last.
+// What each host does by itself, and what is counted of its unit's requests and turns: rows by the place of a unit. Behind the units stands
+// the controller; where turns and requests are counted, all codes together that no unit has.
 use crate::Desk;
 use crate::FOR_EVER;
 use statement::Numbers;
@@ -11,24 +12,24 @@ const DUE: usize = 48;
 // 1 while a request is waited for; in how many service frames since it was raised, and how many units were ahead of it then.
 const WAITS: usize = 64;
 
-pub const WAITED: usize = 80;
+pub const WAITED: usize = 81;
 
-pub const AHEAD: usize = 96;
+pub const AHEAD: usize = 98;
 
 // How many turns of the ring its unit had.
-pub const TURNS: usize = 112;
+pub const TURNS: usize = 115;
 
 // For how many rounds more it is busy, FOR_EVER for ever; of how many rounds it is free in the last, 0 for every round, and in how many it
 // was busy since.
-const BUSY: usize = 128;
+const BUSY: usize = 132;
 
-const FREE: usize = 145;
+const FREE: usize = 149;
 
-const SINCE: usize = 162;
+const SINCE: usize = 166;
 
 // A number of a row.
 pub fn number(rows: &[u64; 256], row: usize, place: u64) -> u64 {
-    rows[row % 128 + (place % 16) as usize]
+    rows[row % 128 + (place % 17) as usize]
 }
 
 // The hosts that are busy in a round, a bit for each; then each is busy for one round less.
@@ -107,17 +108,15 @@ fn is_due(rows: &mut [u64; 256], place: u64, round: u64) -> bool {
     so
 }
 
-// A service frame begins: the turn of the unit at a place.
+// A service frame begins: the turn of the unit at a place, 16 for a code that no unit has.
 pub fn turned(rows: &mut [u64; 256], place: u64) {
     let mut i = 0usize;
     while i < 16 {
         rows[WAITED + i] = rows[WAITED + i] % 1000000000 + rows[WAITS + i] % 2;
         i += 1;
     }
-    if place < 16 {
-        let at = TURNS + (place % 16) as usize;
-        rows[at] = rows[at] % 1000000000 + 1;
-    }
+    let at = TURNS + (place % 17) as usize;
+    rows[at] = rows[at] % 1000000000 + 1;
 }
 
 // A request of the unit at a place is waited for from now on, with so many entries of the ring before its unit's.
@@ -130,5 +129,5 @@ pub fn waiting(rows: &mut [u64; 256], place: u64, ahead: u64) {
 
 // It is handed over.
 pub fn handed(rows: &mut [u64; 256], place: u64) {
-    rows[WAITS + (place % 16) as usize] = 0;
+    rows[WAITS + (place % 17) as usize] = 0;
 }

@@ -56,11 +56,14 @@ Classes of the device codes||",
 }
 
 // A case has three parts: the letter of what is run and the number of its message; a title; its data, or the bytes to read. Where messages of
-// all lengths are run, the last part is the title of each. The fifteen cases have 45 parts.
+// all lengths are run, the last part is the title of each.
 fn cases(table: &[u8], long: &[u8]) {
     let mut k = 0u64;
-    while k < 45 {
+    while k < 3000 {
         let what = word::piece(table, b'|', k);
+        if what.len() == 0 {
+            break;
+        }
         page::say(STDOUT_FILENO, word::piece(table, b'|', k + 1));
         let data = word::piece(table, b'|', k + 2);
         run(word::letter(what, 1), word::letter(what, 2), data, long);

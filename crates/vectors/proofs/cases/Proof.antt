@@ -1,14 +1,14 @@
--- The cases that are left grow fewer.
-use borrow.Author.Needs.{needs}
-use Prim.Native.Nat.{_-_}
+-- What is left to go through grows less.
 use Rattle.vectors.proofs.cases.Statement.{statement}
 use Rattle.vectors.proofs.cases.Tie as tie
+use borrow.Author.Needs.{needs}
+use Prim.Native.Nat.{_-_}
 
 abbrev Inv-loop : tie.InvT-loop
 Inv-loop table long k₀ k = Unit {0}
 
 abbrev μ-loop : tie.MeasureT-loop
-μ-loop table long k₀ k = 45 - k
+μ-loop table long k₀ k = 3000 - k
 
 loop-holds : tie.Need-loop-holds Inv-loop μ-loop
 loop-holds c = search needs
@@ -52,6 +52,9 @@ loop-again c = search needs
 returns : tie.Need-returns Inv-loop μ-loop
 returns c = search needs
 
+returns-2 : tie.Need-returns-2 Inv-loop μ-loop
+returns-2 c = search needs
+
 pub cases-spec : {M : Type 1} → statement M
 cases-spec =
     tie.close
@@ -71,4 +74,5 @@ cases-spec =
     add-k
     loop-less
     loop-again
-    returns)
+    returns
+    returns-2)

@@ -1,8 +1,8 @@
 -- What is left to go through grows less.
-use borrow.Author.Needs.{needs}
-use Prim.Native.Nat.{_-_}
 use Rattle.desk.proofs.hosts.turned.Statement.{statement}
 use Rattle.desk.proofs.hosts.turned.Tie as tie
+use borrow.Author.Needs.{needs}
+use Prim.Native.Nat.{_-_}
 
 abbrev Inv-loop : tie.InvT-loop
 Inv-loop rows₀ place i₀ rows i = Unit {0}
@@ -73,9 +73,6 @@ element-write-rows-2 c = search needs
 returns : tie.Need-returns Inv-loop μ-loop
 returns c = search needs
 
-returns-2 : tie.Need-returns-2 Inv-loop μ-loop
-returns-2 c = search needs
-
 pub turned-spec : {M : Type 1} → statement M
 turned-spec =
     tie.close
@@ -102,5 +99,4 @@ turned-spec =
     add-rows-5
     mul-rows-5
     element-write-rows-2
-    returns
-    returns-2)
+    returns)
