@@ -1,63 +1,64 @@
--- The words that a round of listening does not write stand as a save of the whole stage would leave them.
-use Prim.Native.Nat.{ℕ, zero, suc, _%_, _≤_, _<_}
-use native.Mathlib.Omega.{arith}
+-- The words that a nibble does not change stand as a save of the whole stage would leave them.
+use Prim.Native.Nat.{ℕ, _%_}
 use mathlib.Core.Path.{_≡_, refl, sym, _∙_, ap}
-use mathlib.Core.Bool.{Bool, true, false}
+use mathlib.Core.Bool.{Bool, true, false, _||_}
 use mathlib.Core.List.{List}
-use borrow.Author.Tests.{ne-eqb}
 use lib.Dec.{eqb}
 use lib.ListN.{set}
-use lib.Seq.{set-getD}
-use Rattle.answer.specs.Answer.{partial, halfTaken}
-use Rattle.answer.specs.declared.Response.the-variants.{Taking, Complete, TooLarge}
-use Rattle.controllerwords.specs.Controller.{loadedResponse, responseIn}
-use Rattle.controllerwords.proofs.Kept.{written, flag-again, kept, earIn, listening-kept}
-use Rattle.line.specs.declared.Listener.{Listener}
+use Rattle.answer.specs.Answer.{takenWith, bufferWith, halfTaken}
+use Rattle.answer.specs.declared.Partial.{Partial}
+use Rattle.answer.specs.declared.Response.{Response}
+use Rattle.answer.specs.declared.Response.the-variants.{Taking}
+use Rattle.controllerwords.specs.Controller.{kindOf, loadedFrame, loadedResponse, responseIn, listening, stageIn}
+use Rattle.controllerwords.specs.Layout.{STAGE, KIND, «BUFFER_LENGTH», EAR, RESPONSE, LENGTH, HALF, LOW, PLACE}
+use Rattle.controllerwords.proofs.Laws.{response-beside, listening-saved}
+use Rattle.frame.specs.Frame.{isSubmitted}
+use Rattle.frame.specs.declared.Stage.the-variants.{Listening}
 use Rattle.line.specs.declared.Listener.the-variants.{Holding}
-use Rattle.words.specs.Words.{at, numberIn, flagOf, flagIn, listenerTag}
-use Rattle.controllerlistening.specs.Listening.{listeningIn, partialIn, responseTag, heardIn}
+use Rattle.words.specs.Words.{at, numberIn, flagOf, flagIn, tagOf}
+use Rattle.words.proofs.Laws.{past, tag-again, tag-set, ready-tag, unchanged}
+use Rattle.controllerlistening.specs.Listening.{withNibble, nibbleIn, takenIn, takenBuffer}
 
--- The tag of a response: one that no save makes becomes 0.
-pub other-tag : (tag : ℕ) → 2 < tag → 0 ≡ responseTag tag
-other-tag tag h =
-    let complete : eqb tag 1 ≡ false = ne-eqb tag 1 (λ e. omega arith) in
-    let large : eqb tag 2 ≡ false = ne-eqb tag 2 (λ e. omega arith) in
-    sym (rw (complete, large))
+-- The words of the listener stand beside those of the response.
+module _ (ws : List ℕ) (nibble : ℕ) {heard : List ℕ} (e : heard ≡ listening ws 1 0) where
+  beside : loadedResponse heard ≡ loadedResponse ws
+  beside = ap loadedResponse e ∙ response-beside ws 1 0
 
-same-tag : (tag : ℕ) → tag ≤ 2 → tag ≡ responseTag tag
-same-tag zero h = refl
-same-tag (suc zero) h = refl
-same-tag (suc (suc zero)) h = refl
-same-tag (suc (suc (suc n))) h = absurd (omega arith)
+  pub taken : {after : List ℕ} → after ≡ nibbleIn heard nibble → after ≡ takenIn ws nibble
+  taken h =
+      let limit : at heard «BUFFER_LENGTH» ≡ at ws «BUFFER_LENGTH» = ap (λ (l : List ℕ). at l «BUFFER_LENGTH») e ∙ simp past in
+      h
+      ∙ (λ j. responseIn (e j) (takenWith (beside j) nibble (limit j % 65536)))
 
-pub tag-as-it-is : (ws : List ℕ) → at ws 13 ≤ 2 → ws ≡ set ws 13 (responseTag (at ws 13))
-tag-as-it-is ws h = sym (set-getD ws 13 0) ∙ ap (set ws 13) (same-tag (at ws 13) h)
+  pub stored : (buffer : List ℕ) {after : List ℕ} → after ≡ takenBuffer heard nibble buffer → after ≡ takenBuffer ws nibble buffer
+  stored buffer h =
+      let kind : at heard KIND ≡ at ws KIND = ap (λ (l : List ℕ). at l KIND) e ∙ simp past in
+      h ∙ (λ j. bufferWith (beside j) nibble (isSubmitted (kindOf (kind j))) buffer)
 
-module _ (ws : List ℕ) where
-  pub hears : {us : List ℕ} {tag : ℕ} (vs : List ℕ) (ear : Listener) (quiet : ℕ) → tag ≡ listenerTag ear → us ≡ heardIn ws tag quiet
-      → vs ≡ set us 13 (responseTag (at us 13))
-      → kept vs ≡ listeningIn ws ear (loadedResponse ws) quiet
-  hears {us} {tag} vs ear quiet g e h = listening-kept ws vs ear (loadedResponse ws) quiet (by-tests (eqb (at ws 13) 1) refl (eqb (at ws 13) 2) refl)
-    where
-      by-tests : (complete : Bool) → eqb (at ws 13) 1 ≡ complete → (large : Bool) → eqb (at ws 13) 2 ≡ large → vs ≡ responseIn (earIn ws ear quiet) (loadedResponse ws)
-      by-tests true p large q = simp (written, h, e, g, p)
-      by-tests false p true q = simp (written, h, e, g, p, q)
-      by-tests false p false q = simp (written, h, e, g, p, q, flag-again (at ws 9) (flagOf (at ws 9)) refl)
+-- In words whose tag says that it listens, this is the whole stage saved.
+pub holds : (ws : List ℕ) (nibble : ℕ) → at ws STAGE ≡ 4 → takenIn ws nibble ≡ stageIn ws (Listening (loadedFrame ws) Holding (withNibble ws nibble) 0)
+holds ws nibble t =
+    ap (λ (ear : ℕ). responseIn (listening ws ear 0) (withNibble ws nibble)) (sym (tag-set 3 (at ws EAR) 1 refl))
+    ∙ listening-saved ws Holding (withNibble ws nibble) 0 (ap (tagOf 5) t)
 
-  -- A nibble was taken.
-  module _ {vs : List ℕ} (e : vs ≡ heardIn ws 1 0) where
-    pub takes-low : {half low : ℕ} (nibble : ℕ) → half ≡ flagIn (at ws 9) true → low ≡ numberIn 256 (at ws 11) nibble
-        → kept (set (set (set vs 9 half) 11 low) 13 0) ≡ listeningIn ws Holding (Taking (halfTaken (partialIn ws) nibble)) 0
-    takes-low {half} {low} nibble h l = listening-kept ws (set (set (set vs 9 half) 11 low) 13 0) Holding (Taking (halfTaken (partialIn ws) nibble)) 0 (simp (written, e, h, l))
+-- The low nibble of a byte.
+neither : (a b : Bool) → (a || b) ≡ false → (a ≡ false) × (b ≡ false)
+neither true b h = (h, cc)
+neither false b h = (refl, h)
 
-    pub takes-byte : {half low count : ℕ} (length place : ℕ) → half ≡ flagIn (at ws 9) false → low ≡ numberIn 256 (at ws 11) 0 → count ≡ numberIn 65536 (at ws 14) length
-        → kept (set (set (set (set (set vs 9 half) 11 low) 12 place) 13 0) 14 count) ≡ listeningIn ws Holding (Taking (partial length place)) 0
-    takes-byte {half} {low} {count} length place h l k =
-        listening-kept ws (set (set (set (set (set vs 9 half) 11 low) 12 place) 13 0) 14 count) Holding (Taking (partial length place)) 0 (simp (written, e, h, l, k))
+module _ (ws : List ℕ) (nibble : ℕ) (going : (eqb (at ws RESPONSE) 1 || eqb (at ws RESPONSE) 2) ≡ false) (h : flagOf (at ws HALF) ≡ false) where
+  abbrev part : Partial
+  part = record { length = at ws LENGTH % 65536; place = at ws PLACE; half = flagOf (at ws HALF); low = at ws LOW % 256 }
 
-    pub completes : {word : ℕ} (status : ℕ) → word ≡ numberIn 256 (at ws 11) status
-        → kept (set (set vs 11 word) 13 1) ≡ listeningIn ws Holding (Complete status (at ws 14 % 65536)) 0
-    completes {word} status h = listening-kept ws (set (set vs 11 word) 13 1) Holding (Complete status (at ws 14 % 65536)) 0 (simp (written, e, h))
+  is-taking : loadedResponse ws ≡ Taking part
+  is-taking = let n = neither (eqb (at ws RESPONSE) 1) (eqb (at ws RESPONSE) 2) going in rw (n .0, n .1)
 
-    pub is-too-large : kept (set vs 13 2) ≡ listeningIn ws Holding TooLarge 0
-    is-too-large = listening-kept ws (set vs 13 2) Holding TooLarge 0 (simp (written, e))
+  pub low-taken : {half low : ℕ} → half ≡ flagIn (at ws HALF) true → low ≡ numberIn 256 (at ws LOW) nibble → set (set ws HALF half) LOW low ≡ nibbleIn ws nibble
+  low-taken {half} {low} e g =
+      let n = neither (eqb (at ws RESPONSE) 1) (eqb (at ws RESPONSE) 2) going in
+      let more : withNibble ws nibble ≡ Taking (halfTaken part nibble) = ap (λ (r : Response). takenWith r nibble (at ws «BUFFER_LENGTH» % 65536)) is-taking ∙ rw h in
+      let written : responseIn ws (Taking (halfTaken part nibble)) ≡ set (set ws HALF half) LOW low = simp (unchanged, e, g, tag-again 3 (at ws RESPONSE) 0 (ready-tag (at ws RESPONSE) (n .0) (n .1))) in
+      sym written ∙ ap (responseIn ws) (sym more)
+
+  pub low-stored : (buffer : List ℕ) → buffer ≡ takenBuffer ws nibble buffer
+  low-stored buffer = sym (ap (λ (r : Response). bufferWith r nibble (isSubmitted (kindOf (at ws KIND))) buffer) is-taking ∙ rw h)

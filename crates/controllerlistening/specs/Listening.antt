@@ -1,28 +1,23 @@
--- A controller that listens, in words.
+-- A controller that listens, in words: a nibble that it takes.
 use Prim.Native.Nat.{ℕ, _%_}
-use mathlib.Core.Bool.{cond}
 use mathlib.Core.List.{List}
-use lib.Dec.{eqb}
-use lib.ListN.{set}
-use Rattle.answer.specs.declared.Partial.{Partial}
+use Rattle.answer.specs.Answer.{takenWith, bufferWith}
 use Rattle.answer.specs.declared.Response.{Response}
-use Rattle.controllerwords.specs.Controller.{loadedFrame, stageIn}
-use Rattle.frame.specs.declared.Stage.the-variants.{Listening}
-use Rattle.line.specs.declared.Listener.{Listener}
-use Rattle.words.specs.Words.{at, numberIn, flagOf}
+use Rattle.controllerwords.specs.Controller.{kindOf, loadedResponse, responseIn, listening}
+use Rattle.controllerwords.specs.Layout.{KIND, «BUFFER_LENGTH»}
+use Rattle.frame.specs.Frame.{isSubmitted}
+use Rattle.words.specs.Words.{at}
 
--- The words with this listener, response and count of quiet rounds, the frame as it is.
-abbrev pub listeningIn : List ℕ → Listener → Response → ℕ → List ℕ
-listeningIn ws ear response quiet = stageIn ws (Listening (loadedFrame ws) ear response quiet)
+-- The response in the words, with one nibble more.
+abbrev pub withNibble : List ℕ → ℕ → Response
+withNibble ws nibble = takenWith (loadedResponse ws) nibble (at ws «BUFFER_LENGTH» % 65536)
 
--- The response that is being taken.
-abbrev pub partialIn : List ℕ → Partial
-partialIn ws = record { length = at ws 14 % 65536; place = at ws 12; half = flagOf (at ws 9); low = at ws 11 % 256 }
+abbrev pub nibbleIn : List ℕ → ℕ → List ℕ
+nibbleIn ws nibble = responseIn ws (withNibble ws nibble)
 
--- The tag of a response as a save makes it.
-abbrev pub responseTag : ℕ → ℕ
-responseTag tag = cond (eqb tag 1) 1 (cond (eqb tag 2) 2 0)
+-- The words after a round in which it takes the nibble, those of the stage and of its frame as they stand; and the lent buffer.
+abbrev pub takenIn : List ℕ → ℕ → List ℕ
+takenIn ws nibble = responseIn (listening ws 1 0) (withNibble ws nibble)
 
--- The words with the stage's tag, the listener's, and the count of quiet rounds.
-abbrev pub heardIn : List ℕ → ℕ → ℕ → List ℕ
-heardIn ws tag quiet = set (set (set ws 1 4) 10 tag) 15 (numberIn 65536 (at ws 15) quiet)
+abbrev pub takenBuffer : List ℕ → ℕ → List ℕ → List ℕ
+takenBuffer ws nibble buffer = bufferWith (loadedResponse ws) nibble (isSubmitted (kindOf (at ws KIND))) buffer

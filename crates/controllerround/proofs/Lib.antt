@@ -1,4 +1,3 @@
-pub mod Laws
 pub mod Tags
-pub mod Turns
+pub mod Rounds
 pub mod Heard

@@ -1,26 +1,94 @@
--- The ring's slots, one after the other; and what need not be saved, since it is as it was.
+-- What was loaded and is saved changes no word; and what is left out of a save because it is as it was.
 use Prim.Native.Nat.{ℕ, zero, suc, _+_, _-_, _/_, _%_, _≤_, _<_}
 use native.Mathlib.Nat.{add-zero, zero-add}
 use native.Mathlib.Omega.{arith}
-use mathlib.Core.Logic.{_≢_}
 use mathlib.Core.Path.{_≡_, refl, sym, _∙_, ap}
-use mathlib.Core.List.{List, [], _∷_}
-use lib.Dec.{eqb}
+use mathlib.Core.Bool.{Bool, true, false, _&&_, true≢false}
+use mathlib.Core.List.{List, _∷_}
+use borrow.Author.Tests.{lt-ltb, le-leb, ne-eqb}
+use lib.Dec.{ltb, leb}
 use lib.ListN.{getD, set}
-use lib.Seq.{getD-set-other, set-getD, sets}
+use Rattle.answer.specs.declared.Response.{Response}
 use Rattle.answer.specs.declared.Response.the-variants.{Taking, Complete, TooLarge}
 use Rattle.controller.specs.Controller.{controllerOf}
 use Rattle.frame.specs.declared.Stage.{Stage}
 use Rattle.frame.specs.declared.Stage.the-variants.{Free, Resting, Waiting, Sending, Listening}
+use Rattle.line.specs.declared.Listener.{Listener}
+use Rattle.line.specs.declared.Sender.{Sender}
 use Rattle.ring.specs.Ring.{none}
 use Rattle.ring.specs.declared.Entry.{Entry}
 use Rattle.ring.specs.declared.Ring.{Ring}
-use Rattle.words.specs.Words.{at, numberIn, flagOf, bit}
-use Rattle.words.proofs.Laws.{again8, again16}
-use Rattle.controllerwords.specs.Controller.{stageIn, entryOf, entryNumber, slotsFrom, loadedRing, slotsIn, ringIn, savedIn}
+use Rattle.words.specs.Words.{at, numberIn, flagOf, tagOf, tagIn, listenerOf, listenerIn, senderOf}
+use Rattle.words.proofs.Laws.{past, put-back, again, odd, tag-again, tag-below, tag-meant, tag-is, none-of, unchanged}
+use Rattle.controllerwords.specs.Layout.{TIMEOUT, STAGE, WAIT, SENDER, NIBBLE, NEXT, EAR, RESPONSE, QUIET, ENTRIES, ENTRY}
+use Rattle.controllerwords.specs.Controller.{kindOf, kindTag, kindIn, loadedFrame, frameIn, responseBy, loadedResponse, responseIn, stageBy, loadedStage, tagged, sending, listening, stageIn, entryOf, entryNumber, slotsFrom, loadedRing, slotsIn, ringIn, savedIn}
+use Rattle.controllerwords.specs.RoundTrip.{SavedLoaded}
 
+-- A frame.
+kind-again : (word : ℕ) → kindIn word (kindOf word) ≡ word
+kind-again word = tag-again 3 word (kindTag (kindOf word)) (tag-is (λ (w : ℕ). kindTag (kindOf w)) 3 word (λ h. rw (none-of word 3 1 h (omega arith), none-of word 3 2 h (omega arith))) same)
+  where
+    same : (k : ℕ) → k < 3 → kindTag (kindOf k) ≡ k
+    same zero h = refl
+    same (suc zero) h = refl
+    same (suc (suc zero)) h = refl
+    same (suc (suc (suc n))) h = absurd (omega arith)
+
+pub frame-again : (ws : List ℕ) (tag : ℕ) → frameIn (tagged ws tag) (loadedFrame ws) ≡ tagged ws tag
+frame-again ws tag = simp (unchanged, kind-again)
+
+pub frame-stays : (ws : List ℕ) (tag : ℕ) → tagOf 5 (at ws STAGE) ≡ tag → frameIn (tagged ws tag) (loadedFrame ws) ≡ ws
+frame-stays ws tag e = frame-again ws tag ∙ put-back ws STAGE (tagIn 5 (at ws STAGE) tag) (sym (tag-again 5 (at ws STAGE) tag e))
+
+-- A response.
+pub response-meant : (ws : List ℕ) (word : ℕ) → responseBy word ws ≡ responseBy (tagOf 3 word) ws
+response-meant ws word = tag-meant (λ (t : ℕ). responseBy t ws) 3 word (λ h. rw (none-of word 3 1 h (omega arith), none-of word 3 2 h (omega arith)))
+
+pub response-again : (ws : List ℕ) → responseIn ws (loadedResponse ws) ≡ ws
+response-again ws = ap (responseIn ws) (response-meant ws (at ws RESPONSE)) ∙ by-tag (tagOf 3 (at ws RESPONSE)) refl (tag-below 3 (at ws RESPONSE) (omega arith))
+  where
+    by-tag : (k : ℕ) → tagOf 3 (at ws RESPONSE) ≡ k → k < 3 → responseIn ws (responseBy k ws) ≡ ws
+    by-tag zero e h = simp (unchanged, tag-again 3 (at ws RESPONSE) 0 e)
+    by-tag (suc zero) e h = simp (unchanged, tag-again 3 (at ws RESPONSE) 1 e)
+    by-tag (suc (suc zero)) e h = simp (unchanged, tag-again 3 (at ws RESPONSE) 2 e)
+    by-tag (suc (suc (suc n))) e h = absurd (omega arith)
+
+-- A frame that stays as it is: the other words of the stage are enough.
+pub sending-saved : (ws : List ℕ) (i : ℕ) (sender : Sender) (wait : Bool) → tagOf 5 (at ws STAGE) ≡ 3
+    → sending ws i sender wait ≡ stageIn ws (Sending (loadedFrame ws) i sender wait)
+sending-saved ws i sender wait e = ap (λ (l : List ℕ). sending l i sender wait) (sym (frame-stays ws 3 e))
+
+pub listening-saved : (ws : List ℕ) (ear : Listener) (response : Response) (quiet : ℕ) → tagOf 5 (at ws STAGE) ≡ 4
+    → responseIn (listening ws (listenerIn (at ws EAR) ear) quiet) response ≡ stageIn ws (Listening (loadedFrame ws) ear response quiet)
+listening-saved ws ear response quiet e = ap (λ (l : List ℕ). responseIn (listening l (listenerIn (at ws EAR) ear) quiet) response) (sym (frame-stays ws 4 e))
+
+-- The words of the listener stand beside those of the response.
+pub response-beside : (ws : List ℕ) (ear quiet : ℕ) → loadedResponse (listening ws ear quiet) ≡ loadedResponse ws
+response-beside ws ear quiet = simp past
+
+pub response-stays : (ws : List ℕ) (ear quiet : ℕ) → responseIn (listening ws ear quiet) (loadedResponse ws) ≡ listening ws ear quiet
+response-stays ws ear quiet = ap (responseIn (listening ws ear quiet)) (sym (response-beside ws ear quiet)) ∙ response-again (listening ws ear quiet)
+
+-- A stage.
+pub stage-meant : (ws : List ℕ) (word : ℕ) → stageBy word ws ≡ stageBy (tagOf 5 word) ws
+stage-meant ws word = tag-meant (λ (t : ℕ). stageBy t ws) 5 word (λ h. rw (none-of word 5 1 h (omega arith), none-of word 5 2 h (omega arith), none-of word 5 3 h (omega arith), none-of word 5 4 h (omega arith)))
+
+stage-again : (ws : List ℕ) → stageIn ws (loadedStage ws) ≡ ws
+stage-again ws = ap (stageIn ws) (stage-meant ws (at ws STAGE)) ∙ by-tag (tagOf 5 (at ws STAGE)) refl (tag-below 5 (at ws STAGE) (omega arith))
+  where
+    by-tag : (k : ℕ) → tagOf 5 (at ws STAGE) ≡ k → k < 5 → stageIn ws (stageBy k ws) ≡ ws
+    by-tag zero e h = simp (unchanged, tag-again 5 (at ws STAGE) 0 e)
+    by-tag (suc zero) e h = simp (unchanged, tag-again 5 (at ws STAGE) 1 e)
+    by-tag (suc (suc zero)) e h = frame-stays ws 2 e
+    by-tag (suc (suc (suc zero))) e h = sym (sending-saved ws (at ws NEXT) (senderOf (at ws SENDER) (at ws NIBBLE)) (flagOf (at ws WAIT)) e) ∙ simp unchanged
+    by-tag (suc (suc (suc (suc zero)))) e h =
+        let heard : listening ws (listenerIn (at ws EAR) (listenerOf (at ws EAR))) (at ws QUIET % 65536) ≡ ws = simp unchanged in
+        sym (listening-saved ws (listenerOf (at ws EAR)) (loadedResponse ws) (at ws QUIET % 65536) e) ∙ ap (λ (l : List ℕ). responseIn l (loadedResponse ws)) heard ∙ response-again ws
+    by-tag (suc (suc (suc (suc (suc n))))) e h = absurd (omega arith)
+
+-- The ring's slots, one after the other.
 pub slots-next : (es : List Entry) (ws : List ℕ) (i : ℕ) → i < 16
-    → slotsIn (16 - i) i es ws ≡ slotsIn (16 - suc i) (suc i) es (set ws (17 + i) (numberIn 512 (at ws (17 + i)) (entryNumber (getD es i none))))
+    → slotsIn (16 - i) i es ws ≡ slotsIn (16 - suc i) (suc i) es (set ws (ENTRY + i) (numberIn 512 (at ws (ENTRY + i)) (entryNumber (getD es i none))))
 unfolding slotsIn
 slots-next es ws i h = let e : 16 - i ≡ suc (16 - suc i) = omega arith in ap (λ (n : ℕ). slotsIn n i es ws) e
 
@@ -28,114 +96,65 @@ pub slots-end : (es : List Entry) (ws : List ℕ) (i : ℕ) → 16 ≤ i → slo
 unfolding slotsIn
 slots-end es ws i h = let e : 16 - i ≡ 0 = omega arith in ap (λ (n : ℕ). slotsIn n i es ws) e
 
--- What is put back where it stood changes nothing.
-odd-again : (n : ℕ) → bit (flagOf n) ≡ n % 2
-odd-again n = by-parity (n % 2) (omega arith)
-  where
-    by-parity : (p : ℕ) → p < 2 → bit (eqb p 1) ≡ p
-    by-parity zero h = refl
-    by-parity (suc zero) h = refl
-    by-parity (suc (suc p)) h = absurd (omega arith)
-
 entry-again : (word : ℕ) → numberIn 512 word (entryNumber (entryOf word)) ≡ word
-entry-again word = rw (odd-again (word / 256)) (omega arith)
+entry-again word = rw (odd (word / 256)) (omega arith)
 
-slots-again : (n i : ℕ) (es : List Entry) (ws : List ℕ) → ((j : ℕ) → i ≤ j → j < i + n → getD es j none ≡ entryOf (at ws (17 + j))) → slotsIn n i es ws ≡ ws
+slots-again : (n i : ℕ) (es : List Entry) (ws : List ℕ) → ((j : ℕ) → i ≤ j → j < i + n → getD es j none ≡ entryOf (at ws (ENTRY + j))) → slotsIn n i es ws ≡ ws
 unfolding slotsIn
 slots-again zero i es ws h = refl
 slots-again (suc n) i es ws h =
-    let same : set ws (17 + i) (numberIn 512 (at ws (17 + i)) (entryNumber (getD es i none))) ≡ ws =
-    ap (λ (e : Entry). set ws (17 + i) (numberIn 512 (at ws (17 + i)) (entryNumber e))) (h i (omega arith) (omega arith))
-    ∙ ap (set ws (17 + i)) (entry-again (at ws (17 + i)))
-    ∙ set-getD ws (17 + i) 0 in
+    let same : set ws (ENTRY + i) (numberIn 512 (at ws (ENTRY + i)) (entryNumber (getD es i none))) ≡ ws =
+    ap (λ (e : Entry). set ws (ENTRY + i) (numberIn 512 (at ws (ENTRY + i)) (entryNumber e))) (h i (omega arith) (omega arith))
+    ∙ put-back ws (ENTRY + i) _ (sym (entry-again (at ws (ENTRY + i)))) in
     ap (slotsIn n (suc i) es) same ∙ slots-again n (suc i) es ws (λ j p q. h j (omega arith) (omega arith))
 
-slot-at : (n i j : ℕ) (ws : List ℕ) → j < n → getD (slotsFrom n i ws) j none ≡ entryOf (at ws (17 + (i + j)))
+slot-at : (n i j : ℕ) (ws : List ℕ) → j < n → getD (slotsFrom n i ws) j none ≡ entryOf (at ws (ENTRY + (i + j)))
 slot-at zero i j ws h = absurd (omega arith)
 slot-at (suc n) i zero ws h = rw (add-zero i)
 slot-at (suc n) i (suc j) ws h = let e : i + suc j ≡ suc i + j = omega arith in rw e (slot-at n (suc i) j ws (omega arith))
 
 ring-again : (ws : List ℕ) → ringIn ws (loadedRing ws) ≡ ws
 ring-again ws =
-    ap (slotsIn 16 0 (slotsFrom 16 0 ws)) (ap (set ws 16) (again8 (at ws 16)) ∙ set-getD ws 16 0)
-    ∙ slots-again 16 0 (slotsFrom 16 0 ws) ws (λ j p q. slot-at 16 0 j ws (omega arith) ∙ ap (λ (k : ℕ). entryOf (at ws (17 + k))) (zero-add j))
+    ap (slotsIn 16 0 (slotsFrom 16 0 ws)) (put-back ws ENTRIES _ (sym (again 256 (at ws ENTRIES))))
+    ∙ slots-again 16 0 (slotsFrom 16 0 ws) ws (λ j p q. slot-at 16 0 j ws (omega arith) ∙ ap (λ (k : ℕ). entryOf (at ws (ENTRY + k))) (zero-add j))
 
--- The ring stands behind the words of the stage.
-module _ (j : ℕ) (h : 16 ≤ j) where
-  past : (i : ℕ) (l : List ℕ) (v : ℕ) → i < 16 → at (set l i v) j ≡ at l j
-  past i l v k = let other : j ≢ i = omega arith in getD-set-other l i j v 0 other
+-- The words of the ring are no words of the stage.
+abbrev inRing : ℕ → Bool
+inRing i = leb ENTRIES i && ltb i (ENTRY + 16)
 
-  past1 : (l : List ℕ) (v : ℕ) → at (set l 1 v) j ≡ at l j
-  past1 l v = past 1 l v (omega arith)
+module _ (j : ℕ) (h : inRing j ≡ true) where
+  beside : (l : List ℕ) (i v : ℕ) → inRing i ≡ false → at (set l i v) j ≡ at l j
+  beside l i v b = past l i j v (ne-eqb j i (λ e. true≢false (sym h ∙ ap inRing e ∙ b)))
 
-  past2 : (l : List ℕ) (v : ℕ) → at (set l 2 v) j ≡ at l j
-  past2 l v = past 2 l v (omega arith)
+  stage-beside : (ws : List ℕ) (s : Stage) → at (stageIn ws s) j ≡ at ws j
+  stage-beside ws Free = simp beside
+  stage-beside ws (Resting first) = simp beside
+  stage-beside ws (Waiting f) = simp beside
+  stage-beside ws (Sending f i sender wait) = simp beside
+  stage-beside ws (Listening f ear (Taking p) quiet) = simp beside
+  stage-beside ws (Listening f ear (Complete status count) quiet) = simp beside
+  stage-beside ws (Listening f ear TooLarge quiet) = simp beside
 
-  past3 : (l : List ℕ) (v : ℕ) → at (set l 3 v) j ≡ at l j
-  past3 l v = past 3 l v (omega arith)
+slots-same : (n i : ℕ) (ws vs : List ℕ) → i + n ≤ 16 → ((j : ℕ) → inRing j ≡ true → at ws j ≡ at vs j) → slotsFrom n i ws ≡ slotsFrom n i vs
+slots-same zero i ws vs l h = refl
+slots-same (suc n) i ws vs l h = λ k. entryOf (h (ENTRY + i) inside k) ∷ slots-same n (suc i) ws vs (omega arith) h k
+  where
+    inside : inRing (ENTRY + i) ≡ true
+    inside = rw (le-leb ENTRIES (ENTRY + i) (omega arith), lt-ltb (ENTRY + i) (ENTRY + 16) (omega arith))
 
-  past4 : (l : List ℕ) (v : ℕ) → at (set l 4 v) j ≡ at l j
-  past4 l v = past 4 l v (omega arith)
-
-  past5 : (l : List ℕ) (v : ℕ) → at (set l 5 v) j ≡ at l j
-  past5 l v = past 5 l v (omega arith)
-
-  past6 : (l : List ℕ) (v : ℕ) → at (set l 6 v) j ≡ at l j
-  past6 l v = past 6 l v (omega arith)
-
-  past7 : (l : List ℕ) (v : ℕ) → at (set l 7 v) j ≡ at l j
-  past7 l v = past 7 l v (omega arith)
-
-  past8 : (l : List ℕ) (v : ℕ) → at (set l 8 v) j ≡ at l j
-  past8 l v = past 8 l v (omega arith)
-
-  past9 : (l : List ℕ) (v : ℕ) → at (set l 9 v) j ≡ at l j
-  past9 l v = past 9 l v (omega arith)
-
-  past10 : (l : List ℕ) (v : ℕ) → at (set l 10 v) j ≡ at l j
-  past10 l v = past 10 l v (omega arith)
-
-  past11 : (l : List ℕ) (v : ℕ) → at (set l 11 v) j ≡ at l j
-  past11 l v = past 11 l v (omega arith)
-
-  past12 : (l : List ℕ) (v : ℕ) → at (set l 12 v) j ≡ at l j
-  past12 l v = past 12 l v (omega arith)
-
-  past13 : (l : List ℕ) (v : ℕ) → at (set l 13 v) j ≡ at l j
-  past13 l v = past 13 l v (omega arith)
-
-  past14 : (l : List ℕ) (v : ℕ) → at (set l 14 v) j ≡ at l j
-  past14 l v = past 14 l v (omega arith)
-
-  past15 : (l : List ℕ) (v : ℕ) → at (set l 15 v) j ≡ at l j
-  past15 l v = past 15 l v (omega arith)
-
-  stage-before : (ws : List ℕ) (s : Stage) → at (stageIn ws s) j ≡ at ws j
-  stage-before ws Free = past1 ws 0
-  stage-before ws (Resting first) = simp (past9, past1)
-  stage-before ws (Waiting f) = simp (past1, past2, past3, past4, past5, past6, past7, past8)
-  stage-before ws (Sending f i sender wait) = simp (past1, past2, past3, past4, past5, past6, past7, past8, past9, past10, past11, past12)
-  stage-before ws (Listening f ear (Taking p) quiet) = simp (past1, past2, past3, past4, past5, past6, past7, past8, past9, past10, past11, past12, past13, past14, past15)
-  stage-before ws (Listening f ear (Complete status count) quiet) = simp (past1, past2, past3, past4, past5, past6, past7, past8, past9, past10, past11, past12, past13, past14, past15)
-  stage-before ws (Listening f ear TooLarge quiet) = simp (past1, past2, past3, past4, past5, past6, past7, past8, past9, past10, past11, past12, past13, past14, past15)
-
-slots-same : (n i : ℕ) (ws vs : List ℕ) → ((j : ℕ) → 16 ≤ j → at ws j ≡ at vs j) → slotsFrom n i ws ≡ slotsFrom n i vs
-slots-same zero i ws vs h = refl
-slots-same (suc n) i ws vs h = λ k. entryOf (h (17 + i) (omega arith) k) ∷ slots-same n (suc i) ws vs h k
-
-ring-behind : (ws : List ℕ) (s : Stage) → loadedRing (stageIn ws s) ≡ loadedRing ws
-ring-behind ws s = λ k. record {
-  entries = slots-same 16 0 (stageIn ws s) ws (λ j h. stage-before j h ws s) k;
-  count = stage-before 16 (omega arith) ws s k % 256;
+pub ring-beside : (ws : List ℕ) (s : Stage) → loadedRing (stageIn ws s) ≡ loadedRing ws
+ring-beside ws s = λ k. record {
+  entries = slots-same 16 0 (stageIn ws s) ws (omega arith) (λ j h. stage-beside j h ws s) k;
+  count = stage-beside ENTRIES refl ws s k % 256;
 }
 
-timeout-again : (ws : List ℕ) → sets ws 0 (numberIn 65536 (at ws 0) (at ws 0 % 65536) ∷ []) ≡ ws
-timeout-again ws = ap (set ws 0) (again16 (at ws 0)) ∙ set-getD ws 0 0
-
 -- Stage and ring saved, the time-out not: as the whole controller is saved.
-pub ring-saved : (ws : List ℕ) (s : Stage) (r : Ring) → ringIn (stageIn ws s) r ≡ savedIn ws (controllerOf (at ws 0 % 65536) s r)
-ring-saved ws s r = ap (λ (l : List ℕ). ringIn (stageIn l s) r) (sym (timeout-again ws))
+pub ring-saved : (ws : List ℕ) (s : Stage) (r : Ring) → ringIn (stageIn ws s) r ≡ savedIn ws (controllerOf (at ws TIMEOUT % 65536) s r)
+ring-saved ws s r = ap (λ (l : List ℕ). ringIn (stageIn l s) r) (sym (put-back ws TIMEOUT _ (sym (again 65536 (at ws TIMEOUT)))))
 
 -- The stage alone saved: as the whole controller is saved, its ring being as it was.
-pub stage-saved : (ws : List ℕ) (s : Stage) → stageIn ws s ≡ savedIn ws (controllerOf (at ws 0 % 65536) s (loadedRing ws))
-stage-saved ws s = sym (ring-again (stageIn ws s)) ∙ ap (ringIn (stageIn ws s)) (ring-behind ws s) ∙ ring-saved ws s (loadedRing ws)
+pub stage-saved : (ws : List ℕ) (s : Stage) → stageIn ws s ≡ savedIn ws (controllerOf (at ws TIMEOUT % 65536) s (loadedRing ws))
+stage-saved ws s = sym (ring-again (stageIn ws s)) ∙ ap (ringIn (stageIn ws s)) (ring-beside ws s) ∙ ring-saved ws s (loadedRing ws)
+
+pub saved-loaded : SavedLoaded
+saved-loaded ws = sym (stage-saved ws (loadedStage ws)) ∙ stage-again ws

@@ -1,12 +1,9 @@
--- A controller in 33 words of its caller's memory: 0 its time-out, 1 the tag of its stage, 2 to 8 its frame, 9 to 15 what else the stage
--- carries, 16 the number of the ring's entries, 17 to 32 the entries. `loaded` is total; `savedIn` says what a save makes of the words that
--- were there.
+-- A controller in words: `loaded` says which controller stands there, for all words; `savedIn` what a save makes of the words that were there.
 use Prim.Native.Nat.{ℕ, zero, suc, _+_, _*_, _/_, _%_}
-use mathlib.Core.Bool.{cond}
+use mathlib.Core.Bool.{Bool, cond}
 use mathlib.Core.List.{List, [], _∷_}
 use lib.Dec.{eqb}
 use lib.ListN.{getD, set, replicate}
-use lib.Seq.{sets}
 use Rattle.answer.specs.declared.Response.{Response}
 use Rattle.answer.specs.declared.Response.the-variants.{Taking, Complete, TooLarge}
 use Rattle.controller.specs.Controller.{controllerOf}
@@ -16,73 +13,102 @@ use Rattle.frame.specs.declared.Kind.{Kind}
 use Rattle.frame.specs.declared.Kind.the-variants.{Submitted, Poll, Null}
 use Rattle.frame.specs.declared.Stage.{Stage}
 use Rattle.frame.specs.declared.Stage.the-variants.{Free, Resting, Waiting, Sending, Listening}
+use Rattle.line.specs.declared.Sender.{Sender}
 use Rattle.ring.specs.Ring.{none}
 use Rattle.ring.specs.declared.Entry.{Entry}
 use Rattle.ring.specs.declared.Ring.{Ring}
-use Rattle.words.specs.Words.{at, numberIn, flagOf, bit, flagIn, listenerOf, listenerTag, senderOf, senderTag, senderIn, commandOf}
+use Rattle.words.specs.Words.{at, written, _≔_, numberIn, flagOf, bit, flagIn, tagIn, listenerOf, listenerIn, senderOf, senderIn, nibbleIn, commandOf}
+use Rattle.controllerwords.specs.Layout.{WORDS, TIMEOUT, STAGE, KIND, DEVICE, COMMAND, «LOGICAL_UNIT», «RECORD_NUMBER», «BUFFER_LENGTH», «DATA_LENGTH», FIRST, WAIT, SENDER, NIBBLE, NEXT, EAR, RESPONSE, LENGTH, QUIET, HALF, LOW, PLACE, STATUS, ENTRIES, ENTRY}
 
--- A frame, words 2 to 8: the tag of its kind, its command's fields, its data's length.
+-- A kind in the word of its tag: submitted 0, poll 1, null 2.
 abbrev pub kindOf : ℕ → Kind
-kindOf tag = cond (eqb tag 1) Poll (cond (eqb tag 2) Null Submitted)
+kindOf word = cond (eqb word 1) Poll (cond (eqb word 2) Null Submitted)
 
 abbrev pub kindTag : Kind → ℕ
 kindTag Submitted = 0
 kindTag Poll = 1
 kindTag Null = 2
 
+abbrev pub kindIn : ℕ → Kind → ℕ
+kindIn word kind = tagIn 3 word (kindTag kind)
+
+-- A frame.
 abbrev pub loadedFrame : List ℕ → Frame
 loadedFrame ws = record {
-  kind = kindOf (at ws 2);
-  command = commandOf (at ws 3) (at ws 4) (at ws 5) (at ws 6) (at ws 7);
-  «data_length» = at ws 8 % 65536;
+  kind = kindOf (at ws KIND);
+  command = commandOf (at ws DEVICE) (at ws COMMAND) (at ws «LOGICAL_UNIT») (at ws «RECORD_NUMBER») (at ws «BUFFER_LENGTH»);
+  «data_length» = at ws «DATA_LENGTH» % 65536;
 }
 
 abbrev pub frameIn : List ℕ → Frame → List ℕ
 frameIn ws f =
-    sets ws 2
-    (kindTag (f .kind)
-    ∷ numberIn 256 (at ws 3) (f .command .device)
-    ∷ numberIn 256 (at ws 4) (f .command .command)
-    ∷ numberIn 256 (at ws 5) (f .command .«logical_unit»)
-    ∷ numberIn 65536 (at ws 6) (f .command .«record_number»)
-    ∷ numberIn 65536 (at ws 7) (f .command .«buffer_length»)
-    ∷ numberIn 65536 (at ws 8) (f .«data_length»)
+    written ws
+    (KIND ≔ kindIn (at ws KIND) (f .kind)
+    ∷ DEVICE ≔ numberIn 256 (at ws DEVICE) (f .command .device)
+    ∷ COMMAND ≔ numberIn 256 (at ws COMMAND) (f .command .command)
+    ∷ «LOGICAL_UNIT» ≔ numberIn 256 (at ws «LOGICAL_UNIT») (f .command .«logical_unit»)
+    ∷ «RECORD_NUMBER» ≔ numberIn 65536 (at ws «RECORD_NUMBER») (f .command .«record_number»)
+    ∷ «BUFFER_LENGTH» ≔ numberIn 65536 (at ws «BUFFER_LENGTH») (f .command .«buffer_length»)
+    ∷ «DATA_LENGTH» ≔ numberIn 65536 (at ws «DATA_LENGTH») (f .«data_length»)
     ∷ [])
 
--- A response, words 9 and 11 to 14: its tag is word 13.
+-- A response. Tags: being taken 0, complete 1, too large 2.
+abbrev pub responseBy : ℕ → List ℕ → Response
+responseBy tag ws =
+    cond (eqb tag 1) (Complete (at ws STATUS % 256) (at ws LENGTH % 65536))
+    (cond (eqb tag 2) TooLarge
+    (Taking (record { length = at ws LENGTH % 65536; place = at ws PLACE; half = flagOf (at ws HALF); low = at ws LOW % 256 })))
+
 abbrev pub loadedResponse : List ℕ → Response
-loadedResponse ws =
-    cond (eqb (at ws 13) 1) (Complete (at ws 11 % 256) (at ws 14 % 65536))
-    (cond (eqb (at ws 13) 2) TooLarge
-    (Taking (record { length = at ws 14 % 65536; place = at ws 12; half = flagOf (at ws 9); low = at ws 11 % 256 })))
+loadedResponse ws = responseBy (at ws RESPONSE) ws
 
 abbrev pub responseIn : List ℕ → Response → List ℕ
 responseIn ws (Taking p) =
-    sets (sets ws 9 (flagIn (at ws 9) (p .half) ∷ [])) 11
-    (numberIn 256 (at ws 11) (p .low) ∷ p .place ∷ 0 ∷ numberIn 65536 (at ws 14) (p .length) ∷ [])
-responseIn ws (Complete status count) = sets (sets ws 11 (numberIn 256 (at ws 11) status ∷ [])) 13 (1 ∷ numberIn 65536 (at ws 14) count ∷ [])
-responseIn ws TooLarge = sets ws 13 (2 ∷ [])
+    written ws
+    (RESPONSE ≔ tagIn 3 (at ws RESPONSE) 0
+    ∷ LENGTH ≔ numberIn 65536 (at ws LENGTH) (p .length)
+    ∷ PLACE ≔ p .place
+    ∷ HALF ≔ flagIn (at ws HALF) (p .half)
+    ∷ LOW ≔ numberIn 256 (at ws LOW) (p .low)
+    ∷ [])
+responseIn ws (Complete status count) =
+    written ws
+    (RESPONSE ≔ tagIn 3 (at ws RESPONSE) 1
+    ∷ STATUS ≔ numberIn 256 (at ws STATUS) status
+    ∷ LENGTH ≔ numberIn 65536 (at ws LENGTH) count
+    ∷ [])
+responseIn ws TooLarge = written ws (RESPONSE ≔ tagIn 3 (at ws RESPONSE) 2 ∷ [])
 
 -- The stage. Tags: free 0, resting 1, a command is submitted 2, sending 3, listening 4.
+abbrev pub stageBy : ℕ → List ℕ → Stage
+stageBy tag ws =
+    cond (eqb tag 1) (Resting (flagOf (at ws FIRST)))
+    (cond (eqb tag 2) (Waiting (loadedFrame ws))
+    (cond (eqb tag 3) (Sending (loadedFrame ws) (at ws NEXT) (senderOf (at ws SENDER) (at ws NIBBLE)) (flagOf (at ws WAIT)))
+    (cond (eqb tag 4) (Listening (loadedFrame ws) (listenerOf (at ws EAR)) (loadedResponse ws) (at ws QUIET % 65536)) Free)))
+
 abbrev pub loadedStage : List ℕ → Stage
-loadedStage ws =
-    cond (eqb (at ws 1) 1) (Resting (flagOf (at ws 9)))
-    (cond (eqb (at ws 1) 2) (Waiting (loadedFrame ws))
-    (cond (eqb (at ws 1) 3) (Sending (loadedFrame ws) (at ws 12) (senderOf (at ws 10) (at ws 11)) (flagOf (at ws 9)))
-    (cond (eqb (at ws 1) 4) (Listening (loadedFrame ws) (listenerOf (at ws 10)) (loadedResponse ws) (at ws 15 % 65536)) Free)))
+loadedStage ws = stageBy (at ws STAGE) ws
+
+abbrev pub tagged : List ℕ → ℕ → List ℕ
+tagged ws tag = written ws (STAGE ≔ tagIn 5 (at ws STAGE) tag ∷ [])
+
+abbrev pub sending : List ℕ → ℕ → Sender → Bool → List ℕ
+sending ws i sender wait =
+    written ws
+    (WAIT ≔ flagIn (at ws WAIT) wait ∷ SENDER ≔ senderIn (at ws SENDER) sender ∷ NIBBLE ≔ nibbleIn (at ws NIBBLE) sender ∷ NEXT ≔ i ∷ [])
+
+-- The word of the listener's tag, and the count of quiet rounds.
+abbrev pub listening : List ℕ → ℕ → ℕ → List ℕ
+listening ws ear quiet = written ws (EAR ≔ ear ∷ QUIET ≔ numberIn 65536 (at ws QUIET) quiet ∷ [])
 
 abbrev pub stageIn : List ℕ → Stage → List ℕ
-stageIn ws Free = sets ws 1 (0 ∷ [])
-stageIn ws (Resting first) = sets (sets ws 1 (1 ∷ [])) 9 (flagIn (at ws 9) first ∷ [])
-stageIn ws (Waiting f) = frameIn (sets ws 1 (2 ∷ [])) f
-stageIn ws (Sending f i sender wait) =
-    frameIn
-    (sets (sets ws 1 (3 ∷ [])) 9 (flagIn (at ws 9) wait ∷ senderTag sender ∷ senderIn (at ws 11) sender ∷ i ∷ []))
-    f
+stageIn ws Free = tagged ws 0
+stageIn ws (Resting first) = written (tagged ws 1) (FIRST ≔ flagIn (at ws FIRST) first ∷ [])
+stageIn ws (Waiting f) = frameIn (tagged ws 2) f
+stageIn ws (Sending f i sender wait) = sending (frameIn (tagged ws 3) f) i sender wait
 stageIn ws (Listening f ear response quiet) =
-    frameIn
-    (responseIn (sets (sets (sets ws 1 (4 ∷ [])) 10 (listenerTag ear ∷ [])) 15 (numberIn 65536 (at ws 15) quiet ∷ [])) response)
-    f
+    responseIn (listening (frameIn (tagged ws 4) f) (listenerIn (at ws EAR) ear) quiet) response
 
 -- An entry of the ring in nine bits: its code, and 256 while it is marked.
 abbrev pub entryOf : ℕ → Entry
@@ -94,25 +120,25 @@ entryNumber e = e .code + 256 * bit (e .marked)
 -- The ring: sixteen slots, the front first.
 abbrev pub slotsFrom : ℕ → ℕ → List ℕ → List Entry
 slotsFrom zero i ws = []
-slotsFrom (suc n) i ws = entryOf (at ws (17 + i)) ∷ slotsFrom n (suc i) ws
+slotsFrom (suc n) i ws = entryOf (at ws (ENTRY + i)) ∷ slotsFrom n (suc i) ws
 
 abbrev pub loadedRing : List ℕ → Ring
-loadedRing ws = record { entries = slotsFrom 16 0 ws; count = at ws 16 % 256 }
+loadedRing ws = record { entries = slotsFrom 16 0 ws; count = at ws ENTRIES % 256 }
 
 unfoldable pub slotsIn : ℕ → ℕ → List Entry → List ℕ → List ℕ
 slotsIn zero i es ws = ws
-slotsIn (suc n) i es ws = slotsIn n (suc i) es (set ws (17 + i) (numberIn 512 (at ws (17 + i)) (entryNumber (getD es i none))))
+slotsIn (suc n) i es ws = slotsIn n (suc i) es (set ws (ENTRY + i) (numberIn 512 (at ws (ENTRY + i)) (entryNumber (getD es i none))))
 
 abbrev pub ringIn : List ℕ → Ring → List ℕ
-ringIn ws r = slotsIn 16 0 (r .entries) (sets ws 16 (numberIn 256 (at ws 16) (r .count) ∷ []))
+ringIn ws r = slotsIn 16 0 (r .entries) (written ws (ENTRIES ≔ numberIn 256 (at ws ENTRIES) (r .count) ∷ []))
 
 -- The controller.
 abbrev pub loaded : List ℕ → Controller
-loaded ws = controllerOf (at ws 0 % 65536) (loadedStage ws) (loadedRing ws)
+loaded ws = controllerOf (at ws TIMEOUT % 65536) (loadedStage ws) (loadedRing ws)
 
 abbrev pub savedIn : List ℕ → Controller → List ℕ
-savedIn ws c = ringIn (stageIn (sets ws 0 (numberIn 65536 (at ws 0) (c .timeout) ∷ [])) (c .stage)) (c .ring)
+savedIn ws c = ringIn (stageIn (written ws (TIMEOUT ≔ numberIn 65536 (at ws TIMEOUT) (c .timeout) ∷ [])) (c .stage)) (c .ring)
 
 -- Into cleared words: what making a controller leaves.
 abbrev pub saved : Controller → List ℕ
-saved c = savedIn (replicate 33 0) c
+saved c = savedIn (replicate WORDS 0) c

@@ -17,6 +17,7 @@ use Rattle.line.specs.declared.Sender.{Sender}
 use Rattle.ring.specs.Ring.{none}
 use Rattle.ring.specs.declared.Ring.{Ring}
 use Rattle.words.specs.Ranges.{SenderFits}
+use Rattle.controllerwords.specs.Layout.{WORDS}
 use Rattle.controllerwords.specs.Controller.{loaded, savedIn, saved}
 
 -- What the types of a controller's fields say of them.
@@ -48,7 +49,11 @@ pub record InRange (c : Controller) : Type 0 where
   pub ring : RingFits (c .ring)
 
 abbrev pub LoadedSavedIn : Type 0
-LoadedSavedIn = (ws : List ℕ) (c : Controller) → length ws ≡ 33 → InRange c → loaded (savedIn ws c) ≡ c
+LoadedSavedIn = (ws : List ℕ) (c : Controller) → length ws ≡ WORDS → InRange c → loaded (savedIn ws c) ≡ c
+
+-- What was loaded and is saved changes no word, whatever stands there.
+abbrev pub SavedLoaded : Type 0
+SavedLoaded = (ws : List ℕ) → savedIn ws (loaded ws) ≡ ws
 
 abbrev pub LoadedSaved : Type 0
 LoadedSaved = (c : Controller) → InRange c → loaded (saved c) ≡ c

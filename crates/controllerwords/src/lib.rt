@@ -1,61 +1,121 @@
 // A controller in the words that a caller lends: loaded before a call, saved after it.
 ghost use mathlib.Core.Path.{_≡_};
-ghost use Prim.Native.Nat.{_<_};
-ghost use lib.ListN.{set};
+ghost use mathlib.Core.Bool.{_||_};
+ghost use Prim.Native.Nat.{_+_, _<_};
+ghost use lib.Dec.{eqb};
 ghost use Rattle.frame.specs.Frame.{isSubmitted};
 ghost use Rattle.words.specs.Words.{at, numberIn};
-ghost use Rattle.controllerwords.specs.Controller.{kindOf, kindTag, loadedFrame, frameIn, loadedResponse, responseIn, loadedStage, stageIn, entryOf, entryNumber, loadedRing, ringIn, loaded, savedIn, saved};
+ghost use Rattle.controllerwords.specs.Layout.{ENTRY};
+ghost use Rattle.controllerwords.specs.Controller.{kindOf, kindTag, kindIn, loadedFrame, frameIn, loadedResponse, responseIn, loadedStage, sending, listening, stageIn, entryOf, entryNumber, loadedRing, ringIn, loaded, savedIn, saved};
 use answer::Partial;
 use answer::Response;
 use controller::Controller;
 use frame::Frame;
 use frame::Kind;
 use frame::Stage;
-use line::Listener;
 use line::Sender;
 use ring::Entry;
 use ring::Ring;
 
+// The words of a controller, by name (specs/Layout.antt).
+pub const WORDS: usize = 33;
+
+pub type Words = [u32; WORDS];
+
+// Its time-out, and its stage.
+pub const TIMEOUT: usize = 0;
+
+pub const STAGE: usize = 1;
+
+// The frame of a stage that has one: its kind, its command, how many bytes of data go with it.
+pub const KIND: usize = 2;
+
+pub const DEVICE: usize = 3;
+
+pub const COMMAND: usize = 4;
+
+pub const LOGICAL_UNIT: usize = 5;
+
+pub const RECORD_NUMBER: usize = 6;
+
+pub const BUFFER_LENGTH: usize = 7;
+
+pub const DATA_LENGTH: usize = 8;
+
+// Resting: whether this is the first of the two rounds.
+pub const FIRST: usize = 9;
+
+// Sending: whether a round is still to pass, the sender, its nibble, the nibble that is next.
+pub const WAIT: usize = 9;
+
+pub const SENDER: usize = 10;
+
+pub const NIBBLE: usize = 11;
+
+pub const NEXT: usize = 12;
+
+// Listening: the listener, the tag of the response, its data's length, and for how many rounds in a row HSK was seen high.
+pub const EAR: usize = 10;
+
+pub const RESPONSE: usize = 13;
+
+pub const LENGTH: usize = 14;
+
+pub const QUIET: usize = 15;
+
+// A response that is being taken: whether a low nibble is there, that nibble, the byte that is next; and the status of one that is complete.
+pub const HALF: usize = 9;
+
+pub const LOW: usize = 11;
+
+pub const PLACE: usize = 12;
+
+pub const STATUS: usize = 11;
+
+// The ring: read and written only where a service frame begins, at the end of a frame, and by the application's calls.
+pub const ENTRIES: usize = 16;
+
+pub const ENTRY: usize = 17;
+
 // The controller that stands in the words.
-pub fn load(words: &[u32; 33]) -> Controller
+pub fn load(words: &Words) -> Controller
     ensures { λ r. ⌜ r ≡ loaded (now (words .entry)) ⌝ }
 {
     let stage = load_stage(words);
     let ring = load_ring(words);
     Controller {
-        timeout: words::number16(words[0]),
+        timeout: words::number16(words[TIMEOUT]),
         stage,
         ring,
     }
 }
 
 // The controller's own words written over what stands there.
-pub fn save(words: &mut [u32; 33], c: Controller)
+pub fn save(words: &mut Words, c: Controller)
     ensures { λ _. ⌜ now (words .exit) ≡ savedIn (now (words .entry)) c ⌝ }
 {
     let stage = c.stage;
     let ring = c.ring;
-    let timeout = words::with16(words[0], c.timeout);
-    words[0] = timeout;
+    words[TIMEOUT] = words::with16(words[TIMEOUT], c.timeout);
     save_stage(words, stage);
     save_ring(words, ring);
 }
 
 // The controller in cleared words.
-pub fn save_new(words: &mut [u32; 33], c: Controller)
+pub fn save_new(words: &mut Words, c: Controller)
     ensures { λ _. ⌜ now (words .exit) ≡ saved c ⌝ }
 {
-    *words = [0; 33];
+    *words = [0; WORDS];
     save(words, c);
 }
 
-pub fn load_stage(words: &[u32; 33]) -> Stage
+fn load_stage(words: &Words) -> Stage
     ensures { λ r. ⌜ r ≡ loadedStage (now (words .entry)) ⌝ }
 {
-    let tag = words[1];
+    let tag = words[STAGE];
     let rests = tag == 1;
     if rests {
-        return Stage::Resting(words::flag(words[9]));
+        return Stage::Resting(words::flag(words[FIRST]));
     }
     let waits = tag == 2;
     if waits {
@@ -65,84 +125,105 @@ pub fn load_stage(words: &[u32; 33]) -> Stage
     if sends {
         return Stage::Sending(
             load_frame(words),
-            words[12],
-            words::sender(words[10], words[11]),
-            words::flag(words[9]),
+            words[NEXT],
+            words::sender(words[SENDER], words[NIBBLE]),
+            words::flag(words[WAIT]),
         );
     }
     let listens = tag == 4;
     if listens {
         return Stage::Listening(
             load_frame(words),
-            words::listener(words[10]),
+            words::listener(words[EAR]),
             load_response(words),
-            words::number16(words[15]),
+            words::number16(words[QUIET]),
         );
     }
     Stage::Free
 }
 
-pub fn save_stage(words: &mut [u32; 33], stage: Stage)
+// Its stage.
+pub fn save_stage(words: &mut Words, stage: Stage)
     ensures { λ _. ⌜ now (words .exit) ≡ stageIn (now (words .entry)) stage ⌝ }
 {
     match stage {
-        Stage::Free => words[1] = 0,
-        Stage::Resting(first) => save_resting(words, first),
-        Stage::Waiting(f) => save_waiting(words, f),
-        Stage::Sending(f, i, sender, wait) => save_sending(words, f, i, sender, wait),
-        Stage::Listening(f, ear, response, quiet) => {
-            save_listening(words, f, ear, response, quiet)
+        Stage::Free => words[STAGE] = words::with_tag(words[STAGE], 5, 0),
+        Stage::Resting(first) => {
+            let tag = words::with_tag(words[STAGE], 5, 1);
+            let first = words::with_flag(words[FIRST], first);
+            words[STAGE] = tag;
+            words[FIRST] = first;
+        }
+        Stage::Waiting(f) => {
+            words[STAGE] = words::with_tag(words[STAGE], 5, 2);
+            save_frame(words, f);
+        }
+        Stage::Sending(f, i, s, wait) => {
+            words[STAGE] = words::with_tag(words[STAGE], 5, 3);
+            save_frame(words, f);
+            save_sending(words, i, s, wait);
+        }
+        Stage::Listening(f, ear, r, quiet) => {
+            let ear = words::with_listener(words[EAR], ear);
+            words[STAGE] = words::with_tag(words[STAGE], 5, 4);
+            save_frame(words, f);
+            save_listening(words, ear, quiet);
+            save_response(words, r);
         }
     }
 }
 
-pub fn load_ring(words: &[u32; 33]) -> Ring
+fn save_sending(words: &mut Words, i: u32, s: Sender, wait: bool)
+    ensures { λ _. ⌜ now (words .exit) ≡ sending (now (words .entry)) i s wait ⌝ }
+{
+    let wait = words::with_flag(words[WAIT], wait);
+    let sender = words::with_sender(words[SENDER], s);
+    let nibble = words::with_nibble(words[NIBBLE], s);
+    words[WAIT] = wait;
+    words[SENDER] = sender;
+    words[NIBBLE] = nibble;
+    words[NEXT] = i;
+}
+
+// The ring.
+pub fn load_ring(words: &Words) -> Ring
     ensures { λ r. ⌜ r ≡ loadedRing (now (words .entry)) ⌝ }
 {
     let entries = [
-        entry(words[17]),
-        entry(words[18]),
-        entry(words[19]),
-        entry(words[20]),
-        entry(words[21]),
-        entry(words[22]),
-        entry(words[23]),
-        entry(words[24]),
-        entry(words[25]),
-        entry(words[26]),
-        entry(words[27]),
-        entry(words[28]),
-        entry(words[29]),
-        entry(words[30]),
-        entry(words[31]),
-        entry(words[32]),
+        slot(words, 0),
+        slot(words, 1),
+        slot(words, 2),
+        slot(words, 3),
+        slot(words, 4),
+        slot(words, 5),
+        slot(words, 6),
+        slot(words, 7),
+        slot(words, 8),
+        slot(words, 9),
+        slot(words, 10),
+        slot(words, 11),
+        slot(words, 12),
+        slot(words, 13),
+        slot(words, 14),
+        slot(words, 15),
     ];
     Ring {
         entries,
-        count: words::number8(words[16]),
+        count: words::number8(words[ENTRIES]),
     }
 }
 
-pub fn save_ring(words: &mut [u32; 33], r: Ring)
+// The ring over what stands there.
+pub fn save_ring(words: &mut Words, r: Ring)
     ensures { λ _. ⌜ now (words .exit) ≡ ringIn (now (words .entry)) r ⌝ }
 {
-    let count = words::with8(words[16], r.count);
-    words[16] = count;
+    words[ENTRIES] = words::with8(words[ENTRIES], r.count);
     let mut i = 0;
     while i < 16 {
-        let place = 17 + i;
+        let place = ENTRY + i;
         let e = r.entries[i];
         words[place] = with_entry(words[place], e);
         i += 1;
-    }
-}
-
-// A frame that stays as it is: of its words only the tag of its kind is written, and only one that no save makes.
-pub fn keep_kind(words: &mut [u32; 33])
-    ensures { λ _. ⌜ now (words .exit) ≡ set (now (words .entry)) 2 (kindTag (kindOf (at (now (words .entry)) 2))) ⌝ }
-{
-    if 2 < words[2] {
-        words[2] = 0;
     }
 }
 
@@ -168,9 +249,12 @@ pub fn entry_number(e: Entry) -> u32
     e.code as u32 + 256 * words::bit(e.marked)
 }
 
-fn entry(word: u32) -> Entry
-    ensures { λ r. ⌜ r ≡ entryOf word ⌝ }
+fn slot(words: &Words, i: usize) -> Entry
+    requires { ⌜ i < 16 ⌝ }
+    ensures { λ r. ⌜ r ≡ entryOf (at (now (words .entry)) (ENTRY + i)) ⌝ }
 {
+    let place = ENTRY + i;
+    let word = words[place];
     Entry {
         code: words::number8(word),
         marked: words::flag(word / 256),
@@ -197,6 +281,12 @@ fn kind(tag: u32) -> Kind
     Kind::Submitted
 }
 
+fn with_kind(word: u32, k: Kind) -> u32
+    ensures { λ r. ⌜ r ≡ kindIn word k ⌝ }
+{
+    words::with_tag(word, 3, kind_tag(k))
+}
+
 fn kind_tag(k: Kind) -> u32
     ensures { λ r. ⌜ r ≡ kindTag k ⌝ }
 {
@@ -208,127 +298,113 @@ fn kind_tag(k: Kind) -> u32
 }
 
 // The frame that stands in the words.
-pub fn load_frame(words: &[u32; 33]) -> Frame
+pub fn load_frame(words: &Words) -> Frame
     ensures { λ r. ⌜ r ≡ loadedFrame (now (words .entry)) ⌝ }
 {
-    let command = words::command(words[3], words[4], words[5], words[6], words[7]);
+    let command = words::command(
+        words[DEVICE],
+        words[COMMAND],
+        words[LOGICAL_UNIT],
+        words[RECORD_NUMBER],
+        words[BUFFER_LENGTH],
+    );
     Frame {
-        kind: kind(words[2]),
+        kind: kind(words[KIND]),
         command,
-        data_length: words::number16(words[8]),
+        data_length: words::number16(words[DATA_LENGTH]),
     }
 }
 
-fn save_frame(words: &mut [u32; 33], f: Frame)
+fn save_frame(words: &mut Words, f: Frame)
     ensures { λ _. ⌜ now (words .exit) ≡ frameIn (now (words .entry)) f ⌝ }
 {
     let c = f.command;
     let k = f.kind;
-    let device = words::with8(words[3], c.device);
-    let command = words::with8(words[4], c.command);
-    let logical_unit = words::with8(words[5], c.logical_unit);
-    let record_number = words::with16(words[6], c.record_number);
-    let buffer_length = words::with16(words[7], c.buffer_length);
-    let data_length = words::with16(words[8], f.data_length);
-    words[2] = kind_tag(k);
-    words[3] = device;
-    words[4] = command;
-    words[5] = logical_unit;
-    words[6] = record_number;
-    words[7] = buffer_length;
-    words[8] = data_length;
+    let kind = with_kind(words[KIND], k);
+    let device = words::with8(words[DEVICE], c.device);
+    let command = words::with8(words[COMMAND], c.command);
+    let logical_unit = words::with8(words[LOGICAL_UNIT], c.logical_unit);
+    let record_number = words::with16(words[RECORD_NUMBER], c.record_number);
+    let buffer_length = words::with16(words[BUFFER_LENGTH], c.buffer_length);
+    let data_length = words::with16(words[DATA_LENGTH], f.data_length);
+    words[KIND] = kind;
+    words[DEVICE] = device;
+    words[COMMAND] = command;
+    words[LOGICAL_UNIT] = logical_unit;
+    words[RECORD_NUMBER] = record_number;
+    words[BUFFER_LENGTH] = buffer_length;
+    words[DATA_LENGTH] = data_length;
 }
 
 // The response, as far as it was taken.
-pub fn load_response(words: &[u32; 33]) -> Response
+pub fn load_response(words: &Words) -> Response
     ensures { λ r. ⌜ r ≡ loadedResponse (now (words .entry)) ⌝ }
 {
-    let tag = words[13];
+    let tag = words[RESPONSE];
     let is_complete = tag == 1;
     if is_complete {
-        return Response::Complete(words::number8(words[11]), words::number16(words[14]));
+        return Response::Complete(
+            words::number8(words[STATUS]),
+            words::number16(words[LENGTH]),
+        );
     }
     let is_too_large = tag == 2;
     if is_too_large {
         return Response::TooLarge;
     }
     let p = Partial {
-        length: words::number16(words[14]),
-        place: words[12],
-        half: words::flag(words[9]),
-        low: words::number8(words[11]),
+        length: words::number16(words[LENGTH]),
+        place: words[PLACE],
+        half: words::flag(words[HALF]),
+        low: words::number8(words[LOW]),
     };
     Response::Taking(p)
 }
 
-fn save_response(words: &mut [u32; 33], r: Response)
+// Whether no more of the response with this tag is to be taken.
+pub fn is_over(tag: u32) -> bool
+    ensures { λ r. ⌜ r ≡ (eqb tag 1 || eqb tag 2) ⌝ }
+{
+    let is_complete = tag == 1;
+    if is_complete {
+        return true;
+    }
+    tag == 2
+}
+
+// The word of the listener's tag, and the count of quiet rounds.
+pub fn save_listening(words: &mut Words, ear: u32, quiet: u16)
+    ensures { λ _. ⌜ now (words .exit) ≡ listening (now (words .entry)) ear quiet ⌝ }
+{
+    let quiet = words::with16(words[QUIET], quiet);
+    words[EAR] = ear;
+    words[QUIET] = quiet;
+}
+
+// The response over what stands there.
+pub fn save_response(words: &mut Words, r: Response)
     ensures { λ _. ⌜ now (words .exit) ≡ responseIn (now (words .entry)) r ⌝ }
 {
     match r {
-        Response::Taking(p) => save_partial(words, p),
-        Response::Complete(status, count) => save_complete(words, status, count),
-        Response::TooLarge => words[13] = 2,
+        Response::Taking(p) => {
+            let tag = words::with_tag(words[RESPONSE], 3, 0);
+            let length = words::with16(words[LENGTH], p.length);
+            let half = words::with_flag(words[HALF], p.half);
+            let low = words::with8(words[LOW], p.low);
+            words[RESPONSE] = tag;
+            words[LENGTH] = length;
+            words[PLACE] = p.place;
+            words[HALF] = half;
+            words[LOW] = low;
+        }
+        Response::Complete(status, count) => {
+            let tag = words::with_tag(words[RESPONSE], 3, 1);
+            let status = words::with8(words[STATUS], status);
+            let length = words::with16(words[LENGTH], count);
+            words[RESPONSE] = tag;
+            words[STATUS] = status;
+            words[LENGTH] = length;
+        }
+        Response::TooLarge => words[RESPONSE] = words::with_tag(words[RESPONSE], 3, 2),
     }
-}
-
-fn save_partial(words: &mut [u32; 33], p: Partial)
-    ensures { λ _. ⌜ now (words .exit) ≡ responseIn (now (words .entry)) (Response.Taking p) ⌝ }
-{
-    let half = words::with_flag(words[9], p.half);
-    let low = words::with8(words[11], p.low);
-    let length = words::with16(words[14], p.length);
-    words[9] = half;
-    words[11] = low;
-    words[12] = p.place;
-    words[13] = 0;
-    words[14] = length;
-}
-
-fn save_complete(words: &mut [u32; 33], status: u8, count: u16)
-    ensures { λ _. ⌜ now (words .exit) ≡ responseIn (now (words .entry)) (Response.Complete status count) ⌝ }
-{
-    let status_word = words::with8(words[11], status);
-    let count_word = words::with16(words[14], count);
-    words[11] = status_word;
-    words[13] = 1;
-    words[14] = count_word;
-}
-
-fn save_resting(words: &mut [u32; 33], first: bool)
-    ensures { λ _. ⌜ now (words .exit) ≡ stageIn (now (words .entry)) (Stage.Resting first) ⌝ }
-{
-    let first_word = words::with_flag(words[9], first);
-    words[1] = 1;
-    words[9] = first_word;
-}
-
-fn save_waiting(words: &mut [u32; 33], f: Frame)
-    ensures { λ _. ⌜ now (words .exit) ≡ stageIn (now (words .entry)) (Stage.Waiting f) ⌝ }
-{
-    words[1] = 2;
-    save_frame(words, f);
-}
-
-fn save_sending(words: &mut [u32; 33], f: Frame, i: u32, s: Sender, wait: bool)
-    ensures { λ _. ⌜ now (words .exit) ≡ stageIn (now (words .entry)) (Stage.Sending f i s wait) ⌝ }
-{
-    let wait_word = words::with_flag(words[9], wait);
-    let nibble = words::with_sender(words[11], s);
-    words[1] = 3;
-    words[9] = wait_word;
-    words[10] = words::sender_tag(s);
-    words[11] = nibble;
-    words[12] = i;
-    save_frame(words, f);
-}
-
-fn save_listening(words: &mut [u32; 33], f: Frame, ear: Listener, r: Response, quiet: u16)
-    ensures { λ _. ⌜ now (words .exit) ≡ stageIn (now (words .entry)) (Stage.Listening f ear r quiet) ⌝ }
-{
-    let quiet_word = words::with16(words[15], quiet);
-    words[1] = 4;
-    words[10] = words::listener_tag(ear);
-    words[15] = quiet_word;
-    save_response(words, r);
-    save_frame(words, f);
 }

@@ -54,9 +54,12 @@ dataOf f d = cond (isSubmitted (f .kind)) d []
 abbrev pub nibbleOf : Frame → List ℕ → ℕ → ℕ
 nibbleOf f d i = nibbleIn (bytesOf commandFormat (messageOf (f .command) (dataOf f d))) i
 
--- The number of its last nibble, from 0: two to each byte.
+-- The number of the last nibble of a command with n bytes of data, from 0: two to each byte.
+abbrev pub lastOf : ℕ → ℕ
+lastOf n = 2 * (least commandFormat + n) - 1
+
 abbrev pub lastNibble : Frame → ℕ
-lastNibble f = 2 * (least commandFormat + f .«data_length») - 1
+lastNibble f = lastOf (f .«data_length»)
 
 -- Sending. When its last nibble is done it listens.
 abbrev pub nextNibble : Frame → ℕ → Stage
@@ -79,8 +82,11 @@ abbrev pub quietAfter : ℕ → Bool → ℕ
 quietAfter quiet hsk = cond hsk 0 (quiet + 1)
 
 -- The frame ends at the time-out, or when HSK is seen high after the response's last nibble or after a length that is too large.
+abbrev pub endsBy : Bool → ℕ → ℕ → Bool
+endsBy done timeout quiet = leb timeout quiet || done
+
 abbrev pub ends : Listener → Response → ℕ → ℕ → Bool
-ends ear response timeout quiet = leb timeout quiet || (isOver response && isReady ear)
+ends ear response timeout quiet = endsBy (isOver response && isReady ear) timeout quiet
 
 abbrev pub waited : Frame → Listener → Response → ℕ → ℕ → Moved
 waited f ear response timeout quiet = cond (ends ear response timeout quiet) (over f response) (stays (Listening f ear response quiet))
@@ -118,11 +124,12 @@ frameBuffer (Listening f ear response quiet) seen buffer = listeningBuffer f ear
 
 -- Whether what a step is lent fits: 10 for data that differs in length from the submitted, 11 for a response buffer under the buffer
 -- length field; only in the steps of a submitted frame.
+abbrev pub lentWith : Bool → ℕ → ℕ → ℕ → ℕ → Lent
+lentWith submitted data-length buffer-length n room =
+    cond submitted (cond (eqb n data-length) (cond (ltb room buffer-length) Buffer Fits) Data) Fits
+
 abbrev pub lentTo : Frame → ℕ → ℕ → Lent
-lentTo f n room =
-    cond (isSubmitted (f .kind))
-    (cond (eqb n (f .«data_length»)) (cond (ltb room (f .command .«buffer_length»)) Buffer Fits) Data)
-    Fits
+lentTo f n room = lentWith (isSubmitted (f .kind)) (f .«data_length») (f .command .«buffer_length») n room
 
 abbrev pub lentAt : Stage → ℕ → ℕ → Lent
 lentAt Free n room = Fits

@@ -1,7 +1,7 @@
 // A frame of the controller, round by round on the lines; the ring is not seen here.
 ghost use mathlib.Core.Path.{_≡_};
 ghost use mathlib.Core.Bool.{_&&_};
-ghost use Rattle.frame.specs.Frame.{bare, submittedFrame, pollOf, nullFrame, isSubmitted, begun, dataOf, nibbleOf, lastNibble, nextNibble, sendingStep, stays, over, waited, listeningStep, listeningBuffer, restStep, frameStep, frameBuffer, lentTo, lentAt, pullsOf};
+ghost use Rattle.frame.specs.Frame.{bare, submittedFrame, pollOf, nullFrame, isSubmitted, begun, dataOf, nibbleOf, lastOf, nextNibble, sendingStep, stays, over, endsBy, waited, listeningStep, listeningBuffer, restStep, frameStep, frameBuffer, lentWith, lentTo, lentAt, pullsOf};
 ghost use Rattle.answer.specs.Answer.{isOver};
 ghost use Rattle.line.specs.Line.{sendOf, isReady};
 use answer::Response;
@@ -198,10 +198,17 @@ fn sending(f: Frame, i: u32, sender: Sender, wait: bool, hsk: bool, data: &[u8])
 fn next_nibble(f: Frame, i: u32) -> Stage
     ensures { λ r. ⌜ r ≡ nextNibble f i ⌝ }
 {
-    if i < 17 + 2 * (f.data_length as u32) {
+    if i < last_nibble(f.data_length) {
         return Stage::Sending(f, i + 1, Sender::Next, false);
     }
     Stage::Listening(f, Listener::Ready, Response::new(), 0)
+}
+
+// The number of the last nibble, from 0, of a command with n bytes of data.
+pub fn last_nibble(n: u16) -> u32
+    ensures { λ r. ⌜ r ≡ lastOf n ⌝ }
+{
+    17 + 2 * (n as u32)
 }
 
 // The sender's round. The nibble is worked out only in the round in which it is placed.
@@ -209,15 +216,17 @@ fn place_nibble(f: Frame, i: u32, sender: Sender, hsk: bool, data: &[u8]) -> Sen
     ensures { λ r. ⌜ r ≡ sendOf sender hsk (nibbleOf f (now («data» .entry)) i) ⌝ }
 {
     match sender {
-        Sender::Next => sender.step(hsk, nibble(f, i as usize, data)),
+        Sender::Next => sender.step(hsk, nibble(f, i, data)),
         Sender::Placed(_) => sender.step(hsk, 15),
         Sender::Kept(_) => sender.step(hsk, 15),
     }
 }
 
-fn nibble(f: Frame, i: usize, data: &[u8]) -> u8
+// Nibble i of a frame whose data is lent.
+pub fn nibble(f: Frame, i: u32, data: &[u8]) -> u8
     ensures { λ r. ⌜ r ≡ nibbleOf f (now («data» .entry)) i ⌝ }
 {
+    let i = i as usize;
     let kind = f.kind;
     if is_submitted(kind) {
         return command::nibble(f.command, data, i);
@@ -265,13 +274,20 @@ fn listening(
 fn waits(f: Frame, ear: Listener, response: Response, timeout: u16, quiet: u32) -> Moved
     ensures { λ r. ⌜ r ≡ waited f ear response timeout quiet ⌝ }
 {
-    if timeout as u32 <= quiet {
-        return over(f, response);
-    }
-    if has_ended(response, ear) {
+    if ends(has_ended(response, ear), timeout, quiet) {
         return over(f, response);
     }
     stays(Stage::Listening(f, ear, response, quiet as u16))
+}
+
+// Whether a frame ends in a round without a nibble: it is done, or HSK was seen high for as many rounds as the time-out.
+pub fn ends(done: bool, timeout: u16, quiet: u32) -> bool
+    ensures { λ r. ⌜ r ≡ endsBy done timeout quiet ⌝ }
+{
+    if done {
+        return true;
+    }
+    timeout as u32 <= quiet
 }
 
 // Whether HSK was seen high after the response's last nibble, or after a length that is too large.
@@ -297,11 +313,24 @@ fn check_frame(f: Frame, n: usize, room: usize) -> Lent
     ensures { λ r. ⌜ r ≡ lentTo f n room ⌝ }
 {
     let kind = f.kind;
-    if is_submitted(kind) {
-        let c = f.command;
-        let same = n == f.data_length as usize;
+    let c = f.command;
+    lent_with(is_submitted(kind), f.data_length, c.buffer_length, n, room)
+}
+
+// Whether n bytes of data and a response buffer of so many bytes fit a frame: submitted or not, its data's length and its buffer length.
+pub fn lent_with(
+    submitted: bool,
+    data_length: u16,
+    buffer_length: u16,
+    n: usize,
+    room: usize,
+) -> Lent
+    ensures { λ r. ⌜ r ≡ lentWith submitted «data_length» «buffer_length» n room ⌝ }
+{
+    if submitted {
+        let same = n == data_length as usize;
         if same {
-            let short = room < c.buffer_length as usize;
+            let short = room < buffer_length as usize;
             if short {
                 return Lent::Buffer;
             }

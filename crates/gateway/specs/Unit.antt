@@ -1,7 +1,9 @@
 -- The calls of a unit from C: what each returns, and what it leaves in the words that hold the unit.
 use Prim.Native.Nat.{ℕ}
+use mathlib.Core.Path.{_≡_}
 use mathlib.Core.Bool.{Bool}
 use mathlib.Core.List.{List, [], _∷_}
+use Rattle.host.specs.Calls.{making, feeding, inputAfter, taking, raising}
 use Rattle.host.specs.declared.Looks.{Looks}
 use Rattle.host.specs.declared.Taken.{Taken}
 use Rattle.host.specs.declared.Taken.the-variants.{Byte, Nothing}
@@ -9,9 +11,10 @@ use Rattle.line.specs.declared.Lines.{Lines}
 use Rattle.message.specs.Answer.{Answer, gives, refused}
 use Rattle.serial.specs.declared.Opening.{Opening}
 use Rattle.serial.specs.declared.Opening.the-variants.{Closed, OpenFor}
+use Rattle.unit.specs.Calls.{stepping, bufferAfter, outputAfter}
 use Rattle.unit.specs.declared.Unit.{Unit}
-use Rattle.unitwords.specs.Unit.{openingNumber, savedIn, saved}
-use Rattle.words.specs.Words.{bit}
+use Rattle.unitwords.specs.Unit.{openingNumber, loaded, savedIn, saved}
+use Rattle.words.specs.Words.{bit, number}
 
 -- The levels that a step sees.
 abbrev pub linesOf : Bool → Bool → ℕ → Lines
@@ -45,3 +48,23 @@ acceptedOf (OpenFor m accepted) = accepted
 abbrev pub looksWords : Looks → List ℕ
 looksWords l =
     openingNumber (l .opening) ∷ acceptedOf (l .opening) ∷ l .input ∷ l .output ∷ bit (l .enabled) ∷ bit (l .requesting) ∷ []
+
+-- What each call promises, for all words: what it returns, the words after it, and every byte that it was lent.
+abbrev pub UnitMade : ℕ → ℕ → List ℕ → ℕ → List ℕ → Type 0
+UnitMade own retry ws r ws′ = (r ≡ number (making own retry)) × (ws′ ≡ unitMade (making own retry) ws)
+
+abbrev pub UnitStepped : Lines → Bool → List ℕ → List ℕ → List ℕ → List ℕ → ℕ → List ℕ → List ℕ → List ℕ → Type 0
+UnitStepped seen busy ws buffer input output r ws′ buffer′ output′ =
+    (r ≡ number (stepping (loaded ws) seen busy buffer input))
+    × ((ws′ ≡ unitAfter (stepping (loaded ws) seen busy buffer input) ws)
+    × ((buffer′ ≡ bufferAfter (loaded ws) seen busy buffer input) × (output′ ≡ outputAfter (loaded ws) seen busy buffer input output)))
+
+abbrev pub UnitFed : ℕ → List ℕ → List ℕ → ℕ → List ℕ → List ℕ → Type 0
+UnitFed b ws input r ws′ input′ =
+    (r ≡ number (feeding (loaded ws) b)) × ((ws′ ≡ unitAfter (feeding (loaded ws) b) ws) × (input′ ≡ inputAfter (loaded ws) b input))
+
+abbrev pub UnitTaken : List ℕ → List ℕ → ℕ → List ℕ → Type 0
+UnitTaken ws output r ws′ = (r ≡ takenNumber (taking (loaded ws) output)) × (ws′ ≡ takenWords (taking (loaded ws) output) ws)
+
+abbrev pub UnitRaised : List ℕ → ℕ → List ℕ → Type 0
+UnitRaised ws r ws′ = (r ≡ number (raising (loaded ws))) × (ws′ ≡ unitAfter (raising (loaded ws)) ws)

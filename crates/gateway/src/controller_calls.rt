@@ -1,25 +1,25 @@
-// A controller in 33 words of its caller's.
+// A controller in words of its caller's.
 ghost use mathlib.Core.Path.{_≡_};
 ghost use lib.ListN.{length, getD};
-ghost use Rattle.application.specs.Calls.{making, controllerMade, submitting, controllerSubmitted, acknowledging, controllerAcknowledged, looksOf};
-ghost use Rattle.controller.specs.Calls.{stepping, controllerStepped, bufferAfter};
+ghost use Rattle.application.specs.Calls.{looksOf};
 ghost use Rattle.controllerwords.specs.Controller.{entryNumber, loaded};
 ghost use Rattle.frame.specs.Frame.{pullsOf};
 ghost use Rattle.ring.specs.Ring.{none, live};
-ghost use Rattle.words.specs.Words.{linesNumber, number};
-ghost use Rattle.gateway.specs.Controller.{controllerAfter, controllerMadeIn, eventsAfter, looksWords};
+ghost use Rattle.words.specs.Words.{linesNumber};
+ghost use Rattle.gateway.specs.Controller.{looksWords, ControllerMade, ControllerStepped, ControllerSubmitted, ControllerAcknowledged};
 ghost use Rattle.gateway.specs.Messages.{commandIn};
 ghost use Rattle.gateway.specs.Unit.{linesOf};
 use application::Acknowledging;
 use application::Making;
 use application::Submitting;
+use controllerwords::Words;
 use frame::Lent;
 use line::Lines;
 
 // Makes a new controller with its time-out count.
 #[no_mangle]
-pub extern "C" fn hexbus_controller_make(controller: &mut [u32; 33], timeout: u32) -> u32
-    ensures { λ r. ⌜ (r ≡ number (making timeout)) × (now (controller .exit) ≡ controllerMadeIn (making timeout) (controllerMade timeout) (now (controller .entry))) ⌝ }
+pub extern "C" fn hexbus_controller_make(controller: &mut Words, timeout: u32) -> u32
+    ensures { λ r. ⌜ ControllerMade timeout (now (controller .entry)) r (now (controller .exit)) ⌝ }
 {
     let made = application::make(timeout);
     let outcome = made.outcome;
@@ -36,7 +36,7 @@ pub extern "C" fn hexbus_controller_make(controller: &mut [u32; 33], timeout: u3
 // Steps a controller through a round.
 #[no_mangle]
 pub extern "C" fn hexbus_controller_step(
-    controller: &mut [u32; 33],
+    controller: &mut Words,
     bav: bool,
     hsk: bool,
     nibble: u8,
@@ -45,7 +45,7 @@ pub extern "C" fn hexbus_controller_step(
     response: &mut [u8],
     event: &mut [u32; 3],
 ) -> u32
-    ensures { λ r. ⌜ (r ≡ number (stepping (loaded (now (controller .entry))) (linesOf bav hsk nibble) busy (now («data» .entry)) (now (response .entry)))) × ((now (controller .exit) ≡ controllerAfter (stepping (loaded (now (controller .entry))) (linesOf bav hsk nibble) busy (now («data» .entry)) (now (response .entry))) (controllerStepped (loaded (now (controller .entry))) (linesOf bav hsk nibble) busy (now («data» .entry)) (now (response .entry))) (now (controller .entry))) × ((now (response .exit) ≡ bufferAfter (loaded (now (controller .entry))) (linesOf bav hsk nibble) busy (now («data» .entry)) (now (response .entry))) × (now (event .exit) ≡ eventsAfter (stepping (loaded (now (controller .entry))) (linesOf bav hsk nibble) busy (now («data» .entry)) (now (response .entry))) (now (event .entry))))) ⌝ }
+    ensures { λ r. ⌜ ControllerStepped (linesOf bav hsk nibble) busy (now (controller .entry)) (now («data» .entry)) (now (response .entry)) (now (event .entry)) r (now (controller .exit)) (now (response .exit)) (now (event .exit)) ⌝ }
 {
     if 15 < nibble {
         return 5;
@@ -63,7 +63,7 @@ pub extern "C" fn hexbus_controller_step(
 
 // What a controller pulls after its last step.
 #[no_mangle]
-pub extern "C" fn hexbus_controller_pulls(controller: &[u32; 33]) -> u32
+pub extern "C" fn hexbus_controller_pulls(controller: &Words) -> u32
     ensures { λ r. ⌜ r ≡ linesNumber (pullsOf (loaded (now (controller .entry)) .stage)) ⌝ }
 {
     controllerround::pulls(controller)
@@ -72,12 +72,12 @@ pub extern "C" fn hexbus_controller_pulls(controller: &[u32; 33]) -> u32
 // Submits a command for the next frame.
 #[no_mangle]
 pub extern "C" fn hexbus_controller_submit(
-    controller: &mut [u32; 33],
+    controller: &mut Words,
     fields: &[u32; 6],
     data: &[u8],
     response: &[u8],
 ) -> u32
-    ensures { λ r. ⌜ (r ≡ number (submitting (loaded (now (controller .entry))) (commandIn (now (fields .entry))) (length (now («data» .entry))) (length (now (response .entry))))) × (now (controller .exit) ≡ controllerAfter (submitting (loaded (now (controller .entry))) (commandIn (now (fields .entry))) (length (now («data» .entry))) (length (now (response .entry)))) (controllerSubmitted (loaded (now (controller .entry))) (commandIn (now (fields .entry))) (length (now («data» .entry))) (length (now (response .entry)))) (now (controller .entry))) ⌝ }
+    ensures { λ r. ⌜ ControllerSubmitted (commandIn (now (fields .entry))) (length (now («data» .entry))) (length (now (response .entry))) (now (controller .entry)) r (now (controller .exit)) ⌝ }
 {
     let c = controllerwords::load(controller);
     let k = crate::message_calls::command_in(fields);
@@ -99,8 +99,8 @@ pub extern "C" fn hexbus_controller_submit(
 
 // Acknowledges the request of a code that was handed over.
 #[no_mangle]
-pub extern "C" fn hexbus_controller_acknowledge(controller: &mut [u32; 33], code: u8) -> u32
-    ensures { λ r. ⌜ (r ≡ number (acknowledging (loaded (now (controller .entry))) code)) × (now (controller .exit) ≡ controllerAfter (acknowledging (loaded (now (controller .entry))) code) (controllerAcknowledged (loaded (now (controller .entry))) code) (now (controller .entry))) ⌝ }
+pub extern "C" fn hexbus_controller_acknowledge(controller: &mut Words, code: u8) -> u32
+    ensures { λ r. ⌜ ControllerAcknowledged code (now (controller .entry)) r (now (controller .exit)) ⌝ }
 {
     let c = controllerwords::load(controller);
     let a = application::acknowledge(c, code);
@@ -117,7 +117,7 @@ pub extern "C" fn hexbus_controller_acknowledge(controller: &mut [u32; 33], code
 
 // Looks at a controller.
 #[no_mangle]
-pub extern "C" fn hexbus_controller_look(controller: &[u32; 33], answer: &mut [u32; 3])
+pub extern "C" fn hexbus_controller_look(controller: &Words, answer: &mut [u32; 3])
     ensures { λ _. ⌜ now (answer .exit) ≡ looksWords (looksOf (loaded (now (controller .entry)))) ⌝ }
 {
     let l = application::look(controllerwords::load(controller));
@@ -131,7 +131,7 @@ pub extern "C" fn hexbus_controller_look(controller: &[u32; 33], answer: &mut [u
 
 // An entry of a controller's ring.
 #[no_mangle]
-pub extern "C" fn hexbus_controller_entry(controller: &[u32; 33], i: usize) -> u32
+pub extern "C" fn hexbus_controller_entry(controller: &Words, i: usize) -> u32
     ensures { λ r. ⌜ r ≡ entryNumber (getD (live (loaded (now (controller .entry)) .ring)) i none) ⌝ }
 {
     let ring = controllerwords::load_ring(controller);

@@ -3,21 +3,20 @@ ghost use mathlib.Core.Path.{_≡_};
 ghost use lib.ListN.{length};
 ghost use Rattle.command.specs.Command.{messageOf};
 ghost use Rattle.device.specs.Classes.{classOf};
-ghost use Rattle.message.specs.Format.{commandFormat, responseFormat, bytesOf, least};
+ghost use Rattle.message.specs.Format.{commandFormat, responseFormat, bytesOf};
 ghost use Rattle.message.specs.Nibbles.{nibbleIn};
-ghost use Rattle.message.specs.Reading.{reading, dataIn};
-ghost use Rattle.message.specs.Writing.{writing, writtenAs};
+ghost use Rattle.message.specs.Reading.{dataIn};
 ghost use Rattle.response.specs.Response.{messageOf as response·messageOf};
 ghost use Rattle.words.specs.Words.{number};
 ghost use Rattle.writer.specs.Numbers.{numbered};
-ghost use Rattle.gateway.specs.Messages.{commandIn, readWords};
+ghost use Rattle.gateway.specs.Messages.{commandIn, MessageRead, MessageWritten};
 use header::Command;
 use writer::Written;
 
 // Reads a command into six words.
 #[no_mangle]
 pub extern "C" fn hexbus_command_read(message: &[u8], fields: &mut [u32; 6]) -> u32
-    ensures { λ r. ⌜ (r ≡ number (reading commandFormat (now (message .entry)))) × (now (fields .exit) ≡ readWords (reading commandFormat (now (message .entry))) (now (fields .entry))) ⌝ }
+    ensures { λ r. ⌜ MessageRead commandFormat (now (message .entry)) (now (fields .entry)) r (now (fields .exit)) ⌝ }
 {
     match command::read(message) {
         command::Reading::Fields(c) => {
@@ -39,7 +38,7 @@ pub extern "C" fn hexbus_command_read(message: &[u8], fields: &mut [u32; 6]) -> 
 // Writes a command with its data to the front of a buffer.
 #[no_mangle]
 pub extern "C" fn hexbus_command_write(fields: &[u32; 6], data: &[u8], out: &mut [u8]) -> u32
-    ensures { λ r. ⌜ (r ≡ number (writing (least commandFormat) (length (now («data» .entry))) (length (now (out .entry))))) × (now (out .exit) ≡ writtenAs commandFormat (messageOf (commandIn (now (fields .entry))) (now («data» .entry))) (now (out .entry))) ⌝ }
+    ensures { λ r. ⌜ MessageWritten commandFormat (messageOf (commandIn (now (fields .entry))) (now («data» .entry))) (now (out .entry)) r (now (out .exit)) ⌝ }
 {
     written(command::write(command_in(fields), data, out))
 }
@@ -55,7 +54,7 @@ pub extern "C" fn hexbus_command_nibble(fields: &[u32; 6], data: &[u8], i: usize
 // Reads a response into two words.
 #[no_mangle]
 pub extern "C" fn hexbus_response_read(message: &[u8], fields: &mut [u32; 2]) -> u32
-    ensures { λ r. ⌜ (r ≡ number (reading responseFormat (now (message .entry)))) × (now (fields .exit) ≡ readWords (reading responseFormat (now (message .entry))) (now (fields .entry))) ⌝ }
+    ensures { λ r. ⌜ MessageRead responseFormat (now (message .entry)) (now (fields .entry)) r (now (fields .exit)) ⌝ }
 {
     match response::read(message) {
         response::Reading::Status(status) => {
@@ -70,7 +69,7 @@ pub extern "C" fn hexbus_response_read(message: &[u8], fields: &mut [u32; 2]) ->
 // Writes a response with its data to the front of a buffer.
 #[no_mangle]
 pub extern "C" fn hexbus_response_write(status: u8, data: &[u8], out: &mut [u8]) -> u32
-    ensures { λ r. ⌜ (r ≡ number (writing (least responseFormat) (length (now («data» .entry))) (length (now (out .entry))))) × (now (out .exit) ≡ writtenAs responseFormat (response·messageOf (now («data» .entry)) status) (now (out .entry))) ⌝ }
+    ensures { λ r. ⌜ MessageWritten responseFormat (response·messageOf (now («data» .entry)) status) (now (out .entry)) r (now (out .exit)) ⌝ }
 {
     written(response::write(data, status, out))
 }

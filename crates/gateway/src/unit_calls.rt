@@ -1,22 +1,22 @@
-// A unit in 23 words of its caller's.
+// A unit in words of its caller's.
 ghost use mathlib.Core.Path.{_≡_};
-ghost use Rattle.host.specs.Calls.{making, feeding, inputAfter, taking, raising, looksOf};
-ghost use Rattle.unit.specs.Calls.{stepping, bufferAfter, outputAfter};
+ghost use Rattle.host.specs.Calls.{looksOf};
 ghost use Rattle.unit.specs.Unit.{pullsOf};
 ghost use Rattle.unitwords.specs.Unit.{loaded};
-ghost use Rattle.words.specs.Words.{linesNumber, number};
-ghost use Rattle.gateway.specs.Unit.{linesOf, unitAfter, unitMade, takenNumber, takenWords, acceptedOf, looksWords};
+ghost use Rattle.words.specs.Words.{linesNumber};
+ghost use Rattle.gateway.specs.Unit.{linesOf, acceptedOf, looksWords, UnitMade, UnitStepped, UnitFed, UnitTaken, UnitRaised};
 use host::Fed;
 use host::Made;
 use host::Raised;
 use host::Taken;
 use line::Lines;
 use serial::Opening;
+use unitwords::Words;
 
 // Makes a new unit with its own code and retry count.
 #[no_mangle]
-pub extern "C" fn hexbus_unit_make(unit: &mut [u32; 23], own: u8, retry: u32) -> u32
-    ensures { λ r. ⌜ (r ≡ number (making own retry)) × (now (unit .exit) ≡ unitMade (making own retry) (now (unit .entry))) ⌝ }
+pub extern "C" fn hexbus_unit_make(unit: &mut Words, own: u8, retry: u32) -> u32
+    ensures { λ r. ⌜ UnitMade own retry (now (unit .entry)) r (now (unit .exit)) ⌝ }
 {
     match host::make(own, retry) {
         Made::New(u) => {
@@ -30,7 +30,7 @@ pub extern "C" fn hexbus_unit_make(unit: &mut [u32; 23], own: u8, retry: u32) ->
 // Steps a unit through a round.
 #[no_mangle]
 pub extern "C" fn hexbus_unit_step(
-    unit: &mut [u32; 23],
+    unit: &mut Words,
     bav: bool,
     hsk: bool,
     nibble: u8,
@@ -39,7 +39,7 @@ pub extern "C" fn hexbus_unit_step(
     input: &[u8; 256],
     output: &mut [u8; 256],
 ) -> u32
-    ensures { λ r. ⌜ (r ≡ number (stepping (loaded (now (unit .entry))) (linesOf bav hsk nibble) busy (now (command .entry)) (now (input .entry)))) × ((now (unit .exit) ≡ unitAfter (stepping (loaded (now (unit .entry))) (linesOf bav hsk nibble) busy (now (command .entry)) (now (input .entry))) (now (unit .entry))) × ((now (command .exit) ≡ bufferAfter (loaded (now (unit .entry))) (linesOf bav hsk nibble) busy (now (command .entry)) (now (input .entry))) × (now (output .exit) ≡ outputAfter (loaded (now (unit .entry))) (linesOf bav hsk nibble) busy (now (command .entry)) (now (input .entry)) (now (output .entry))))) ⌝ }
+    ensures { λ r. ⌜ UnitStepped (linesOf bav hsk nibble) busy (now (unit .entry)) (now (command .entry)) (now (input .entry)) (now (output .entry)) r (now (unit .exit)) (now (command .exit)) (now (output .exit)) ⌝ }
 {
     if 15 < nibble {
         return 5;
@@ -54,7 +54,7 @@ pub extern "C" fn hexbus_unit_step(
 
 // What a unit pulls after its last step.
 #[no_mangle]
-pub extern "C" fn hexbus_unit_pulls(unit: &[u32; 23]) -> u32
+pub extern "C" fn hexbus_unit_pulls(unit: &Words) -> u32
     ensures { λ r. ⌜ r ≡ linesNumber (pullsOf (loaded (now (unit .entry)))) ⌝ }
 {
     words::lines(unitround::pulls(unit))
@@ -62,8 +62,8 @@ pub extern "C" fn hexbus_unit_pulls(unit: &[u32; 23]) -> u32
 
 // Feeds a byte to a unit's input queue.
 #[no_mangle]
-pub extern "C" fn hexbus_unit_feed(unit: &mut [u32; 23], input: &mut [u8; 256], b: u8) -> u32
-    ensures { λ r. ⌜ (r ≡ number (feeding (loaded (now (unit .entry))) b)) × ((now (unit .exit) ≡ unitAfter (feeding (loaded (now (unit .entry))) b) (now (unit .entry))) × (now (input .exit) ≡ inputAfter (loaded (now (unit .entry))) b (now (input .entry)))) ⌝ }
+pub extern "C" fn hexbus_unit_feed(unit: &mut Words, input: &mut [u8; 256], b: u8) -> u32
+    ensures { λ r. ⌜ UnitFed b (now (unit .entry)) (now (input .entry)) r (now (unit .exit)) (now (input .exit)) ⌝ }
 {
     let u = unitwords::load(unit);
     match host::feed(u, input, b) {
@@ -78,8 +78,8 @@ pub extern "C" fn hexbus_unit_feed(unit: &mut [u32; 23], input: &mut [u8; 256], 
 
 // Takes the oldest byte of a unit's output queue.
 #[no_mangle]
-pub extern "C" fn hexbus_unit_take(unit: &mut [u32; 23], output: &[u8; 256]) -> u32
-    ensures { λ r. ⌜ (r ≡ takenNumber (taking (loaded (now (unit .entry))) (now (output .entry)))) × (now (unit .exit) ≡ takenWords (taking (loaded (now (unit .entry))) (now (output .entry))) (now (unit .entry))) ⌝ }
+pub extern "C" fn hexbus_unit_take(unit: &mut Words, output: &[u8; 256]) -> u32
+    ensures { λ r. ⌜ UnitTaken (now (unit .entry)) (now (output .entry)) r (now (unit .exit)) ⌝ }
 {
     let u = unitwords::load(unit);
     match host::take(u, output) {
@@ -93,8 +93,8 @@ pub extern "C" fn hexbus_unit_take(unit: &mut [u32; 23], output: &[u8; 256]) -> 
 
 // Raises a unit's request for service.
 #[no_mangle]
-pub extern "C" fn hexbus_unit_raise(unit: &mut [u32; 23]) -> u32
-    ensures { λ r. ⌜ (r ≡ number (raising (loaded (now (unit .entry))))) × (now (unit .exit) ≡ unitAfter (raising (loaded (now (unit .entry)))) (now (unit .entry))) ⌝ }
+pub extern "C" fn hexbus_unit_raise(unit: &mut Words) -> u32
+    ensures { λ r. ⌜ UnitRaised (now (unit .entry)) r (now (unit .exit)) ⌝ }
 {
     let u = unitwords::load(unit);
     match host::raise(u) {
@@ -108,7 +108,7 @@ pub extern "C" fn hexbus_unit_raise(unit: &mut [u32; 23]) -> u32
 
 // Looks at a unit.
 #[no_mangle]
-pub extern "C" fn hexbus_unit_look(unit: &[u32; 23], answer: &mut [u32; 6])
+pub extern "C" fn hexbus_unit_look(unit: &Words, answer: &mut [u32; 6])
     ensures { λ _. ⌜ now (answer .exit) ≡ looksWords (looksOf (loaded (now (unit .entry)))) ⌝ }
 {
     let l = host::look(unitwords::load(unit));

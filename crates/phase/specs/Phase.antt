@@ -116,18 +116,24 @@ takingOutput s ear p seen buffer output =
 
 -- Receiving leaves when the last nibble of the announced length is taken and HSK seen high. A response begins exactly two rounds
 -- after; a command that draws none leads to sitting out.
+abbrev pub replied : Reply → Phase
+replied reply = cond (isSilent reply) (SittingOut false) (Responding reply 0 Next true)
+
 abbrev pub answeredStep : Listener → Reply → Bool → Bool → Phase
 answeredStep ear reply hsk busy =
-    cond (isReady (hearOf ear hsk busy))
-    (cond (isSilent reply) (SittingOut false) (Responding reply 0 Next true))
-    (Receiving (hearOf ear hsk busy) (Answered reply))
+    cond (isReady (hearOf ear hsk busy)) (replied reply) (Receiving (hearOf ear hsk busy) (Answered reply))
 
 -- Responding: last nibble done, to sitting out, and what waited for it happens.
+abbrev pub done : Serial → Reply → Moved
+done s reply = moves (SittingOut false) (finished s reply)
+
+abbrev pub sentStep : Serial → Reply → ℕ → Moved
+sentStep s reply i = cond (ltb i (lastNibble (s .input) reply)) (moves (Responding reply (i + 1) Next false) s) (done s reply)
+
 abbrev pub respondingStep : Serial → Reply → ℕ → Sender → Bool → Bool → List ℕ → Moved
 respondingStep s reply i sender wait hsk input =
     cond wait (moves (Responding reply i sender false) s)
-    (cond (sentOf sender hsk)
-    (cond (ltb i (lastNibble (s .input) reply)) (moves (Responding reply (i + 1) Next false) s) (moves (SittingOut false) (finished s reply)))
+    (cond (sentOf sender hsk) (sentStep s reply i)
     (moves (Responding reply i (sendOf sender hsk (nibbleIn (responseBytes (contents input (s .input)) reply) i)) false) s))
 
 -- The round of a phase, while BAV is seen low. Sitting out leaves when BAV is seen high.

@@ -2,7 +2,7 @@
 ghost use mathlib.Core.Path.{_≡_};
 ghost use Prim.Native.Nat.{_≤_};
 ghost use lib.ListN.{length};
-ghost use Rattle.phase.specs.Phase.{idleStep, selected, selectingStep, bufferWith, answered, stored, byteStep, byteBuffer, byteOutput, takingStep, takingBuffer, takingOutput, answeredStep, respondingStep, receivingStep, receivingBuffer, receivingOutput, phaseStep, phaseBuffer, phaseOutput, storedData, moves, partial, withByte};
+ghost use Rattle.phase.specs.Phase.{idleStep, selected, selectingStep, bufferWith, answered, stored, byteStep, byteBuffer, byteOutput, takingStep, takingBuffer, takingOutput, replied, answeredStep, done, respondingStep, receivingStep, receivingBuffer, receivingOutput, phaseStep, phaseBuffer, phaseOutput, storedData, moves, partial, withByte};
 ghost use Rattle.header.specs.Header.{headerIn};
 ghost use mathlib.Core.List.{[]};
 use header::Header;
@@ -80,7 +80,8 @@ fn moves(phase: Phase, serial: Serial) -> Moved
     Moved { phase, serial }
 }
 
-fn idle(hsk: bool) -> Phase
+// Idle, and BAV is seen low.
+pub fn idle(hsk: bool) -> Phase
     ensures { λ r. ⌜ r ≡ idleStep hsk ⌝ }
 {
     if hsk {
@@ -101,6 +102,7 @@ fn selecting(own: u8, ear: Listener, half: bool, low: u8, seen: Lines, busy: boo
     Phase::Selecting(ear.step(seen.hsk, busy), half, low)
 }
 
+// Selecting, and the device code is there.
 pub fn select(own: u8, code: u8) -> Phase
     ensures { λ r. ⌜ r ≡ selected own code ⌝ }
 {
@@ -251,17 +253,24 @@ fn data_in(n: usize, buffer: &[u8]) -> &[u8]
     &buffer[0..]
 }
 
-pub fn answered(ear: Listener, reply: Reply, hsk: bool, busy: bool) -> Phase
+fn answered(ear: Listener, reply: Reply, hsk: bool, busy: bool) -> Phase
     ensures { λ r. ⌜ r ≡ answeredStep ear reply hsk busy ⌝ }
 {
     let next = ear.step(hsk, busy);
     if next.is_ready() {
-        if reply::is_silent(reply) {
-            return Phase::SittingOut(false);
-        }
-        return Phase::Responding(reply, 0, Sender::Next, true);
+        return replied(reply);
     }
     Phase::Receiving(next, Progress::Answered(reply))
+}
+
+// HSK was seen high after the last nibble: the response waits for its round, unless there is none.
+pub fn replied(reply: Reply) -> Phase
+    ensures { λ r. ⌜ r ≡ replied reply ⌝ }
+{
+    if reply::is_silent(reply) {
+        return Phase::SittingOut(false);
+    }
+    Phase::Responding(reply, 0, Sender::Next, true)
 }
 
 fn responding(
@@ -283,8 +292,15 @@ fn responding(
         if wide(i) < reply::last(reply, q) {
             return moves(Phase::Responding(reply, i + 1, Sender::Next, false), s);
         }
-        return moves(Phase::SittingOut(false), s.finish(reply));
+        return done(s, reply);
     }
     let n = reply::nibble(reply, q, input, wide(i));
     moves(Phase::Responding(reply, i, sender.step(hsk, n), false), s)
+}
+
+// The last nibble is done: what waited for it happens.
+pub fn done(s: Serial, reply: Reply) -> Moved
+    ensures { λ r. ⌜ r ≡ done s reply ⌝ }
+{
+    moves(Phase::SittingOut(false), s.finish(reply))
 }

@@ -1,30 +1,46 @@
-// A round of a unit in the words that a caller lends. Each phase reads the words that it needs, and writes those that can change.
+// A round of a unit in the words that a caller lends. A phase reads the words that it needs and writes those that change; where a phase is
+// left, and at a whole command, the functions of the machine by value are called.
 ghost use mathlib.Core.Path.{_≡_};
-ghost use mathlib.Core.Bool.{_&&_, not};
-ghost use mathlib.Core.List.{[]};
-ghost use Prim.Native.Nat.{_%_};
-ghost use Rattle.header.specs.Header.{headerIn};
-ghost use Rattle.phase.specs.Phase.{partial, withByte, idleStep, selected, selectingStep, answered, stored, byteStep, byteBuffer, byteOutput, takingStep, takingBuffer, takingOutput, phaseStep, phaseBuffer, phaseOutput};
-ghost use Rattle.phase.specs.declared.Progress.the-variants.{Taking};
-ghost use Rattle.unit.specs.Unit.{highStep, unitStep, unitBuffer, unitOutput, pullsOf, pullsHsk, pullsNibble};
-ghost use Rattle.unitresponding.specs.Responding.{movedIn};
-ghost use Rattle.unitwords.specs.Unit.{loadedSerial, loadedPartial, loadedPhase, progressIn, phaseIn, loaded, savedIn};
-ghost use Rattle.words.specs.Words.{at, flagOf, listenerOf};
-ghost use Rattle.unitround.specs.Round.{rowIn};
-use header::Header;
+ghost use mathlib.Core.Bool.{true, false, _&&_, not};
+ghost use lib.Dec.{eqb};
+ghost use lib.ListN.{set};
+ghost use Rattle.unit.specs.Unit.{highStep, pullsOf, pullsHsk, pullsNibble};
+ghost use Rattle.unitwords.specs.Layout.{ASKING, PHASE, EAR, SENDER, WAIT};
+ghost use Rattle.unitwords.specs.Unit.{lowIn, loadedPhase, loaded, rowIn, savedIn};
+ghost use Rattle.words.specs.Words.{at, flagOf};
+ghost use Rattle.unitround.specs.Round.{Stepped, Moves, selects, Takes, TakesByte, answers, nibble, sends, responds, leaves};
 use line::Lines;
-use phase::Moved;
+use unitwords::ASKING;
+use unitwords::DATA_LENGTH;
+use unitwords::EAR;
+use unitwords::HALF;
+use unitwords::INPUT_COUNT;
+use unitwords::INPUT_HEAD;
+use unitwords::LAST;
+use unitwords::LOW;
+use unitwords::NEXT;
+use unitwords::NIBBLE;
+use unitwords::OWN;
+use unitwords::PHASE;
+use unitwords::PLACE;
+use unitwords::QUIET;
+use unitwords::REPLY;
+use unitwords::RETRY;
+use unitwords::SENDER;
+use unitwords::VALUE;
+use unitwords::WAIT;
+use unitwords::Words;
 
 // A round: the levels that the unit sees, whether its host is busy, the lent command buffer, and the bytes of its two queues.
 pub fn round(
-    words: &mut [u32; 23],
+    words: &mut Words,
     seen: Lines,
     busy: bool,
     buffer: &mut [u8],
     input: &[u8; 256],
     output: &mut [u8; 256],
 )
-    ensures { λ _. ⌜ (now (words .exit) ≡ savedIn (now (words .entry)) (unitStep (loaded (now (words .entry))) seen busy (now (buffer .entry)) (now (input .entry)))) × ((now (buffer .exit) ≡ unitBuffer (loaded (now (words .entry))) seen (now (buffer .entry))) × (now (output .exit) ≡ unitOutput (loaded (now (words .entry))) seen (now (buffer .entry)) (now (output .entry)))) ⌝ }
+    ensures { λ _. ⌜ Stepped (now (words .entry)) seen busy (now (buffer .entry)) (now (input .entry)) (now (output .entry)) (now (words .exit)) (now (buffer .exit)) (now (output .exit)) ⌝ }
 {
     if seen.bav {
         lowered(words, seen.hsk);
@@ -35,97 +51,97 @@ pub fn round(
 }
 
 // What it pulls after its last round.
-pub fn pulls(words: &[u32; 23]) -> Lines
+pub fn pulls(words: &Words) -> Lines
     ensures { λ r. ⌜ r ≡ pullsOf (loaded (now (words .entry))) ⌝ }
 {
     Lines {
-        bav: words::flag(words[3]),
+        bav: words::flag(words[ASKING]),
         hsk: pulls_hsk(words),
         nibble: pulls_nibble(words),
     }
 }
 
-fn pulls_hsk(words: &[u32; 23]) -> bool
+fn pulls_hsk(words: &Words) -> bool
     ensures { λ r. ⌜ r ≡ pullsHsk (loadedPhase (now (words .entry))) ⌝ }
 {
-    let tag = words[12];
+    let tag = words[PHASE];
     let selects = tag == 1;
     if selects {
-        return words::listener(words[13]).hsk();
+        return words::listener(words[EAR]).hsk();
     }
     let takes = tag == 2;
     if takes {
-        return words::listener(words[13]).hsk();
+        return words::listener(words[EAR]).hsk();
     }
     let has_answered = tag == 3;
     if has_answered {
-        return words::listener(words[13]).hsk();
+        return words::listener(words[EAR]).hsk();
     }
     let responds = tag == 4;
     if responds {
-        return words::sender(words[13], words[15]).hsk();
+        return words::sender(words[SENDER], words[NIBBLE]).hsk();
     }
     let sits_out = tag == 5;
     if sits_out {
-        return words::flag(words[14]);
+        return words::flag(words[LAST]);
     }
     false
 }
 
-fn pulls_nibble(words: &[u32; 23]) -> u8
+fn pulls_nibble(words: &Words) -> u8
     ensures { λ r. ⌜ r ≡ pullsNibble (loadedPhase (now (words .entry))) ⌝ }
 {
-    let tag = words[12];
+    let tag = words[PHASE];
     let responds = tag == 4;
     if responds {
-        return words::sender(words[13], words[15]).nibble();
+        return words::sender(words[SENDER], words[NIBBLE]).nibble();
     }
     15
 }
 
 // BAV seen high: only the row, the pull of BAV and the phase change.
-fn dropped(words: &mut [u32; 23], hsk: bool)
+fn dropped(words: &mut Words, hsk: bool)
     ensures { λ _. ⌜ now (words .exit) ≡ savedIn (now (words .entry)) (highStep (loaded (now (words .entry))) hsk) ⌝ }
 {
     let serial = unitwords::load_serial(words);
-    let retry = words::number16(words[1]);
-    let quiet = unit::quiet_after(words::number16(words[2]), retry);
-    let asking = unit::asks(words::flag(words[3]), serial, retry, quiet, hsk);
+    let retry = words::number16(words[RETRY]);
+    let quiet = unit::quiet_after(words::number16(words[QUIET]), retry);
+    let asking = unit::asks(words::flag(words[ASKING]), serial, retry, quiet, hsk);
     save_row(words, quiet, asking);
-    words[12] = 0;
+    words[PHASE] = words::with_tag(words[PHASE], 6, 0);
 }
 
 // BAV seen low, before the round of the phase.
-fn lowered(words: &mut [u32; 23], hsk: bool)
-    ensures { λ _. ⌜ now (words .exit) ≡ rowIn (now (words .entry)) 0 (flagOf (at (now (words .entry)) 3) && not hsk) ⌝ }
+fn lowered(words: &mut Words, hsk: bool)
+    ensures { λ _. ⌜ now (words .exit) ≡ rowIn (now (words .entry)) 0 (flagOf (at (now (words .entry)) ASKING) && not hsk) ⌝ }
 {
-    words[2] = words::with16(words[2], 0);
-    if words::flag(words[3]) {
-        words[3] = words::with_flag(words[3], unit::still_asks(true, hsk));
+    words[QUIET] = words::with16(words[QUIET], 0);
+    if words::flag(words[ASKING]) {
+        words[ASKING] = words::with_flag(words[ASKING], unit::still_asks(true, hsk));
     }
 }
 
-fn save_row(words: &mut [u32; 23], quiet: u16, asking: bool)
+fn save_row(words: &mut Words, quiet: u16, asking: bool)
     ensures { λ _. ⌜ now (words .exit) ≡ rowIn (now (words .entry)) quiet asking ⌝ }
 {
-    let quiet_word = words::with16(words[2], quiet);
-    let asking_word = words::with_flag(words[3], asking);
-    words[2] = quiet_word;
-    words[3] = asking_word;
+    let row = words::with16(words[QUIET], quiet);
+    let pull = words::with_flag(words[ASKING], asking);
+    words[QUIET] = row;
+    words[ASKING] = pull;
 }
 
 // The round of the phase that stands in the words.
 fn phase(
-    words: &mut [u32; 23],
+    words: &mut Words,
     seen: Lines,
     busy: bool,
     buffer: &mut [u8],
     input: &[u8; 256],
     output: &mut [u8; 256],
 )
-    ensures { λ _. ⌜ (now (words .exit) ≡ movedIn (now (words .entry)) (phaseStep (loadedPhase (now (words .entry))) (at (now (words .entry)) 0 % 256) (loadedSerial (now (words .entry))) seen busy (now (buffer .entry)) (now (input .entry)))) × ((now (buffer .exit) ≡ phaseBuffer (loadedPhase (now (words .entry))) seen (now (buffer .entry))) × (now (output .exit) ≡ phaseOutput (loadedPhase (now (words .entry))) (loadedSerial (now (words .entry))) seen (now (buffer .entry)) (now (output .entry)))) ⌝ }
+    ensures { λ _. ⌜ Moves (now (words .entry)) seen busy (now (buffer .entry)) (now (input .entry)) (now (output .entry)) (now (words .exit)) (now (buffer .exit)) (now (output .exit)) ⌝ }
 {
-    let tag = words[12];
+    let tag = words[PHASE];
     let selects = tag == 1;
     if selects {
         selecting(words, seen, busy);
@@ -138,103 +154,107 @@ fn phase(
     }
     let has_answered = tag == 3;
     if has_answered {
-        unitresponding::answered(words, seen.hsk, busy);
+        answered(words, seen.hsk, busy);
         return;
     }
     let responds = tag == 4;
     if responds {
-        unitresponding::responding(words, seen.hsk, input);
+        responding(words, seen.hsk, input);
         return;
     }
     let sits_out = tag == 5;
     if sits_out {
-        unitwords::save_sitting_out(words, false);
+        words[LAST] = words::with_flag(words[LAST], false);
         return;
     }
-    idle(words, seen.hsk);
+    leave(words, seen.hsk, 0);
 }
 
-fn idle(words: &mut [u32; 23], hsk: bool)
-    ensures { λ _. ⌜ now (words .exit) ≡ phaseIn (now (words .entry)) (idleStep hsk) ⌝ }
+// The phase that stands in the words is left: idle at BAV low, selecting with a code, receiving and responding after their last nibble.
+// Called at several places, so that LLVM keeps all this out of line: 6 to 8 instructions a step.
+fn leave(words: &mut Words, hsk: bool, code: u8)
+    ensures { λ _. ⌜ now (words .exit) ≡ leaves (now (words .entry)) hsk code ⌝ }
 {
-    if hsk {
-        unitwords::save_sitting_out(words, false);
+    let tag = words[PHASE];
+    let selects = tag == 1;
+    if selects {
+        let own = words::number8(words[OWN]);
+        unitwords::save_phase(words, phase::select(own, code));
         return;
     }
-    unitwords::save_selecting(words, 1, 0, false, 0);
+    let has_answered = tag == 3;
+    if has_answered {
+        let reply = unitwords::reply(words[REPLY], words[VALUE]);
+        unitwords::save_phase(words, phase::replied(reply));
+        return;
+    }
+    let responds = tag == 4;
+    if responds {
+        let sent = unitwords::reply(words[REPLY], words[VALUE]);
+        let serial = unitwords::load_serial(words);
+        unitwords::save_moved(words, phase::done(serial, sent));
+        return;
+    }
+    unitwords::save_phase(words, phase::idle(hsk));
 }
 
-fn selecting(words: &mut [u32; 23], seen: Lines, busy: bool)
-    ensures { λ _. ⌜ now (words .exit) ≡ phaseIn (now (words .entry)) (selectingStep (at (now (words .entry)) 0 % 256) (listenerOf (at (now (words .entry)) 13)) (flagOf (at (now (words .entry)) 14)) (at (now (words .entry)) 15 % 256) seen busy) ⌝ }
+fn selecting(words: &mut Words, seen: Lines, busy: bool)
+    requires { ⌜ eqb (at (now words) PHASE) 1 ≡ true ⌝ }
+    ensures { λ _. ⌜ now (words .exit) ≡ selects (now (words .entry)) seen busy ⌝ }
 {
-    let ear = words[13];
-    let half = words::flag(words[14]);
-    let low = words::number8(words[15]);
+    let ear = words[EAR];
     if words::takes(ear, seen.hsk) {
-        if half {
-            select(words, field::byte_of(low, seen.nibble));
+        if words::flag(words[HALF]) {
+            let code = field::byte_of(words::number8(words[LOW]), seen.nibble);
+            leave(words, false, code);
             return;
         }
-        unitwords::save_selecting(words, 1, 1, true, seen.nibble);
+        take_low(words, seen.nibble);
         return;
     }
-    unitwords::save_selecting(words, 1, words::heard(ear, seen.hsk, busy), half, low);
+    words[EAR] = words::heard(ear, seen.hsk, busy);
 }
 
-// The device code is there.
-fn select(words: &mut [u32; 23], code: u8)
-    ensures { λ _. ⌜ now (words .exit) ≡ phaseIn (now (words .entry)) (selected (at (now (words .entry)) 0 % 256) code) ⌝ }
+// The low nibble of a byte.
+fn take_low(words: &mut Words, nibble: u8)
+    ensures { λ _. ⌜ now (words .exit) ≡ lowIn (set (now (words .entry)) EAR 1) true nibble ⌝ }
 {
-    let own = words::number8(words[0]);
-    let is_own = code == own;
-    if is_own {
-        address(words, code);
-        return;
-    }
-    let is_all = code == 0;
-    if is_all {
-        address(words, code);
-        return;
-    }
-    unitwords::save_sitting_out(words, true);
-}
-
-fn address(words: &mut [u32; 23], code: u8)
-    ensures { λ _. ⌜ now (words .exit) ≡ progressIn (now (words .entry)) 1 (Taking (partial (withByte (headerIn []) 0 code) 1)) ⌝ }
-{
-    let header = Header::new().with(0, code);
-    unitwords::save_partial(words, 1, phase::whole_bytes(header, 1));
+    words[EAR] = 1;
+    unitwords::save_low(words, true, nibble);
 }
 
 // Receiving, until the last nibble is taken.
-fn taking(words: &mut [u32; 23], seen: Lines, busy: bool, buffer: &mut [u8], output: &mut [u8; 256])
-    ensures { λ _. ⌜ (now (words .exit) ≡ movedIn (now (words .entry)) (takingStep (loadedSerial (now (words .entry))) (listenerOf (at (now (words .entry)) 13)) (loadedPartial (now (words .entry))) seen busy (now (buffer .entry)))) × ((now (buffer .exit) ≡ takingBuffer (listenerOf (at (now (words .entry)) 13)) (loadedPartial (now (words .entry))) seen (now (buffer .entry))) × (now (output .exit) ≡ takingOutput (loadedSerial (now (words .entry))) (listenerOf (at (now (words .entry)) 13)) (loadedPartial (now (words .entry))) seen (now (buffer .entry)) (now (output .entry)))) ⌝ }
+fn taking(words: &mut Words, seen: Lines, busy: bool, buffer: &mut [u8], output: &mut [u8; 256])
+    requires { ⌜ eqb (at (now words) PHASE) 2 ≡ true ⌝ }
+    ensures { λ _. ⌜ Takes (now (words .entry)) seen busy (now (buffer .entry)) (now (output .entry)) (now (words .exit)) (now (buffer .exit)) (now (output .exit)) ⌝ }
 {
-    let ear = words[13];
+    let ear = words[EAR];
     if words::takes(ear, seen.hsk) {
-        if words::flag(words[14]) {
-            let b = field::byte_of(words::number8(words[15]), seen.nibble);
+        if words::flag(words[HALF]) {
+            let b = field::byte_of(words::number8(words[LOW]), seen.nibble);
             take_byte(words, b, buffer, output);
             return;
         }
-        unitwords::save_selecting(words, 2, 1, true, seen.nibble);
+        take_low(words, seen.nibble);
         return;
     }
-    words[12] = 2;
-    words[13] = words::heard(ear, seen.hsk, busy);
+    words[EAR] = words::heard(ear, seen.hsk, busy);
 }
 
-// A byte of a command is there. One of its data, not the last, leaves the header and the state as they are.
-fn take_byte(words: &mut [u32; 23], b: u8, buffer: &mut [u8], output: &mut [u8; 256])
-    ensures { λ _. ⌜ (now (words .exit) ≡ movedIn (now (words .entry)) (byteStep (loadedSerial (now (words .entry))) (loadedPartial (now (words .entry))) b (now (buffer .entry)))) × ((now (buffer .exit) ≡ byteBuffer (loadedPartial (now (words .entry))) b (now (buffer .entry))) × (now (output .exit) ≡ byteOutput (loadedSerial (now (words .entry))) (loadedPartial (now (words .entry))) b (now (buffer .entry)) (now (output .entry)))) ⌝ }
+// A byte of a command is there. One of its data, not the last, leaves the header and the state as they are. The rest is called at two
+// places, so that LLVM keeps it out of line: 10 instructions a step.
+fn take_byte(words: &mut Words, b: u8, buffer: &mut [u8], output: &mut [u8; 256])
+    requires { ⌜ eqb (at (now words) PHASE) 2 ≡ true ⌝ }
+    ensures { λ _. ⌜ TakesByte (now (words .entry)) b (now (buffer .entry)) (now (output .entry)) (now (words .exit)) (now (buffer .exit)) (now (output .exit)) ⌝ }
 {
-    let place = words[16];
-    let n = words::number16(words[22]);
+    let place = words[PLACE];
+    let n = words::number16(words[DATA_LENGTH]);
     if 9 <= place {
         if place < 8 + n as u32 {
             phase::put(n, place, b, buffer);
-            unitwords::save_selecting(words, 2, 1, false, 0);
-            words[16] = place + 1;
+            words[EAR] = 1;
+            unitwords::save_low(words, false, 0);
+            words[PLACE] = place + 1;
             return;
         }
         take_any(words, b, buffer, output);
@@ -244,35 +264,89 @@ fn take_byte(words: &mut [u32; 23], b: u8, buffer: &mut [u8], output: &mut [u8; 
 }
 
 // Any byte.
-fn take_any(words: &mut [u32; 23], b: u8, buffer: &mut [u8], output: &mut [u8; 256])
-    ensures { λ _. ⌜ (now (words .exit) ≡ movedIn (now (words .entry)) (byteStep (loadedSerial (now (words .entry))) (loadedPartial (now (words .entry))) b (now (buffer .entry)))) × ((now (buffer .exit) ≡ byteBuffer (loadedPartial (now (words .entry))) b (now (buffer .entry))) × (now (output .exit) ≡ byteOutput (loadedSerial (now (words .entry))) (loadedPartial (now (words .entry))) b (now (buffer .entry)) (now (output .entry)))) ⌝ }
+fn take_any(words: &mut Words, b: u8, buffer: &mut [u8], output: &mut [u8; 256])
+    requires { ⌜ eqb (at (now words) PHASE) 2 ≡ true ⌝ }
+    ensures { λ _. ⌜ TakesByte (now (words .entry)) b (now (buffer .entry)) (now (output .entry)) (now (words .exit)) (now (buffer .exit)) (now (output .exit)) ⌝ }
 {
-    let place = words[16];
+    let place = words[PLACE];
     let old = unitwords::load_header(words);
     let header = old.with(phase::wide(place), b);
     let n = header.data_length;
     phase::put(n, place, b, buffer);
     if 8 + n as u32 <= place {
-        answer(words, header, buffer, output);
+        let serial = unitwords::load_serial(words);
+        unitwords::save_moved(words, phase::answer(serial, header, buffer, output));
         return;
     }
-    unitwords::save_partial(words, 1, phase::whole_bytes(header, place + 1));
+    words[EAR] = 1;
+    unitwords::save_partial(words, phase::whole_bytes(header, place + 1));
 }
 
-// The command is whole.
-fn answer(words: &mut [u32; 23], header: Header, buffer: &[u8], output: &mut [u8; 256])
-    ensures { λ _. ⌜ (now (words .exit) ≡ movedIn (now (words .entry)) (answered (loadedSerial (now (words .entry))) header (now (buffer .entry)))) × (now (output .exit) ≡ stored (loadedSerial (now (words .entry))) header (now (buffer .entry)) (now (output .entry))) ⌝ }
+// Receiving, after the last nibble.
+fn answered(words: &mut Words, hsk: bool, busy: bool)
+    requires { ⌜ eqb (at (now words) PHASE) 3 ≡ true ⌝ }
+    ensures { λ _. ⌜ now (words .exit) ≡ answers (now (words .entry)) hsk busy ⌝ }
 {
-    let serial = unitwords::load_serial(words);
-    let m = phase::answer(serial, header, buffer, output);
-    save_moved(words, m);
+    let ear = words::heard(words[EAR], hsk, busy);
+    if words::listener(ear).is_ready() {
+        leave(words, hsk, 0);
+        return;
+    }
+    words[EAR] = ear;
 }
 
-fn save_moved(words: &mut [u32; 23], m: Moved)
-    ensures { λ _. ⌜ now (words .exit) ≡ movedIn (now (words .entry)) m ⌝ }
+// Responding: one round.
+fn responding(words: &mut Words, hsk: bool, input: &[u8; 256])
+    requires { ⌜ eqb (at (now words) PHASE) 4 ≡ true ⌝ }
+    ensures { λ _. ⌜ now (words .exit) ≡ responds (now (words .entry)) hsk (now (input .entry)) ⌝ }
 {
-    let serial = m.serial;
-    let phase = m.phase;
-    unitwords::save_serial(words, serial);
-    unitwords::save_phase(words, phase);
+    if words::flag(words[WAIT]) {
+        words[WAIT] = words::with_flag(words[WAIT], false);
+        return;
+    }
+    let tag = words[SENDER];
+    let placed = tag == 1;
+    if placed {
+        words[SENDER] = 2;
+        return;
+    }
+    let kept = tag == 2;
+    if kept {
+        if hsk {
+            return;
+        }
+        sent(words);
+        return;
+    }
+    let n = nibble(words, input);
+    let word = words::with8(words[NIBBLE], n);
+    words[SENDER] = 1;
+    words[NIBBLE] = word;
+}
+
+// The nibble is sent: on to the next, or what waited for the last happens.
+fn sent(words: &mut Words)
+    requires { ⌜ eqb (at (now words) PHASE) 4 ≡ true ⌝ }
+    requires { ⌜ flagOf (at (now words) WAIT) ≡ false ⌝ }
+    requires { ⌜ eqb (at (now words) SENDER) 2 ≡ true ⌝ }
+    ensures { λ _. ⌜ now (words .exit) ≡ sends (now (words .entry)) ⌝ }
+{
+    let reply = unitwords::reply(words[REPLY], words[VALUE]);
+    let q = unitwords::queue(words[INPUT_HEAD], words[INPUT_COUNT]);
+    let i = words[NEXT];
+    if phase::wide(i) < reply::last(reply, q) {
+        words[SENDER] = 0;
+        words[NEXT] = i + 1;
+        return;
+    }
+    leave(words, false, 0);
+}
+
+// The nibble that is next.
+fn nibble(words: &Words, input: &[u8; 256]) -> u8
+    ensures { λ r. ⌜ r ≡ nibble (now (words .entry)) (now (input .entry)) ⌝ }
+{
+    let q = unitwords::queue(words[INPUT_HEAD], words[INPUT_COUNT]);
+    let i = phase::wide(words[NEXT]);
+    reply::nibble(unitwords::reply(words[REPLY], words[VALUE]), q, input, i)
 }

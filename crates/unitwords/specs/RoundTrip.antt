@@ -19,6 +19,7 @@ use Rattle.serial.specs.declared.Reply.{Reply}
 use Rattle.serial.specs.declared.Reply.the-variants.{Silent, Status, Opened, Bytes, Polled}
 use Rattle.unit.specs.declared.Unit.{Unit}
 use Rattle.words.specs.Ranges.{SenderFits}
+use Rattle.unitwords.specs.Layout.{WORDS}
 use Rattle.unitwords.specs.Unit.{loaded, savedIn, saved}
 
 -- What the types of a unit's fields say of them.
@@ -57,7 +58,11 @@ pub record InRange (u : Unit) : Type 0 where
   pub output : QueueFits (u .serial .output)
 
 abbrev pub LoadedSavedIn : Type 0
-LoadedSavedIn = (ws : List ℕ) (u : Unit) → length ws ≡ 23 → InRange u → loaded (savedIn ws u) ≡ u
+LoadedSavedIn = (ws : List ℕ) (u : Unit) → length ws ≡ WORDS → InRange u → loaded (savedIn ws u) ≡ u
+
+-- What was loaded and is saved changes no word, whatever stands there.
+abbrev pub SavedLoaded : Type 0
+SavedLoaded = (ws : List ℕ) → savedIn ws (loaded ws) ≡ ws
 
 abbrev pub LoadedSaved : Type 0
 LoadedSaved = (u : Unit) → InRange u → loaded (saved u) ≡ u

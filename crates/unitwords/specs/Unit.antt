@@ -1,14 +1,14 @@
--- A unit in 23 words of its caller's memory: 0 to 3 its settings, row and pull of BAV, 4 to 11 its state besides its lines, 12 the tag of
--- its phase, 13 to 22 what the phase carries. `loaded` is total; `savedIn` says what a save makes of the words that were there.
+-- A unit in words: `loaded` says which unit stands there, for all words; `savedIn` what a save makes of the words that were there.
 use Prim.Native.Nat.{ℕ, _%_}
 use mathlib.Core.Bool.{Bool, cond}
 use mathlib.Core.List.{List, [], _∷_}
 use lib.Dec.{eqb}
 use lib.ListN.{replicate}
-use lib.Seq.{sets}
 use Rattle.header.specs.declared.Header.{Header}
+use Rattle.line.specs.declared.Listener.{Listener}
+use Rattle.line.specs.declared.Sender.{Sender}
+use Rattle.phase.specs.declared.Moved.{Moved}
 use Rattle.phase.specs.declared.Partial.{Partial}
-use Rattle.phase.specs.declared.Progress.{Progress}
 use Rattle.phase.specs.declared.Progress.the-variants.{Taking, Answered}
 use Rattle.phase.specs.declared.Phase.{Phase}
 use Rattle.phase.specs.declared.Phase.the-variants.{Idle, Selecting, Receiving, Responding, SittingOut}
@@ -21,7 +21,8 @@ use Rattle.serial.specs.declared.Reply.{Reply}
 use Rattle.serial.specs.declared.Reply.the-variants.{Silent, Status, Opened, Bytes, Polled}
 use Rattle.serial.specs.declared.Serial.{Serial}
 use Rattle.unit.specs.declared.Unit.{Unit}
-use Rattle.words.specs.Words.{at, numberIn, flagOf, flagIn, listenerOf, listenerTag, senderOf, senderTag, senderIn, commandOf}
+use Rattle.words.specs.Words.{at, written, _≔_, numberIn, flagOf, flagIn, tagIn, listenerOf, listenerIn, senderOf, senderIn, nibbleIn, commandOf}
+use Rattle.unitwords.specs.Layout.{WORDS, OWN, RETRY, QUIET, ASKING, OPENING, ACCEPTED, ENABLED, REQUESTING, «INPUT_HEAD», «INPUT_COUNT», «OUTPUT_HEAD», «OUTPUT_COUNT», PHASE, EAR, HALF, LOW, PLACE, DEVICE, COMMAND, «LOGICAL_UNIT», «RECORD_NUMBER», «BUFFER_LENGTH», «DATA_LENGTH», REPLY, VALUE, SENDER, WAIT, NIBBLE, NEXT, LAST}
 
 -- Closed 0, open for input 1, output 2, update 3: two bits, and the word of the accepted length.
 abbrev pub openingOf : ℕ → ℕ → Opening
@@ -48,31 +49,31 @@ queueOf head count = record { head = head % 256; count = count % 65536 }
 
 abbrev pub loadedSerial : List ℕ → Serial
 loadedSerial ws = record {
-  opening = openingOf (at ws 4) (at ws 5);
-  enabled = flagOf (at ws 6);
-  requesting = flagOf (at ws 7);
-  input = queueOf (at ws 8) (at ws 9);
-  output = queueOf (at ws 10) (at ws 11);
+  opening = openingOf (at ws OPENING) (at ws ACCEPTED);
+  enabled = flagOf (at ws ENABLED);
+  requesting = flagOf (at ws REQUESTING);
+  input = queueOf (at ws «INPUT_HEAD») (at ws «INPUT_COUNT»);
+  output = queueOf (at ws «OUTPUT_HEAD») (at ws «OUTPUT_COUNT»);
 }
 
 abbrev pub serialIn : List ℕ → Serial → List ℕ
 serialIn ws s =
-    sets ws 4
-    (numberIn 4 (at ws 4) (openingNumber (s .opening))
-    ∷ acceptedIn (at ws 5) (s .opening)
-    ∷ flagIn (at ws 6) (s .enabled)
-    ∷ flagIn (at ws 7) (s .requesting)
-    ∷ numberIn 256 (at ws 8) (s .input .head)
-    ∷ numberIn 65536 (at ws 9) (s .input .count)
-    ∷ numberIn 256 (at ws 10) (s .output .head)
-    ∷ numberIn 65536 (at ws 11) (s .output .count)
+    written ws
+    (OPENING ≔ numberIn 4 (at ws OPENING) (openingNumber (s .opening))
+    ∷ ACCEPTED ≔ acceptedIn (at ws ACCEPTED) (s .opening)
+    ∷ ENABLED ≔ flagIn (at ws ENABLED) (s .enabled)
+    ∷ REQUESTING ≔ flagIn (at ws REQUESTING) (s .requesting)
+    ∷ «INPUT_HEAD» ≔ numberIn 256 (at ws «INPUT_HEAD») (s .input .head)
+    ∷ «INPUT_COUNT» ≔ numberIn 65536 (at ws «INPUT_COUNT») (s .input .count)
+    ∷ «OUTPUT_HEAD» ≔ numberIn 256 (at ws «OUTPUT_HEAD») (s .output .head)
+    ∷ «OUTPUT_COUNT» ≔ numberIn 65536 (at ws «OUTPUT_COUNT») (s .output .count)
     ∷ [])
 
--- A reply's tag, and the word of its value.
+-- A reply in the word of its tag and the word of its value.
 abbrev pub replyOf : ℕ → ℕ → Reply
-replyOf tag word =
-    cond (eqb tag 1) (Status (word % 256))
-    (cond (eqb tag 2) (Opened (word % 256)) (cond (eqb tag 3) (Bytes (word % 65536)) (cond (eqb tag 4) Polled Silent)))
+replyOf word value =
+    cond (eqb word 1) (Status (value % 256))
+    (cond (eqb word 2) (Opened (value % 256)) (cond (eqb word 3) (Bytes (value % 65536)) (cond (eqb word 4) Polled Silent)))
 
 abbrev pub replyTag : Reply → ℕ
 replyTag Silent = 0
@@ -81,77 +82,104 @@ replyTag (Opened accepted) = 2
 replyTag (Bytes n) = 3
 replyTag Polled = 4
 
-abbrev pub replyIn : ℕ → Reply → ℕ
-replyIn word Silent = word
-replyIn word (Status status) = numberIn 256 word status
-replyIn word (Opened accepted) = numberIn 256 word accepted
-replyIn word (Bytes n) = numberIn 65536 word n
-replyIn word Polled = word
+abbrev pub valueIn : ℕ → Reply → ℕ
+valueIn word Silent = word
+valueIn word (Status status) = numberIn 256 word status
+valueIn word (Opened accepted) = numberIn 256 word accepted
+valueIn word (Bytes n) = numberIn 65536 word n
+valueIn word Polled = word
 
--- The header of a command that is being taken, words 17 to 22; the rest of it, words 14 to 16.
+abbrev pub replyIn : List ℕ → Reply → List ℕ
+replyIn ws reply = written ws (REPLY ≔ tagIn 5 (at ws REPLY) (replyTag reply) ∷ VALUE ≔ valueIn (at ws VALUE) reply ∷ [])
+
+-- The header of a command that is being taken, and the rest of it.
 abbrev pub loadedHeader : List ℕ → Header
-loadedHeader ws = record { command = commandOf (at ws 17) (at ws 18) (at ws 19) (at ws 20) (at ws 21); «data_length» = at ws 22 % 65536 }
+loadedHeader ws = record {
+  command = commandOf (at ws DEVICE) (at ws COMMAND) (at ws «LOGICAL_UNIT») (at ws «RECORD_NUMBER») (at ws «BUFFER_LENGTH»);
+  «data_length» = at ws «DATA_LENGTH» % 65536;
+}
 
 abbrev pub headerIn : List ℕ → Header → List ℕ
 headerIn ws h =
-    sets ws 17
-    (numberIn 256 (at ws 17) (h .command .device)
-    ∷ numberIn 256 (at ws 18) (h .command .command)
-    ∷ numberIn 256 (at ws 19) (h .command .«logical_unit»)
-    ∷ numberIn 65536 (at ws 20) (h .command .«record_number»)
-    ∷ numberIn 65536 (at ws 21) (h .command .«buffer_length»)
-    ∷ numberIn 65536 (at ws 22) (h .«data_length»)
+    written ws
+    (DEVICE ≔ numberIn 256 (at ws DEVICE) (h .command .device)
+    ∷ COMMAND ≔ numberIn 256 (at ws COMMAND) (h .command .command)
+    ∷ «LOGICAL_UNIT» ≔ numberIn 256 (at ws «LOGICAL_UNIT») (h .command .«logical_unit»)
+    ∷ «RECORD_NUMBER» ≔ numberIn 65536 (at ws «RECORD_NUMBER») (h .command .«record_number»)
+    ∷ «BUFFER_LENGTH» ≔ numberIn 65536 (at ws «BUFFER_LENGTH») (h .command .«buffer_length»)
+    ∷ «DATA_LENGTH» ≔ numberIn 65536 (at ws «DATA_LENGTH») (h .«data_length»)
     ∷ [])
 
 abbrev pub loadedPartial : List ℕ → Partial
-loadedPartial ws = record { header = loadedHeader ws; place = at ws 16; half = flagOf (at ws 14); low = at ws 15 % 256 }
+loadedPartial ws = record { header = loadedHeader ws; place = at ws PLACE; half = flagOf (at ws HALF); low = at ws LOW % 256 }
+
+abbrev pub lowIn : List ℕ → Bool → ℕ → List ℕ
+lowIn ws half low = written ws (HALF ≔ flagIn (at ws HALF) half ∷ LOW ≔ numberIn 256 (at ws LOW) low ∷ [])
+
+abbrev pub partialIn : List ℕ → Partial → List ℕ
+partialIn ws p = headerIn (written (lowIn ws (p .half) (p .low)) (PLACE ≔ p .place ∷ [])) (p .header)
 
 -- The phase. Tags: idle 0, selecting 1, receiving 2 until the command is whole, then 3, responding 4, sitting out 5.
+abbrev pub phaseBy : ℕ → List ℕ → Phase
+phaseBy tag ws =
+    cond (eqb tag 1) (Selecting (listenerOf (at ws EAR)) (flagOf (at ws HALF)) (at ws LOW % 256))
+    (cond (eqb tag 2) (Receiving (listenerOf (at ws EAR)) (Taking (loadedPartial ws)))
+    (cond (eqb tag 3) (Receiving (listenerOf (at ws EAR)) (Answered (replyOf (at ws REPLY) (at ws VALUE))))
+    (cond (eqb tag 4) (Responding (replyOf (at ws REPLY) (at ws VALUE)) (at ws NEXT) (senderOf (at ws SENDER) (at ws NIBBLE)) (flagOf (at ws WAIT)))
+    (cond (eqb tag 5) (SittingOut (flagOf (at ws LAST))) Idle))))
+
 abbrev pub loadedPhase : List ℕ → Phase
-loadedPhase ws =
-    cond (eqb (at ws 12) 1) (Selecting (listenerOf (at ws 13)) (flagOf (at ws 14)) (at ws 15 % 256))
-    (cond (eqb (at ws 12) 2) (Receiving (listenerOf (at ws 13)) (Taking (loadedPartial ws)))
-    (cond (eqb (at ws 12) 3) (Receiving (listenerOf (at ws 13)) (Answered (replyOf (at ws 17) (at ws 18))))
-    (cond (eqb (at ws 12) 4)
-    (Responding (replyOf (at ws 17) (at ws 18)) (at ws 16) (senderOf (at ws 13) (at ws 15)) (flagOf (at ws 14)))
-    (cond (eqb (at ws 12) 5) (SittingOut (flagOf (at ws 14))) Idle))))
+loadedPhase ws = phaseBy (at ws PHASE) ws
 
-abbrev pub selectingIn : List ℕ → ℕ → ℕ → Bool → ℕ → List ℕ
-selectingIn ws tag ear half low = sets ws 12 (tag ∷ ear ∷ flagIn (at ws 14) half ∷ numberIn 256 (at ws 15) low ∷ [])
+abbrev pub tagged : List ℕ → ℕ → List ℕ
+tagged ws tag = written ws (PHASE ≔ tagIn 6 (at ws PHASE) tag ∷ [])
 
-abbrev pub progressIn : List ℕ → ℕ → Progress → List ℕ
-progressIn ws ear (Taking p) = headerIn (sets (selectingIn ws 2 ear (p .half) (p .low)) 16 (p .place ∷ [])) (p .header)
-progressIn ws ear (Answered reply) =
-    sets (sets ws 12 (3 ∷ ear ∷ [])) 17 (replyTag reply ∷ replyIn (at ws 18) reply ∷ [])
+abbrev pub listening : List ℕ → ℕ → Listener → List ℕ
+listening ws tag ear = written (tagged ws tag) (EAR ≔ listenerIn (at ws EAR) ear ∷ [])
+
+abbrev pub sending : List ℕ → ℕ → Sender → Bool → List ℕ
+sending ws i sender wait =
+    written (tagged ws 4)
+    (SENDER ≔ senderIn (at ws SENDER) sender ∷ WAIT ≔ flagIn (at ws WAIT) wait ∷ NIBBLE ≔ nibbleIn (at ws NIBBLE) sender ∷ NEXT ≔ i ∷ [])
 
 abbrev pub phaseIn : List ℕ → Phase → List ℕ
-phaseIn ws Idle = sets ws 12 (0 ∷ [])
-phaseIn ws (Selecting ear half low) = selectingIn ws 1 (listenerTag ear) half low
-phaseIn ws (Receiving ear progress) = progressIn ws (listenerTag ear) progress
-phaseIn ws (Responding reply i sender wait) =
-    sets ws 12
-    (4 ∷ senderTag sender ∷ flagIn (at ws 14) wait ∷ senderIn (at ws 15) sender ∷ i ∷ replyTag reply ∷ replyIn (at ws 18) reply ∷ [])
-phaseIn ws (SittingOut last) = sets (sets ws 12 (5 ∷ [])) 14 (flagIn (at ws 14) last ∷ [])
+phaseIn ws Idle = tagged ws 0
+phaseIn ws (Selecting ear half low) = lowIn (listening ws 1 ear) half low
+phaseIn ws (Receiving ear (Taking p)) = partialIn (listening ws 2 ear) p
+phaseIn ws (Receiving ear (Answered reply)) = replyIn (listening ws 3 ear) reply
+phaseIn ws (Responding reply i sender wait) = replyIn (sending ws i sender wait) reply
+phaseIn ws (SittingOut last) = written (tagged ws 5) (LAST ≔ flagIn (at ws LAST) last ∷ [])
+
+-- A phase, and the state beside it.
+abbrev pub movedIn : List ℕ → Moved → List ℕ
+movedIn ws m = phaseIn (serialIn ws (m .serial)) (m .phase)
 
 -- The unit.
 abbrev pub loaded : List ℕ → Unit
 loaded ws = record {
-  own = at ws 0 % 256;
-  retry = at ws 1 % 65536;
-  quiet = at ws 2 % 65536;
-  asking = flagOf (at ws 3);
+  own = at ws OWN % 256;
+  retry = at ws RETRY % 65536;
+  quiet = at ws QUIET % 65536;
+  asking = flagOf (at ws ASKING);
   phase = loadedPhase ws;
   serial = loadedSerial ws;
 }
 
+abbrev pub rowIn : List ℕ → ℕ → Bool → List ℕ
+rowIn ws quiet asking = written ws (QUIET ≔ numberIn 65536 (at ws QUIET) quiet ∷ ASKING ≔ flagIn (at ws ASKING) asking ∷ [])
+
 abbrev pub settingsIn : List ℕ → Unit → List ℕ
 settingsIn ws u =
-    sets ws 0
-    (numberIn 256 (at ws 0) (u .own) ∷ numberIn 65536 (at ws 1) (u .retry) ∷ numberIn 65536 (at ws 2) (u .quiet) ∷ flagIn (at ws 3) (u .asking) ∷ [])
+    written ws
+    (OWN ≔ numberIn 256 (at ws OWN) (u .own)
+    ∷ RETRY ≔ numberIn 65536 (at ws RETRY) (u .retry)
+    ∷ QUIET ≔ numberIn 65536 (at ws QUIET) (u .quiet)
+    ∷ ASKING ≔ flagIn (at ws ASKING) (u .asking)
+    ∷ [])
 
 abbrev pub savedIn : List ℕ → Unit → List ℕ
 savedIn ws u = phaseIn (serialIn (settingsIn ws u) (u .serial)) (u .phase)
 
 -- Into cleared words: what making a unit leaves.
 abbrev pub saved : Unit → List ℕ
-saved u = savedIn (replicate 23 0) u
+saved u = savedIn (replicate WORDS 0) u

@@ -1,10 +1,12 @@
 // A unit in the words that a caller lends: loaded before a call, saved after it.
 ghost use mathlib.Core.Path.{_≡_};
 ghost use Prim.Native.Nat.{_≤_};
-ghost use Rattle.words.specs.Words.{at, numberIn, flagOf, senderOf};
-ghost use Rattle.unitwords.specs.Unit.{openingOf, openingNumber, acceptedIn, queueOf, loadedSerial, serialIn, replyOf, replyTag, replyIn, loadedHeader, headerIn, loadedPartial, loadedPhase, selectingIn, progressIn, phaseIn, loaded, settingsIn, savedIn, saved};
+ghost use Rattle.words.specs.Words.{numberIn};
+ghost use Rattle.unitwords.specs.Unit.{openingOf, openingNumber, acceptedIn, queueOf, loadedSerial, serialIn, replyOf, replyTag, valueIn, replyIn, loadedHeader, headerIn, loadedPartial, lowIn, partialIn, loadedPhase, listening, sending, phaseIn, movedIn, loaded, settingsIn, savedIn, saved};
 use header::Header;
+use line::Listener;
 use line::Sender;
+use phase::Moved;
 use phase::Partial;
 use phase::Phase;
 use phase::Progress;
@@ -15,24 +17,97 @@ use serial::Reply;
 use serial::Serial;
 use unit::Unit;
 
+// The words of a unit, by name (specs/Layout.antt).
+pub const WORDS: usize = 23;
+
+pub type Words = [u32; WORDS];
+
+// Its settings, its row of rounds with BAV seen high, and its pull of BAV.
+pub const OWN: usize = 0;
+
+pub const RETRY: usize = 1;
+
+pub const QUIET: usize = 2;
+
+pub const ASKING: usize = 3;
+
+// Its state besides the lines, which only a whole command, the end of a response and its host's calls touch.
+pub const OPENING: usize = 4;
+
+pub const ACCEPTED: usize = 5;
+
+pub const ENABLED: usize = 6;
+
+pub const REQUESTING: usize = 7;
+
+pub const INPUT_HEAD: usize = 8;
+
+pub const INPUT_COUNT: usize = 9;
+
+pub const OUTPUT_HEAD: usize = 10;
+
+pub const OUTPUT_COUNT: usize = 11;
+
+// Its phase.
+pub const PHASE: usize = 12;
+
+// Selecting, and receiving until the command is whole: the listener, whether a low nibble is there, that nibble, the byte that is next.
+pub const EAR: usize = 13;
+
+pub const HALF: usize = 14;
+
+pub const LOW: usize = 15;
+
+pub const PLACE: usize = 16;
+
+// Receiving until the command is whole: the header as far as it is there.
+pub const DEVICE: usize = 17;
+
+pub const COMMAND: usize = 18;
+
+pub const LOGICAL_UNIT: usize = 19;
+
+pub const RECORD_NUMBER: usize = 20;
+
+pub const BUFFER_LENGTH: usize = 21;
+
+pub const DATA_LENGTH: usize = 22;
+
+// Receiving after that, and responding: the reply, and its value.
+pub const REPLY: usize = 17;
+
+pub const VALUE: usize = 18;
+
+// Responding: the sender, whether a round is still to pass, the sender's nibble, the nibble that is next.
+pub const SENDER: usize = 13;
+
+pub const WAIT: usize = 14;
+
+pub const NIBBLE: usize = 15;
+
+pub const NEXT: usize = 16;
+
+// Sitting out: whether the pull of HSK stands.
+pub const LAST: usize = 14;
+
 // The unit that stands in the words.
-pub fn load(words: &[u32; 23]) -> Unit
+pub fn load(words: &Words) -> Unit
     ensures { λ r. ⌜ r ≡ loaded (now (words .entry)) ⌝ }
 {
     let phase = load_phase(words);
     let serial = load_serial(words);
     Unit {
-        own: words::number8(words[0]),
-        retry: words::number16(words[1]),
-        quiet: words::number16(words[2]),
-        asking: words::flag(words[3]),
+        own: words::number8(words[OWN]),
+        retry: words::number16(words[RETRY]),
+        quiet: words::number16(words[QUIET]),
+        asking: words::flag(words[ASKING]),
         phase,
         serial,
     }
 }
 
 // The unit's own words written over what stands there.
-pub fn save(words: &mut [u32; 23], u: Unit)
+pub fn save(words: &mut Words, u: Unit)
     ensures { λ _. ⌜ now (words .exit) ≡ savedIn (now (words .entry)) u ⌝ }
 {
     let serial = u.serial;
@@ -43,115 +118,175 @@ pub fn save(words: &mut [u32; 23], u: Unit)
 }
 
 // The unit in cleared words.
-pub fn save_new(words: &mut [u32; 23], u: Unit)
+pub fn save_new(words: &mut Words, u: Unit)
     ensures { λ _. ⌜ now (words .exit) ≡ saved u ⌝ }
 {
-    *words = [0; 23];
+    *words = [0; WORDS];
     save(words, u);
 }
 
-pub fn load_serial(words: &[u32; 23]) -> Serial
+// A phase, and the state beside it.
+pub fn save_moved(words: &mut Words, m: Moved)
+    ensures { λ _. ⌜ now (words .exit) ≡ movedIn (now (words .entry)) m ⌝ }
+{
+    let serial = m.serial;
+    let phase = m.phase;
+    save_serial(words, serial);
+    save_phase(words, phase);
+}
+
+// Its state besides the lines.
+pub fn load_serial(words: &Words) -> Serial
     ensures { λ r. ⌜ r ≡ loadedSerial (now (words .entry)) ⌝ }
 {
     Serial {
-        opening: opening(words[4], words[5]),
-        enabled: words::flag(words[6]),
-        requesting: words::flag(words[7]),
-        input: queue(words[8], words[9]),
-        output: queue(words[10], words[11]),
+        opening: opening(words[OPENING], words[ACCEPTED]),
+        enabled: words::flag(words[ENABLED]),
+        requesting: words::flag(words[REQUESTING]),
+        input: queue(words[INPUT_HEAD], words[INPUT_COUNT]),
+        output: queue(words[OUTPUT_HEAD], words[OUTPUT_COUNT]),
     }
 }
 
-pub fn load_phase(words: &[u32; 23]) -> Phase
+fn load_phase(words: &Words) -> Phase
     ensures { λ r. ⌜ r ≡ loadedPhase (now (words .entry)) ⌝ }
 {
-    let tag = words[12];
+    let tag = words[PHASE];
     let selecting = tag == 1;
     if selecting {
         return Phase::Selecting(
-            words::listener(words[13]),
-            words::flag(words[14]),
-            words::number8(words[15]),
+            words::listener(words[EAR]),
+            words::flag(words[HALF]),
+            words::number8(words[LOW]),
         );
     }
     let taking = tag == 2;
     if taking {
         return Phase::Receiving(
-            words::listener(words[13]),
+            words::listener(words[EAR]),
             Progress::Taking(load_partial(words)),
         );
     }
     let answered = tag == 3;
     if answered {
         return Phase::Receiving(
-            words::listener(words[13]),
-            Progress::Answered(reply(words[17], words[18])),
+            words::listener(words[EAR]),
+            Progress::Answered(reply(words[REPLY], words[VALUE])),
         );
     }
     let responding = tag == 4;
     if responding {
-        return load_responding(words);
+        return Phase::Responding(
+            reply(words[REPLY], words[VALUE]),
+            words[NEXT],
+            words::sender(words[SENDER], words[NIBBLE]),
+            words::flag(words[WAIT]),
+        );
     }
     let sits_out = tag == 5;
     if sits_out {
-        return Phase::SittingOut(words::flag(words[14]));
+        return Phase::SittingOut(words::flag(words[LAST]));
     }
     Phase::Idle
 }
 
-pub fn save_phase(words: &mut [u32; 23], phase: Phase)
+// Its phase.
+pub fn save_phase(words: &mut Words, phase: Phase)
     ensures { λ _. ⌜ now (words .exit) ≡ phaseIn (now (words .entry)) phase ⌝ }
 {
     match phase {
-        Phase::Idle => words[12] = 0,
+        Phase::Idle => words[PHASE] = words::with_tag(words[PHASE], 6, 0),
         Phase::Selecting(ear, half, low) => {
-            save_selecting(words, 1, words::listener_tag(ear), half, low)
+            save_listening(words, 1, ear);
+            save_low(words, half, low);
         }
-        Phase::Receiving(ear, progress) => {
-            save_progress(words, words::listener_tag(ear), progress)
-        }
+        Phase::Receiving(ear, progress) => save_progress(words, ear, progress),
         Phase::Responding(reply, i, sender, wait) => {
-            save_responding(words, reply, i, sender, wait)
+            save_sending(words, i, sender, wait);
+            save_reply(words, reply);
         }
-        Phase::SittingOut(last) => save_sitting_out(words, last),
+        Phase::SittingOut(last) => {
+            let phase = words::with_tag(words[PHASE], 6, 5);
+            let last = words::with_flag(words[LAST], last);
+            words[PHASE] = phase;
+            words[LAST] = last;
+        }
     }
 }
 
-fn save_settings(words: &mut [u32; 23], u: Unit)
-    ensures { λ _. ⌜ now (words .exit) ≡ settingsIn (now (words .entry)) u ⌝ }
+fn save_progress(words: &mut Words, ear: Listener, progress: Progress)
+    ensures { λ _. ⌜ now (words .exit) ≡ phaseIn (now (words .entry)) (Phase.Receiving ear progress) ⌝ }
 {
-    let own = words::with8(words[0], u.own);
-    let retry = words::with16(words[1], u.retry);
-    let quiet = words::with16(words[2], u.quiet);
-    let asking = words::with_flag(words[3], u.asking);
-    words[0] = own;
-    words[1] = retry;
-    words[2] = quiet;
-    words[3] = asking;
+    match progress {
+        Progress::Taking(p) => {
+            save_listening(words, 2, ear);
+            save_partial(words, p);
+        }
+        Progress::Answered(reply) => {
+            save_listening(words, 3, ear);
+            save_reply(words, reply);
+        }
+    }
 }
 
-pub fn save_serial(words: &mut [u32; 23], s: Serial)
+fn save_listening(words: &mut Words, tag: u32, ear: Listener)
+    ensures { λ _. ⌜ now (words .exit) ≡ listening (now (words .entry)) tag ear ⌝ }
+{
+    let phase = words::with_tag(words[PHASE], 6, tag);
+    let ear = words::with_listener(words[EAR], ear);
+    words[PHASE] = phase;
+    words[EAR] = ear;
+}
+
+fn save_sending(words: &mut Words, i: u32, s: Sender, wait: bool)
+    ensures { λ _. ⌜ now (words .exit) ≡ sending (now (words .entry)) i s wait ⌝ }
+{
+    let phase = words::with_tag(words[PHASE], 6, 4);
+    let sender = words::with_sender(words[SENDER], s);
+    let wait = words::with_flag(words[WAIT], wait);
+    let nibble = words::with_nibble(words[NIBBLE], s);
+    words[PHASE] = phase;
+    words[SENDER] = sender;
+    words[WAIT] = wait;
+    words[NIBBLE] = nibble;
+    words[NEXT] = i;
+}
+
+fn save_settings(words: &mut Words, u: Unit)
+    ensures { λ _. ⌜ now (words .exit) ≡ settingsIn (now (words .entry)) u ⌝ }
+{
+    let own = words::with8(words[OWN], u.own);
+    let retry = words::with16(words[RETRY], u.retry);
+    let quiet = words::with16(words[QUIET], u.quiet);
+    let asking = words::with_flag(words[ASKING], u.asking);
+    words[OWN] = own;
+    words[RETRY] = retry;
+    words[QUIET] = quiet;
+    words[ASKING] = asking;
+}
+
+fn save_serial(words: &mut Words, s: Serial)
     ensures { λ _. ⌜ now (words .exit) ≡ serialIn (now (words .entry)) s ⌝ }
 {
     let input = s.input;
     let output = s.output;
-    let opening = s.opening;
-    let how = with_opening(words[4], opening);
-    let accepted = with_accepted(words[5], opening);
-    let enabled = words::with_flag(words[6], s.enabled);
-    let requesting = words::with_flag(words[7], s.requesting);
-    let input_head = words::with8(words[8], input.head);
-    let input_count = words::with16(words[9], input.count);
-    let output_head = words::with8(words[10], output.head);
-    let output_count = words::with16(words[11], output.count);
-    words[4] = how;
-    words[5] = accepted;
-    words[6] = enabled;
-    words[7] = requesting;
-    words[8] = input_head;
-    words[9] = input_count;
-    words[10] = output_head;
-    words[11] = output_count;
+    let o = s.opening;
+    let opening = with_opening(words[OPENING], o);
+    let accepted = with_accepted(words[ACCEPTED], o);
+    let enabled = words::with_flag(words[ENABLED], s.enabled);
+    let requesting = words::with_flag(words[REQUESTING], s.requesting);
+    let input_head = words::with8(words[INPUT_HEAD], input.head);
+    let input_count = words::with16(words[INPUT_COUNT], input.count);
+    let output_head = words::with8(words[OUTPUT_HEAD], output.head);
+    let output_count = words::with16(words[OUTPUT_COUNT], output.count);
+    words[OPENING] = opening;
+    words[ACCEPTED] = accepted;
+    words[ENABLED] = enabled;
+    words[REQUESTING] = requesting;
+    words[INPUT_HEAD] = input_head;
+    words[INPUT_COUNT] = input_count;
+    words[OUTPUT_HEAD] = output_head;
+    words[OUTPUT_COUNT] = output_count;
 }
 
 fn opening(word: u32, accepted: u32) -> Opening
@@ -202,6 +337,7 @@ fn with_accepted(word: u32, o: Opening) -> u32
     }
 }
 
+// A queue of two words.
 pub fn queue(head: u32, count: u32) -> Queue
     ensures { λ r. ⌜ r ≡ queueOf head count ⌝ }
 {
@@ -211,6 +347,7 @@ pub fn queue(head: u32, count: u32) -> Queue
     }
 }
 
+// The reply of two words.
 pub fn reply(tag: u32, word: u32) -> Reply
     ensures { λ r. ⌜ r ≡ replyOf tag word ⌝ }
 {
@@ -245,8 +382,8 @@ fn reply_tag(r: Reply) -> u32
     }
 }
 
-fn with_reply(word: u32, r: Reply) -> u32
-    ensures { λ n. ⌜ n ≡ replyIn word r ⌝ }
+fn with_value(word: u32, r: Reply) -> u32
+    ensures { λ n. ⌜ n ≡ valueIn word r ⌝ }
 {
     match r {
         Reply::Silent => word,
@@ -257,115 +394,78 @@ fn with_reply(word: u32, r: Reply) -> u32
     }
 }
 
-fn load_partial(words: &[u32; 23]) -> Partial
+fn save_reply(words: &mut Words, r: Reply)
+    ensures { λ _. ⌜ now (words .exit) ≡ replyIn (now (words .entry)) r ⌝ }
+{
+    let reply = words::with_tag(words[REPLY], 5, reply_tag(r));
+    let value = with_value(words[VALUE], r);
+    words[REPLY] = reply;
+    words[VALUE] = value;
+}
+
+// Whether the low nibble of a byte is there, and that nibble.
+pub fn save_low(words: &mut Words, half: bool, low: u8)
+    ensures { λ _. ⌜ now (words .exit) ≡ lowIn (now (words .entry)) half low ⌝ }
+{
+    let half = words::with_flag(words[HALF], half);
+    let low = words::with8(words[LOW], low);
+    words[HALF] = half;
+    words[LOW] = low;
+}
+
+fn load_partial(words: &Words) -> Partial
     ensures { λ r. ⌜ r ≡ loadedPartial (now (words .entry)) ⌝ }
 {
     let header = load_header(words);
     Partial {
         header,
-        place: words[16],
-        half: words::flag(words[14]),
-        low: words::number8(words[15]),
+        place: words[PLACE],
+        half: words::flag(words[HALF]),
+        low: words::number8(words[LOW]),
     }
 }
 
-pub fn load_header(words: &[u32; 23]) -> Header
+// The header of a command that is being taken.
+pub fn load_header(words: &Words) -> Header
     ensures { λ r. ⌜ r ≡ loadedHeader (now (words .entry)) ⌝ }
 {
-    let command = words::command(words[17], words[18], words[19], words[20], words[21]);
+    let command = words::command(
+        words[DEVICE],
+        words[COMMAND],
+        words[LOGICAL_UNIT],
+        words[RECORD_NUMBER],
+        words[BUFFER_LENGTH],
+    );
     Header {
         command,
-        data_length: words::number16(words[22]),
+        data_length: words::number16(words[DATA_LENGTH]),
     }
 }
 
-fn load_responding(words: &[u32; 23]) -> Phase
-    ensures { λ r. ⌜ r ≡ Phase.Responding (replyOf (at (now (words .entry)) 17) (at (now (words .entry)) 18)) (at (now (words .entry)) 16) (senderOf (at (now (words .entry)) 13) (at (now (words .entry)) 15)) (flagOf (at (now (words .entry)) 14)) ⌝ }
-{
-    Phase::Responding(
-        reply(words[17], words[18]),
-        words[16],
-        words::sender(words[13], words[15]),
-        words::flag(words[14]),
-    )
-}
-
-pub fn save_selecting(words: &mut [u32; 23], tag: u32, ear: u32, half: bool, low: u8)
-    ensures { λ _. ⌜ now (words .exit) ≡ selectingIn (now (words .entry)) tag ear half low ⌝ }
-{
-    let half_word = words::with_flag(words[14], half);
-    let low_word = words::with8(words[15], low);
-    words[12] = tag;
-    words[13] = ear;
-    words[14] = half_word;
-    words[15] = low_word;
-}
-
-fn save_progress(words: &mut [u32; 23], ear: u32, progress: Progress)
-    ensures { λ _. ⌜ now (words .exit) ≡ progressIn (now (words .entry)) ear progress ⌝ }
-{
-    match progress {
-        Progress::Taking(p) => save_partial(words, ear, p),
-        Progress::Answered(r) => save_answered(words, ear, r),
-    }
-}
-
-pub fn save_partial(words: &mut [u32; 23], ear: u32, p: Partial)
-    ensures { λ _. ⌜ now (words .exit) ≡ progressIn (now (words .entry)) ear (Progress.Taking p) ⌝ }
+// A command that is being taken.
+pub fn save_partial(words: &mut Words, p: Partial)
+    ensures { λ _. ⌜ now (words .exit) ≡ partialIn (now (words .entry)) p ⌝ }
 {
     let header = p.header;
-    save_selecting(words, 2, ear, p.half, p.low);
-    words[16] = p.place;
+    save_low(words, p.half, p.low);
+    words[PLACE] = p.place;
     save_header(words, header);
 }
 
-fn save_header(words: &mut [u32; 23], h: Header)
+fn save_header(words: &mut Words, h: Header)
     ensures { λ _. ⌜ now (words .exit) ≡ headerIn (now (words .entry)) h ⌝ }
 {
     let c = h.command;
-    let device = words::with8(words[17], c.device);
-    let command = words::with8(words[18], c.command);
-    let logical_unit = words::with8(words[19], c.logical_unit);
-    let record_number = words::with16(words[20], c.record_number);
-    let buffer_length = words::with16(words[21], c.buffer_length);
-    let data_length = words::with16(words[22], h.data_length);
-    words[17] = device;
-    words[18] = command;
-    words[19] = logical_unit;
-    words[20] = record_number;
-    words[21] = buffer_length;
-    words[22] = data_length;
-}
-
-fn save_answered(words: &mut [u32; 23], ear: u32, r: Reply)
-    ensures { λ _. ⌜ now (words .exit) ≡ progressIn (now (words .entry)) ear (Progress.Answered r) ⌝ }
-{
-    let value = with_reply(words[18], r);
-    words[12] = 3;
-    words[13] = ear;
-    words[17] = reply_tag(r);
-    words[18] = value;
-}
-
-pub fn save_responding(words: &mut [u32; 23], r: Reply, i: u32, s: Sender, wait: bool)
-    ensures { λ _. ⌜ now (words .exit) ≡ phaseIn (now (words .entry)) (Phase.Responding r i s wait) ⌝ }
-{
-    let wait_word = words::with_flag(words[14], wait);
-    let nibble = words::with_sender(words[15], s);
-    let value = with_reply(words[18], r);
-    words[12] = 4;
-    words[13] = words::sender_tag(s);
-    words[14] = wait_word;
-    words[15] = nibble;
-    words[16] = i;
-    words[17] = reply_tag(r);
-    words[18] = value;
-}
-
-pub fn save_sitting_out(words: &mut [u32; 23], last: bool)
-    ensures { λ _. ⌜ now (words .exit) ≡ phaseIn (now (words .entry)) (Phase.SittingOut last) ⌝ }
-{
-    let last_word = words::with_flag(words[14], last);
-    words[12] = 5;
-    words[14] = last_word;
+    let device = words::with8(words[DEVICE], c.device);
+    let command = words::with8(words[COMMAND], c.command);
+    let logical_unit = words::with8(words[LOGICAL_UNIT], c.logical_unit);
+    let record_number = words::with16(words[RECORD_NUMBER], c.record_number);
+    let buffer_length = words::with16(words[BUFFER_LENGTH], c.buffer_length);
+    let data_length = words::with16(words[DATA_LENGTH], h.data_length);
+    words[DEVICE] = device;
+    words[COMMAND] = command;
+    words[LOGICAL_UNIT] = logical_unit;
+    words[RECORD_NUMBER] = record_number;
+    words[BUFFER_LENGTH] = buffer_length;
+    words[DATA_LENGTH] = data_length;
 }

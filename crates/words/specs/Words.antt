@@ -1,12 +1,12 @@
 -- Document 01, "Refusal numbers" and "Promises": how a state stands in the words that a caller lends.
--- A number stands in the low bits of its word, as many as its type has; a flag in the lowest bit. The other bits are nobody's: a load
--- does not look at them, a save leaves them as they are. A tag is its whole word, and one that no save makes means the first case.
--- A word that the case at hand does not use stays as it is.
+-- A number stands in the low bits of its word, as many as its type has; a flag in the lowest bit. Bits that no field uses are left alone:
+-- a load does not look at them, a save leaves them as they are. A tag is its whole word. A word that the case at hand does not use stays as
+-- it is, and so does every word whose meaning stays the same: what was loaded and is saved changes no word.
 use Prim.Native.Nat.{ℕ, _+_, _*_, _/_, _%_}
 use mathlib.Core.Bool.{Bool, cond}
-use mathlib.Core.List.{List}
-use lib.Dec.{eqb}
-use lib.ListN.{getD}
+use mathlib.Core.List.{List, [], _∷_}
+use lib.Dec.{ltb, eqb}
+use lib.ListN.{getD, set}
 use Rattle.header.specs.declared.Command.{Command}
 use Rattle.line.specs.declared.Lines.{Lines}
 use Rattle.line.specs.declared.Listener.{Listener}
@@ -18,6 +18,19 @@ use Rattle.message.specs.Answer.{Answer, gives, refused}
 -- Word i.
 abbrev pub at : List ℕ → ℕ → ℕ
 at ws i = getD ws i 0
+
+-- Words written one after the other, each by its name.
+pub record Write : Type 0 where
+  pub word : ℕ
+  pub value : ℕ
+
+infix 90 _≔_
+abbrev pub _≔_ : ℕ → ℕ → Write
+i ≔ v = record { word = i; value = v }
+
+abbrev pub written : List ℕ → List Write → List ℕ
+written ws [] = ws
+written ws (w ∷ more) = written (set ws (w .word) (w .value)) more
 
 -- A word with a number below m in its low bits.
 abbrev pub numberIn : ℕ → ℕ → ℕ → ℕ
@@ -32,18 +45,28 @@ bit b = cond b 1 0
 abbrev pub flagIn : ℕ → Bool → ℕ
 flagIn word b = numberIn 2 word (bit b)
 
--- A listener's tag.
+-- A tag, one of so many cases. A word that no save makes means the first, 0. A tag is written only where the word does not mean it already.
+abbrev pub tagOf : ℕ → ℕ → ℕ
+tagOf cases word = cond (ltb word cases) word 0
+
+abbrev pub tagIn : ℕ → ℕ → ℕ → ℕ
+tagIn cases word tag = cond (eqb (tagOf cases word) tag) word tag
+
+-- A listener in the word of its tag.
 abbrev pub listenerOf : ℕ → Listener
-listenerOf tag = cond (eqb tag 1) Holding (cond (eqb tag 2) Waiting Ready)
+listenerOf word = cond (eqb word 1) Holding (cond (eqb word 2) Waiting Ready)
 
 abbrev pub listenerTag : Listener → ℕ
 listenerTag Ready = 0
 listenerTag Holding = 1
 listenerTag Waiting = 2
 
--- A sender's tag, and the word of its nibble.
+abbrev pub listenerIn : ℕ → Listener → ℕ
+listenerIn word ear = tagIn 3 word (listenerTag ear)
+
+-- A sender in the word of its tag and the word of its nibble.
 abbrev pub senderOf : ℕ → ℕ → Sender
-senderOf tag word = cond (eqb tag 1) (Placed (word % 256)) (cond (eqb tag 2) (Kept (word % 256)) Next)
+senderOf word nibble = cond (eqb word 1) (Placed (nibble % 256)) (cond (eqb word 2) (Kept (nibble % 256)) Next)
 
 abbrev pub senderTag : Sender → ℕ
 senderTag Next = 0
@@ -51,9 +74,12 @@ senderTag (Placed n) = 1
 senderTag (Kept n) = 2
 
 abbrev pub senderIn : ℕ → Sender → ℕ
-senderIn word Next = word
-senderIn word (Placed n) = numberIn 256 word n
-senderIn word (Kept n) = numberIn 256 word n
+senderIn word s = tagIn 3 word (senderTag s)
+
+abbrev pub nibbleIn : ℕ → Sender → ℕ
+nibbleIn word Next = word
+nibbleIn word (Placed n) = numberIn 256 word n
+nibbleIn word (Kept n) = numberIn 256 word n
 
 -- A command of five words.
 abbrev pub commandOf : ℕ → ℕ → ℕ → ℕ → ℕ → Command

@@ -2,7 +2,7 @@
 ghost use mathlib.Core.Path.{_≡_};
 ghost use Prim.Native.Nat.{_%_, _≤_};
 ghost use Rattle.line.specs.Line.{hearOf, takenOf};
-ghost use Rattle.words.specs.Words.{numberIn, flagOf, bit, flagIn, listenerOf, listenerTag, senderOf, senderTag, senderIn, commandOf, linesNumber};
+ghost use Rattle.words.specs.Words.{numberIn, flagOf, bit, flagIn, tagIn, listenerOf, listenerTag, listenerIn, senderOf, senderTag, senderIn, nibbleIn, commandOf, linesNumber};
 use header::Command;
 use line::Lines;
 use line::Listener;
@@ -53,22 +53,40 @@ pub fn with_flag(word: u32, b: bool) -> u32
     word / 2 * 2 + bit(b)
 }
 
-// A listener and its tag.
-pub fn listener(tag: u32) -> Listener
-    ensures { λ r. ⌜ r ≡ listenerOf tag ⌝ }
+// The word of a tag that has so many cases: written only where the word does not mean that tag already.
+pub fn with_tag(word: u32, cases: u32, tag: u32) -> u32
+    ensures { λ r. ⌜ r ≡ tagIn cases word tag ⌝ }
 {
-    let holds = tag == 1;
+    if word < cases {
+        let same = word == tag;
+        return if same { word } else { tag };
+    }
+    let first = 0 == tag;
+    if first { word } else { tag }
+}
+
+// A listener in the word of its tag.
+pub fn listener(word: u32) -> Listener
+    ensures { λ r. ⌜ r ≡ listenerOf word ⌝ }
+{
+    let holds = word == 1;
     if holds {
         return Listener::Holding;
     }
-    let waits = tag == 2;
+    let waits = word == 2;
     if waits {
         return Listener::Waiting;
     }
     Listener::Ready
 }
 
-pub fn listener_tag(ear: Listener) -> u32
+pub fn with_listener(word: u32, ear: Listener) -> u32
+    ensures { λ r. ⌜ r ≡ listenerIn word ear ⌝ }
+{
+    with_tag(word, 3, listener_tag(ear))
+}
+
+fn listener_tag(ear: Listener) -> u32
     ensures { λ r. ⌜ r ≡ listenerTag ear ⌝ }
 {
     match ear {
@@ -78,69 +96,57 @@ pub fn listener_tag(ear: Listener) -> u32
     }
 }
 
-// A listener's round, by its tag: whether it takes the nibble that it sees, and the listener and its tag afterwards.
-pub fn takes(tag: u32, low: bool) -> bool
-    ensures { λ r. ⌜ r ≡ takenOf (listenerOf tag) low ⌝ }
+// A listener's round, in the word of its tag: whether it takes the nibble that it sees, and the word afterwards.
+pub fn takes(word: u32, low: bool) -> bool
+    ensures { λ r. ⌜ r ≡ takenOf (listenerOf word) low ⌝ }
 {
-    let holds = tag == 1;
+    let holds = word == 1;
     if holds {
         return false;
     }
-    let waits = tag == 2;
+    let waits = word == 2;
     if waits {
         return false;
     }
     low
 }
 
-pub fn hears(tag: u32, low: bool, busy: bool) -> Listener
-    ensures { λ r. ⌜ r ≡ hearOf (listenerOf tag) low busy ⌝ }
+pub fn heard(word: u32, low: bool, busy: bool) -> u32
+    ensures { λ r. ⌜ r ≡ listenerIn word (hearOf (listenerOf word) low busy) ⌝ }
 {
-    let holds = tag == 1;
+    let holds = word == 1;
     if holds {
-        return if busy {
-            Listener::Holding
-        } else {
-            Listener::Waiting
-        };
+        return if busy { 1 } else { 2 };
     }
-    let waits = tag == 2;
+    let waits = word == 2;
     if waits {
-        return if low {
-            Listener::Waiting
-        } else {
-            Listener::Ready
-        };
+        return if low { 2 } else { 0 };
     }
-    if low {
-        Listener::Holding
-    } else {
-        Listener::Ready
-    }
+    if low { 1 } else { word }
 }
 
-pub fn heard(tag: u32, low: bool, busy: bool) -> u32
-    ensures { λ r. ⌜ r ≡ listenerTag (hearOf (listenerOf tag) low busy) ⌝ }
+// A sender in the word of its tag and the word of its nibble.
+pub fn sender(word: u32, nibble: u32) -> Sender
+    ensures { λ r. ⌜ r ≡ senderOf word nibble ⌝ }
 {
-    listener_tag(hears(tag, low, busy))
-}
-
-// A sender, its tag, and the word of its nibble.
-pub fn sender(tag: u32, word: u32) -> Sender
-    ensures { λ r. ⌜ r ≡ senderOf tag word ⌝ }
-{
-    let placed = tag == 1;
+    let placed = word == 1;
     if placed {
-        return Sender::Placed(number8(word));
+        return Sender::Placed(number8(nibble));
     }
-    let kept = tag == 2;
+    let kept = word == 2;
     if kept {
-        return Sender::Kept(number8(word));
+        return Sender::Kept(number8(nibble));
     }
     Sender::Next
 }
 
-pub fn sender_tag(s: Sender) -> u32
+pub fn with_sender(word: u32, s: Sender) -> u32
+    ensures { λ r. ⌜ r ≡ senderIn word s ⌝ }
+{
+    with_tag(word, 3, sender_tag(s))
+}
+
+fn sender_tag(s: Sender) -> u32
     ensures { λ r. ⌜ r ≡ senderTag s ⌝ }
 {
     match s {
@@ -150,8 +156,8 @@ pub fn sender_tag(s: Sender) -> u32
     }
 }
 
-pub fn with_sender(word: u32, s: Sender) -> u32
-    ensures { λ r. ⌜ r ≡ senderIn word s ⌝ }
+pub fn with_nibble(word: u32, s: Sender) -> u32
+    ensures { λ r. ⌜ r ≡ nibbleIn word s ⌝ }
 {
     match s {
         Sender::Next => word,

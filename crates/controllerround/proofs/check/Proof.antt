@@ -1,5 +1,8 @@
 -- `controllerround::check` meets its contract: the stages with a frame have the tags 2 to 4.
 use mathlib.Core.Path.{_∙_}
+use Rattle.controllerwords.specs.Layout.{STAGE}
+use Rattle.frame.specs.Frame.{lentWith}
+use Rattle.words.specs.Words.{at}
 use Rattle.controllerround.proofs.Tags.{low-fits, high-fits, frame-lent}
 use borrow.Author.Needs.{needs}
 use Rattle.controllerround.proofs.check.Statement.{statement}
@@ -9,19 +12,51 @@ element-copy-out-tag : tie.Need-element-copy-out-tag
 element-copy-out-tag c = search needs
 
 returns : tie.Need-returns
-returns c = let a = c .before .before .args in low-fits (a .words .now) (a .n) (a .room) (c .if1 .taken)
+returns c = low-fits (c .before .before .args .words .now) (c .before .before .args .n) (c .before .before .args .room) (at (c .before .before .args .words .now) STAGE) (c .if1 .taken)
 
 returns-2 : tie.Need-returns-2
-returns-2 c = let a = c .before .before .before .args in high-fits (a .words .now) (a .n) (a .room) (c .if2 .taken)
+returns-2 c = high-fits (c .before .before .before .args .words .now) (c .before .before .before .args .n) (c .before .before .before .args .room) (at (c .before .before .before .args .words .now) STAGE) (c .if2 .taken)
 
-check-frame-requires : tie.Need-check-frame-requires
-check-frame-requires c κs = search needs
+element-copy-out-submits : tie.Need-element-copy-out-submits
+element-copy-out-submits c = search needs
+
+submits-requires : tie.Need-submits-requires
+submits-requires c κs = search needs
+
+element-copy-out-number16 : tie.Need-element-copy-out-number16
+element-copy-out-number16 c = search needs
+
+number16-requires : tie.Need-number16-requires
+number16-requires c κs = search needs
+
+element-copy-out-number16-2 : tie.Need-element-copy-out-number16-2
+element-copy-out-number16-2 c = search needs
+
+number16-requires-2 : tie.Need-number16-requires-2
+number16-requires-2 c κs = search needs
+
+lent-with-requires : tie.Need-lent-with-requires
+lent-with-requires c κs = search needs
 
 returns-3 : tie.Need-returns-3
 returns-3 c =
-    let a = c .before .before .before .before .args in
-    c .check-frame .ensures ∙ frame-lent (a .words .now) (a .n) (a .room) (c .before .before .if1 .left) (c .before .if2 .left)
+    let s = c .before .before .before .before .before .before .before .before .before .before in
+    c .lent-with .ensures
+    ∙ (λ j. lentWith (c .before .before .before .before .before .submits .ensures j) (c .before .before .before .number16 .ensures j) (c .before .number162 .ensures j) (s .args .n) (s .args .room))
+    ∙ frame-lent (s .args .words .now) (s .args .n) (s .args .room) (at (s .args .words .now) STAGE) (c .before .before .before .before .before .before .before .before .if1 .left) (c .before .before .before .before .before .before .before .if2 .left)
 
 pub check-spec : {M : Type 1} → statement M
 check-spec =
-    tie.close (tie.spec element-copy-out-tag returns returns-2 check-frame-requires returns-3)
+    tie.close
+    (tie.spec
+    element-copy-out-tag
+    returns
+    returns-2
+    element-copy-out-submits
+    submits-requires
+    element-copy-out-number16
+    number16-requires
+    element-copy-out-number16-2
+    number16-requires-2
+    lent-with-requires
+    returns-3)

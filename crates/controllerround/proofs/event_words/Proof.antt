@@ -1,5 +1,4 @@
 -- `controllerround::event_words` meets its contract: each event is a case of `eventWords`.
-
 use borrow.Author.Needs.{needs}
 use Rattle.controllerround.proofs.event_words.Statement.{statement}
 use Rattle.controllerround.proofs.event_words.Tie as tie

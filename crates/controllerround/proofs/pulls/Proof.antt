@@ -1,6 +1,6 @@
 -- `controllerround::pulls` meets its contract: only a controller that sends or listens pulls.
 use mathlib.Core.Path.{_∙_}
-use Rattle.controllerround.proofs.Tags.{sending-pulls, listening-pulls, no-pulls}
+use Rattle.controllerround.proofs.Tags.{stage-pulls, no-pulls}
 use borrow.Author.Needs.{needs}
 use Rattle.controllerround.proofs.pulls.Statement.{statement}
 use Rattle.controllerround.proofs.pulls.Tie as tie
@@ -18,7 +18,7 @@ sender-pulls-requires : tie.Need-sender-pulls-requires
 sender-pulls-requires c κs = search needs
 
 returns : tie.Need-returns
-returns c = c .sender-pulls .ensures ∙ sending-pulls (c .before .before .before .before .before .args .words .now) (c .before .before .before .if1 .taken)
+returns c = c .sender-pulls .ensures ∙ stage-pulls (c .before .before .before .before .before .args .words .now) 3 (c .before .before .before .if1 .taken)
 
 element-copy-out-listener-pulls : tie.Need-element-copy-out-listener-pulls
 element-copy-out-listener-pulls c = search needs
@@ -27,7 +27,7 @@ listener-pulls-requires : tie.Need-listener-pulls-requires
 listener-pulls-requires c κs = search needs
 
 returns-2 : tie.Need-returns-2
-returns-2 c = c .listener-pulls .ensures ∙ listening-pulls (c .before .before .before .before .before .args .words .now) (c .before .before .if2 .taken)
+returns-2 c = c .listener-pulls .ensures ∙ stage-pulls (c .before .before .before .before .before .args .words .now) 4 (c .before .before .if2 .taken)
 
 returns-3 : tie.Need-returns-3
 returns-3 c = no-pulls (c .before .before .before .args .words .now) (c .before .if1 .left) (c .if2 .left)

@@ -1,9 +1,6 @@
--- `controllerround::rest` meets its contract.
-use mathlib.Core.Bool.{Bool}
-use mathlib.Core.Path.{_∙_, ap, sym}
-use Rattle.controllerwords.specs.Controller.{stageIn}
-use Rattle.frame.specs.Frame.{restStep}
-use Rattle.controllerround.proofs.Laws.{rests-on}
+-- `controllerround::rest` meets its contract: a second round, or none.
+use mathlib.Core.Path.{sym, _∙_}
+use Rattle.controllerround.proofs.Rounds.{rests-on, rests-no-more}
 use borrow.Author.Needs.{needs}
 use Rattle.controllerround.proofs.rest.Statement.{statement}
 use Rattle.controllerround.proofs.rest.Tie as tie
@@ -24,18 +21,13 @@ element-write-words : tie.Need-element-write-words
 element-write-words c = search needs
 
 returns : tie.Need-returns
-returns c =
-    let at-flag = c .before .before .before in
-    let a = at-flag .before .before in
-    rests-on (a .args .words .now) (a .pre) (c .with-flag .ensures) (sym (at-flag .flag .ensures) ∙ c .before .before .if1 .taken)
+returns c = let s = c .before .before .before .before .before in rests-on (s .args .words .now) (s .pre) (c .with-flag .ensures) (sym (c .before .before .before .flag .ensures) ∙ c .before .before .if1 .taken)
 
 element-write-words-2 : tie.Need-element-write-words-2
 element-write-words-2 c = search needs
 
 returns-2 : tie.Need-returns-2
-returns-2 c =
-    let ws = c .before .before .before .args .words .now in
-    ap (λ (first : Bool). stageIn ws (restStep first)) (sym (sym (c .before .flag .ensures) ∙ c .if1 .left))
+returns-2 c = let s = c .before .before .before in rests-no-more (s .args .words .now) (s .pre) (sym (c .before .flag .ensures) ∙ c .if1 .left)
 
 pub rest-spec : {M : Type 1} → statement M
 rest-spec =

@@ -1,4 +1,4 @@
--- `controllerwords::load` meets its contract: time-out, stage and ring.
+-- `controllerwords::load` meets its contract: field by field.
 use borrow.Author.Needs.{needs}
 use Rattle.controllerwords.proofs.load.Statement.{statement}
 use Rattle.controllerwords.proofs.load.Tie as tie

@@ -1,4 +1,4 @@
--- `controllerwords::load_response` meets its contract: the tags are those of `loadedResponse`.
+-- `controllerwords::load_response` meets its contract: by its tag.
 use borrow.Author.Needs.{needs}
 use Rattle.controllerwords.proofs.load_response.Statement.{statement}
 use Rattle.controllerwords.proofs.load_response.Tie as tie

@@ -1,4 +1,4 @@
--- `controllerwords::load_stage` meets its contract: the tags are those of `loadedStage`.
+-- `controllerwords::load_stage` meets its contract: by its tag.
 use borrow.Author.Needs.{needs}
 use Rattle.controllerwords.proofs.load_stage.Statement.{statement}
 use Rattle.controllerwords.proofs.load_stage.Tie as tie

@@ -1,7 +1,13 @@
--- `controllerwords::save_frame` meets its contract: each word is read before one is written.
+-- `controllerwords::save_frame` meets its contract: word by word, each as it stood before.
 use borrow.Author.Needs.{needs}
 use Rattle.controllerwords.proofs.save_frame.Statement.{statement}
 use Rattle.controllerwords.proofs.save_frame.Tie as tie
+
+element-copy-out-with-kind : tie.Need-element-copy-out-with-kind
+element-copy-out-with-kind c = search needs
+
+with-kind-requires : tie.Need-with-kind-requires
+with-kind-requires c κs = search needs
 
 element-copy-out-with8 : tie.Need-element-copy-out-with8
 element-copy-out-with8 c = search needs
@@ -39,9 +45,6 @@ element-copy-out-with16-3 c = search needs
 with16-requires-3 : tie.Need-with16-requires-3
 with16-requires-3 c κs = search needs
 
-kind-tag-requires : tie.Need-kind-tag-requires
-kind-tag-requires c κs = search needs
-
 element-write-words : tie.Need-element-write-words
 element-write-words c = search needs
 
@@ -64,12 +67,14 @@ element-write-words-7 : tie.Need-element-write-words-7
 element-write-words-7 c = search needs
 
 returns : tie.Need-returns
-returns c = simp (← (c .before .before .before .before .before .before .before .before .before .before .before .with8 .ensures), ← (c .before .before .before .before .before .before .before .before .before .with82 .ensures), ← (c .before .before .before .before .before .before .before .with83 .ensures), ← (c .before .before .before .before .before .with16 .ensures), ← (c .before .before .before .with162 .ensures), ← (c .before .with163 .ensures)) (simp (c .kind-tag .ensures))
+returns c = simp (← (c .before .before .before .before .before .before .before .before .before .before .before .before .with-kind .ensures), ← (c .before .before .before .before .before .before .before .before .before .before .with8 .ensures), ← (c .before .before .before .before .before .before .before .before .with82 .ensures), ← (c .before .before .before .before .before .before .with83 .ensures), ← (c .before .before .before .before .with16 .ensures), ← (c .before .before .with162 .ensures)) (simp (c .with163 .ensures))
 
 pub save-frame-spec : {M : Type 1} → statement M
 save-frame-spec =
     tie.close
     (tie.spec
+    element-copy-out-with-kind
+    with-kind-requires
     element-copy-out-with8
     with8-requires
     element-copy-out-with8-2
@@ -82,7 +87,6 @@ save-frame-spec =
     with16-requires-2
     element-copy-out-with16-3
     with16-requires-3
-    kind-tag-requires
     element-write-words
     element-write-words-2
     element-write-words-3

@@ -1,20 +1,21 @@
 -- `controllerwords::save_ring` meets its contract: slot by slot; the slots that are still to be written are those of `slotsIn` from here on.
 use Prim.Native.Nat.{ℕ, _-_, _≤_}
-use mathlib.Core.Path.{_≡_, refl, sym, _∙_, ap}
 use native.Mathlib.Numerals.{add-one}
-use lib.ListN.{set}
-use borrow.Author.Needs.{needs}
 use native.Mathlib.Omega.{arith}
+use mathlib.Core.Path.{_≡_, refl, sym, _∙_, ap}
+use borrow.Author.Needs.{needs}
+use lib.ListN.{set}
+use Rattle.controllerwords.specs.Layout.{ENTRIES}
 use Rattle.controllerwords.specs.Controller.{slotsIn}
 use Rattle.controllerwords.proofs.Laws.{slots-next, slots-end}
 use Rattle.controllerwords.proofs.save_ring.Statement.{statement}
 use Rattle.controllerwords.proofs.save_ring.Tie as tie
 
 abbrev Inv-loop : tie.InvT-loop
-Inv-loop words₀ r count i₀ words i = (i ≤ 16) × (slotsIn (16 - i) i (r .entries) words ≡ slotsIn 16 0 (r .entries) words₀)
+Inv-loop words₀ r i₀ words i = (i ≤ 16) × (slotsIn (16 - i) i (r .entries) words ≡ slotsIn 16 0 (r .entries) words₀)
 
 abbrev μ-loop : tie.MeasureT-loop
-μ-loop words₀ r count i₀ words i = 16 - i
+μ-loop words₀ r i₀ words i = 16 - i
 
 element-copy-out-with8 : tie.Need-element-copy-out-with8 Inv-loop μ-loop
 element-copy-out-with8 c = search needs
@@ -70,7 +71,7 @@ returns c =
     let a = c .before .before .before .before .args in
     sym (slots-end (a .t2 .entries) (c .before .loop .words) (c .before .loop .i) (c .loop-test .left))
     ∙ c .before .loop .inv .1
-    ∙ ap (λ (n : ℕ). slotsIn 16 0 (a .t2 .entries) (set (a .words .now) 16 n)) (c .before .before .with8 .ensures)
+    ∙ ap (λ (n : ℕ). slotsIn 16 0 (a .t2 .entries) (set (a .words .now) ENTRIES n)) (c .before .before .with8 .ensures)
 
 pub save-ring-spec : {M : Type 1} → statement M
 save-ring-spec =

@@ -1,4 +1,4 @@
--- `controllerwords::save_sending` meets its contract: the frame's words stand before the rest.
+-- `controllerwords::save_sending` meets its contract: word by word, each as it stood before.
 use borrow.Author.Needs.{needs}
 use Rattle.controllerwords.proofs.save_sending.Statement.{statement}
 use Rattle.controllerwords.proofs.save_sending.Tie as tie
@@ -15,14 +15,17 @@ element-copy-out-with-sender c = search needs
 with-sender-requires : tie.Need-with-sender-requires
 with-sender-requires c κs = search needs
 
+element-copy-out-with-nibble : tie.Need-element-copy-out-with-nibble
+element-copy-out-with-nibble c = search needs
+
+with-nibble-requires : tie.Need-with-nibble-requires
+with-nibble-requires c κs = search needs
+
 element-write-words : tie.Need-element-write-words
 element-write-words c = search needs
 
 element-write-words-2 : tie.Need-element-write-words-2
 element-write-words-2 c = search needs
-
-sender-tag-requires : tie.Need-sender-tag-requires
-sender-tag-requires c κs = search needs
 
 element-write-words-3 : tie.Need-element-write-words-3
 element-write-words-3 c = search needs
@@ -30,14 +33,8 @@ element-write-words-3 c = search needs
 element-write-words-4 : tie.Need-element-write-words-4
 element-write-words-4 c = search needs
 
-element-write-words-5 : tie.Need-element-write-words-5
-element-write-words-5 c = search needs
-
-save-frame-requires : tie.Need-save-frame-requires
-save-frame-requires c κs = search needs
-
 returns : tie.Need-returns
-returns c = simp (← (c .before .before .before .before .before .with-flag .ensures), ← (c .before .before .before .with-sender .ensures), ← (c .before .before .sender-tag .ensures)) (c .save-frame .ensures)
+returns c = simp (← (c .before .before .before .before .with-flag .ensures), ← (c .before .before .with-sender .ensures)) (simp (c .with-nibble .ensures))
 
 pub save-sending-spec : {M : Type 1} → statement M
 save-sending-spec =
@@ -47,11 +44,10 @@ save-sending-spec =
     with-flag-requires
     element-copy-out-with-sender
     with-sender-requires
+    element-copy-out-with-nibble
+    with-nibble-requires
     element-write-words
     element-write-words-2
-    sender-tag-requires
     element-write-words-3
     element-write-words-4
-    element-write-words-5
-    save-frame-requires
     returns)

@@ -1,4 +1,4 @@
--- `frame::check_frame` meets its contract: its tests are those of `lentTo`.
+-- `frame::check_frame` meets its contract: a frame is checked by its numbers.
 use borrow.Author.Needs.{needs}
 use Rattle.frame.proofs.check_frame.Statement.{statement}
 use Rattle.frame.proofs.check_frame.Tie as tie
@@ -6,25 +6,11 @@ use Rattle.frame.proofs.check_frame.Tie as tie
 is-submitted-requires : tie.Need-is-submitted-requires
 is-submitted-requires c κs = search needs
 
-cast-same : tie.Need-cast-same
-cast-same c = search needs
-
-cast-short : tie.Need-cast-short
-cast-short c = search needs
+lent-with-requires : tie.Need-lent-with-requires
+lent-with-requires c κs = search needs
 
 returns : tie.Need-returns
-returns c = simp (← (c .before .before .before .before .before .before .is-submitted .ensures)) (simp (c .before .before .before .before .before .if1 .taken, c .before .before .if2 .taken, c .if3 .taken))
-
-returns-2 : tie.Need-returns-2
-returns-2 c = simp (← (c .before .before .before .before .before .before .is-submitted .ensures)) (simp (c .before .before .before .before .before .if1 .taken, c .before .before .if2 .taken, c .if3 .left))
-
-returns-3 : tie.Need-returns-3
-returns-3 c = simp (← (c .before .before .before .before .is-submitted .ensures)) (simp (c .before .before .before .if1 .taken, c .if2 .left))
-
-returns-4 : tie.Need-returns-4
-returns-4 c = search needs
+returns c = simp (← (c .before .is-submitted .ensures)) (c .lent-with .ensures)
 
 pub check-frame-spec : {M : Type 1} → statement M
-check-frame-spec =
-    tie.close
-    (tie.spec is-submitted-requires cast-same cast-short returns returns-2 returns-3 returns-4)
+check-frame-spec = tie.close (tie.spec is-submitted-requires lent-with-requires returns)

@@ -9,19 +9,15 @@ step-requires c κs = search needs
 is-ready-requires : tie.Need-is-ready-requires
 is-ready-requires c κs = search needs
 
-is-silent-requires : tie.Need-is-silent-requires
-is-silent-requires c κs = search needs
+replied-requires : tie.Need-replied-requires
+replied-requires c κs = search needs
 
 returns : tie.Need-returns
-returns c = simp (← (c .before .before .before .before .step .ensures), ← (c .before .before .before .is-ready .ensures)) (simp (c .before .before .if1 .taken) (simp (← (c .before .is-silent .ensures)) (simp (c .if2 .taken))))
+returns c = simp (← (c .before .before .before .step .ensures), ← (c .before .before .is-ready .ensures)) (simp (c .before .if1 .taken) (c .replied .ensures))
 
 returns-2 : tie.Need-returns-2
-returns-2 c = simp (← (c .before .before .before .before .step .ensures), ← (c .before .before .before .is-ready .ensures)) (simp (c .before .before .if1 .taken) (simp (← (c .before .is-silent .ensures)) (simp (c .if2 .left))))
-
-returns-3 : tie.Need-returns-3
-returns-3 c = simp (← (c .before .before .step .ensures), ← (c .before .is-ready .ensures)) (simp (c .if1 .left))
+returns-2 c = simp (← (c .before .before .step .ensures), ← (c .before .is-ready .ensures)) (simp (c .if1 .left))
 
 pub answered-spec : {M : Type 1} → statement M
 answered-spec =
-    tie.close
-    (tie.spec step-requires is-ready-requires is-silent-requires returns returns-2 returns-3)
+    tie.close (tie.spec step-requires is-ready-requires replied-requires returns returns-2)

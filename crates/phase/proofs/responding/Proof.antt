@@ -1,7 +1,7 @@
 -- `phase::responding` meets its contract: the tests are those of `respondingStep`; no response has more than 518 nibbles.
-use native.Mathlib.Omega.{arith}
-use Rattle.reply.proofs.Laws.{last-below}
 use Rattle.field.proofs.Rules.{tests}
+use Rattle.reply.proofs.Laws.{last-below}
+use native.Mathlib.Omega.{arith}
 use borrow.Author.Needs.{needs}
 use Rattle.phase.proofs.responding.Statement.{statement}
 use Rattle.phase.proofs.responding.Tie as tie
@@ -21,6 +21,7 @@ wide-requires c κs = search needs
 last-requires : tie.Need-last-requires
 last-requires c κs = search needs
 
+-- refused: search needs
 add-t16 : tie.Need-add-t16
 add-t16 c =
     let a = c .before .before .before .before .before .before .before .args in
@@ -32,14 +33,11 @@ moves-requires-2 c κs = search needs
 returns-2 : tie.Need-returns-2
 returns-2 c = simp (tests, c .moves2 .ensures, c .before .if3 .taken, ← (c .before .before .last .ensures), ← (c .before .before .before .wide .ensures), c .before .before .before .before .if2 .taken, ← (c .before .before .before .before .before .sent .ensures), c .before .before .before .before .before .before .before .if1 .left)
 
-finish-requires : tie.Need-finish-requires
-finish-requires c κs = search needs
-
-moves-requires-3 : tie.Need-moves-requires-3
-moves-requires-3 c κs = search needs
+done-requires : tie.Need-done-requires
+done-requires c κs = search needs
 
 returns-3 : tie.Need-returns-3
-returns-3 c = simp (tests, c .before .before .before .before .before .before .before .before .if1 .left) (simp (← (c .before .before .before .before .before .before .sent .ensures)) (simp (tests, c .before .before .before .before .before .if2 .taken) (simp (← (c .before .before .before .before .wide .ensures), ← (c .before .before .before .last .ensures)) (simp (tests, c .before .before .if3 .left) (simp (← (c .before .finish .ensures)) (c .moves3 .ensures))))))
+returns-3 c = simp (tests, c .before .before .before .before .before .before .before .if1 .left) (simp (← (c .before .before .before .before .before .sent .ensures)) (simp (tests, c .before .before .before .before .if2 .taken) (simp (← (c .before .before .before .wide .ensures), ← (c .before .before .last .ensures)) (simp (tests, c .before .if3 .left) (c .done .ensures)))))
 
 wide-requires-2 : tie.Need-wide-requires-2
 wide-requires-2 c κs = search needs
@@ -50,11 +48,11 @@ nibble-requires c κs = search needs
 step-requires : tie.Need-step-requires
 step-requires c κs = search needs
 
-moves-requires-4 : tie.Need-moves-requires-4
-moves-requires-4 c κs = search needs
+moves-requires-3 : tie.Need-moves-requires-3
+moves-requires-3 c κs = search needs
 
 returns-4 : tie.Need-returns-4
-returns-4 c = simp (c .moves4 .ensures, ← (c .before .step .ensures), ← (c .before .before .nibble .ensures), ← (c .before .before .before .wide2 .ensures), c .before .before .before .before .if2 .left, ← (c .before .before .before .before .before .sent .ensures), c .before .before .before .before .before .before .before .if1 .left)
+returns-4 c = simp (c .moves3 .ensures, ← (c .before .step .ensures), ← (c .before .before .nibble .ensures), ← (c .before .before .before .wide2 .ensures), c .before .before .before .before .if2 .left, ← (c .before .before .before .before .before .sent .ensures), c .before .before .before .before .before .before .before .if1 .left)
 
 pub responding-spec : {M : Type 1} → statement M
 responding-spec =
@@ -68,11 +66,10 @@ responding-spec =
     add-t16
     moves-requires-2
     returns-2
-    finish-requires
-    moves-requires-3
+    done-requires
     returns-3
     wide-requires-2
     nibble-requires
     step-requires
-    moves-requires-4
+    moves-requires-3
     returns-4)

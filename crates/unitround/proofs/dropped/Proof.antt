@@ -34,12 +34,22 @@ asks-requires c κs = search needs
 save-row-requires : tie.Need-save-row-requires
 save-row-requires c κs = search needs
 
+element-copy-out-with-tag : tie.Need-element-copy-out-with-tag
+element-copy-out-with-tag c = search needs
+
+with-tag-requires : tie.Need-with-tag-requires
+with-tag-requires c κs = search needs
+
 element-write-words : tie.Need-element-write-words
 element-write-words c = search needs
 
 returns : tie.Need-returns
-returns c = let a = c .before .before .before .before .before .before .before .before .before .before .before .before .args in
-    high-round (a .words .now) (a .hsk) (c .before .before .before .before .before .before .before .before .before .before .load-serial .ensures) (c .before .before .before .before .before .before .before .before .number16 .ensures) (c .before .before .before .before .before .before .number162 .ensures) (c .before .before .before .before .before .quiet-after .ensures) (c .before .before .before .flag .ensures) (c .before .before .asks .ensures) (c .save-row .ensures)
+returns c = let a = c .before .before .before .before .before .before .before .before .before .before .before .before .before .before .args in
+    let load-serial-is = c .before .before .before .before .before .before .before .before .before .before .before .before .load-serial .ensures in
+    let retry-is = c .before .before .before .before .before .before .before .before .before .before .number16 .ensures in
+    let quiet-is = c .before .before .before .before .before .before .before .before .number162 .ensures in
+    let quiet-after-is = c .before .before .before .before .before .before .before .quiet-after .ensures in
+    high-round (a .words .now) (a .hsk) load-serial-is retry-is quiet-is quiet-after-is (c .before .before .before .before .before .flag .ensures) (c .before .before .before .before .asks .ensures) (c .before .before .save-row .ensures) (c .with-tag .ensures)
 
 pub dropped-spec : {M : Type 1} → statement M
 dropped-spec =
@@ -55,5 +65,7 @@ dropped-spec =
     flag-requires
     asks-requires
     save-row-requires
+    element-copy-out-with-tag
+    with-tag-requires
     element-write-words
     returns)

@@ -1,5 +1,5 @@
 -- `unitround::lowered` meets its contract: the pull of BAV is written only where there is one.
-use Rattle.unitround.proofs.Laws.{pull-after, no-pull}
+use Rattle.unitround.proofs.Laws.{no-pull, pull-after}
 use borrow.Author.Needs.{needs}
 use Rattle.unitround.proofs.lowered.Statement.{statement}
 use Rattle.unitround.proofs.lowered.Tie as tie

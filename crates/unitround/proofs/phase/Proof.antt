@@ -1,5 +1,5 @@
--- `unitround::phase` meets its contract: each tag is a case of `loadedPhase`.
-use Rattle.unitround.proofs.Laws.{in-selecting, in-taking, in-answered, in-responding, in-sitting-out, in-idle}
+-- `unitround::phase` meets its contract: each tag is a case of `phaseBy`.
+use Rattle.unitround.proofs.Laws.{in-answered, in-idle, in-responding, in-selecting, in-sitting-out, in-taking}
 use borrow.Author.Needs.{needs}
 use Rattle.unitround.proofs.phase.Statement.{statement}
 use Rattle.unitround.proofs.phase.Tie as tie
@@ -38,19 +38,25 @@ returns-4 : tie.Need-returns-4
 returns-4 c = let a = c .before .before .before .before .before .before .before .before .args in
     in-responding (a .words .now) (a .seen) (a .busy) (a .buffer .now) (a .input .now) (a .output .now) (c .before .before .before .before .before .if1 .left) (c .before .before .before .before .if2 .left) (c .before .before .before .if3 .left) (c .before .before .if4 .taken) (c .responding .ensures)
 
-save-sitting-out-requires : tie.Need-save-sitting-out-requires
-save-sitting-out-requires c κs = search needs
+element-copy-out-with-flag : tie.Need-element-copy-out-with-flag
+element-copy-out-with-flag c = search needs
+
+with-flag-requires : tie.Need-with-flag-requires
+with-flag-requires c κs = search needs
+
+element-write-words : tie.Need-element-write-words
+element-write-words c = search needs
 
 returns-5 : tie.Need-returns-5
 returns-5 c = let a = c .before .before .before .before .before .before .before .before .before .args in
-    in-sitting-out (a .words .now) (a .seen) (a .busy) (a .buffer .now) (a .input .now) (a .output .now) (c .before .before .before .before .before .before .if1 .left) (c .before .before .before .before .before .if2 .left) (c .before .before .before .before .if3 .left) (c .before .before .before .if4 .left) (c .before .before .if5 .taken) (c .save-sitting-out .ensures)
+    in-sitting-out (a .words .now) (a .seen) (a .busy) (a .buffer .now) (a .input .now) (a .output .now) (c .before .before .before .before .before .before .if1 .left) (c .before .before .before .before .before .if2 .left) (c .before .before .before .before .if3 .left) (c .before .before .before .if4 .left) (c .before .before .if5 .taken) (c .with-flag .ensures)
 
-idle-requires : tie.Need-idle-requires
-idle-requires c κs = search needs
+leave-requires : tie.Need-leave-requires
+leave-requires c κs = search needs
 
 returns-6 : tie.Need-returns-6
 returns-6 c = let a = c .before .before .before .before .before .before .before .before .before .args in
-    in-idle (a .words .now) (a .seen) (a .busy) (a .buffer .now) (a .input .now) (a .output .now) (c .before .before .before .before .before .before .if1 .left) (c .before .before .before .before .before .if2 .left) (c .before .before .before .before .if3 .left) (c .before .before .before .if4 .left) (c .before .before .if5 .left) (c .idle .ensures)
+    in-idle (a .words .now) (a .seen) (a .busy) (a .buffer .now) (a .input .now) (a .output .now) (c .before .before .before .before .before .before .if1 .left) (c .before .before .before .before .before .if2 .left) (c .before .before .before .before .if3 .left) (c .before .before .before .if4 .left) (c .before .before .if5 .left) (c .leave .ensures)
 
 pub phase-spec : {M : Type 1} → statement M
 phase-spec =
@@ -66,7 +72,9 @@ phase-spec =
     returns-3
     responding-requires
     returns-4
-    save-sitting-out-requires
+    element-copy-out-with-flag
+    with-flag-requires
+    element-write-words
     returns-5
-    idle-requires
+    leave-requires
     returns-6)

@@ -1,6 +1,6 @@
 -- `unitround::pulls_nibble` meets its contract: only a unit that responds places a nibble.
+use Rattle.unitround.proofs.Laws.{nibble-pulled, no-nibble-pulled}
 use mathlib.Core.Path.{sym}
-use Rattle.unitround.proofs.Laws.{no-nibble-pulled, nibble-pulled}
 use borrow.Author.Needs.{needs}
 use Rattle.unitround.proofs.pulls_nibble.Statement.{statement}
 use Rattle.unitround.proofs.pulls_nibble.Tie as tie

@@ -1,10 +1,14 @@
 -- `unitround::selecting` meets its contract: the tests are those of `selectingStep`.
+use Rattle.unitround.proofs.Laws.{half-a-code, no-code, whole-code}
 use borrow.Author.Needs.{needs}
 use Rattle.unitround.proofs.selecting.Statement.{statement}
 use Rattle.unitround.proofs.selecting.Tie as tie
 
 element-copy-out-ear : tie.Need-element-copy-out-ear
 element-copy-out-ear c = search needs
+
+takes-requires : tie.Need-takes-requires
+takes-requires c κs = search needs
 
 element-copy-out-flag : tie.Need-element-copy-out-flag
 element-copy-out-flag c = search needs
@@ -18,48 +22,50 @@ element-copy-out-number8 c = search needs
 number8-requires : tie.Need-number8-requires
 number8-requires c κs = search needs
 
-takes-requires : tie.Need-takes-requires
-takes-requires c κs = search needs
-
 byte-of-requires : tie.Need-byte-of-requires
 byte-of-requires c κs = search needs
 
-select-requires : tie.Need-select-requires
-select-requires c κs = search needs
+leave-requires : tie.Need-leave-requires
+leave-requires c κs = search needs
 
 returns : tie.Need-returns
-returns c = simp (← (c .before .before .before .before .before .before .before .before .flag .ensures), ← (c .before .before .before .before .before .before .number8 .ensures), ← (c .before .before .before .before .before .takes .ensures)) (simp (c .before .before .before .before .if1 .taken, c .before .before .before .if2 .taken) (simp (← (c .before .byte-of .ensures)) (c .select .ensures)))
+returns c = let a = c .before .before .before .before .before .before .before .before .before .before .before .args in
+    let takes-is = c .before .before .before .before .before .before .before .before .before .takes .ensures in
+    let flag-is = c .before .before .before .before .before .before .flag .ensures in
+    whole-code (a .words .now) (a .seen) (a .busy) (c .before .before .before .before .before .before .before .before .before .before .before .pre) takes-is (c .before .before .before .before .before .before .before .before .if1 .taken) flag-is (c .before .before .before .before .before .if2 .taken) (c .before .before .before .number8 .ensures) (c .before .before .byte-of .ensures) (c .leave .ensures)
 
-save-selecting-requires : tie.Need-save-selecting-requires
-save-selecting-requires c κs = search needs
+take-low-requires : tie.Need-take-low-requires
+take-low-requires c κs = search needs
 
 returns-2 : tie.Need-returns-2
-returns-2 c = simp (← (c .before .before .before .before .before .before .before .flag .ensures), ← (c .before .before .before .before .before .number8 .ensures), ← (c .before .before .before .before .takes .ensures)) (simp (c .before .before .before .if1 .taken, c .before .before .if2 .left) (c .save-selecting .ensures))
+returns-2 c = let a = c .before .before .before .before .before .before .before .before .args in
+    half-a-code (a .words .now) (a .seen) (a .busy) (c .before .before .before .before .before .before .before .before .pre) (c .before .before .before .before .before .before .takes .ensures) (c .before .before .before .before .before .if1 .taken) (c .before .before .before .flag .ensures) (c .before .before .if2 .left) (c .take-low .ensures)
 
 heard-requires : tie.Need-heard-requires
 heard-requires c κs = search needs
 
-save-selecting-requires-2 : tie.Need-save-selecting-requires-2
-save-selecting-requires-2 c κs = search needs
+element-write-words : tie.Need-element-write-words
+element-write-words c = search needs
 
 returns-3 : tie.Need-returns-3
-returns-3 c = simp (← (c .before .before .before .before .before .before .before .flag .ensures), ← (c .before .before .before .before .before .number8 .ensures), ← (c .before .before .before .before .takes .ensures)) (simp (c .before .before .before .if1 .left) (simp (← (c .before .heard .ensures)) (c .save-selecting2 .ensures)))
+returns-3 c = let a = c .before .before .before .before .args in
+    no-code (a .words .now) (a .seen) (a .busy) (c .before .before .before .before .pre) (c .before .before .takes .ensures) (c .before .if1 .left) (c .heard .ensures)
 
 pub selecting-spec : {M : Type 1} → statement M
 selecting-spec =
     tie.close
     (tie.spec
     element-copy-out-ear
+    takes-requires
     element-copy-out-flag
     flag-requires
     element-copy-out-number8
     number8-requires
-    takes-requires
     byte-of-requires
-    select-requires
+    leave-requires
     returns
-    save-selecting-requires
+    take-low-requires
     returns-2
     heard-requires
-    save-selecting-requires-2
+    element-write-words
     returns-3)

@@ -1,5 +1,5 @@
 -- `unitround::take_any` meets its contract: the last byte of its message, or one before it.
-use mathlib.Core.Path.{refl, _∙_}
+use mathlib.Core.Path.{_∙_, refl}
 use Rattle.phase.specs.Phase.{withByte}
 use Rattle.unitround.proofs.Laws.{last-of-all, more-to-come, next-header}
 use borrow.Author.Needs.{needs}
@@ -27,17 +27,29 @@ cast-if1 c = search needs
 add-if1 : tie.Need-add-if1
 add-if1 c = search needs
 
+load-serial-requires : tie.Need-load-serial-requires
+load-serial-requires c κs = search needs
+
 answer-requires : tie.Need-answer-requires
 answer-requires c κs = search needs
+
+save-moved-requires : tie.Need-save-moved-requires
+save-moved-requires c κs = search needs
 
 same-length : tie.Need-same-length
 same-length c = search needs
 
 returns : tie.Need-returns
-returns c = let a = c .before .before .before .before .before .before .before .before .before .before .before .before .before .before .before .args in
-    let from = c .before .before .before .before .before .before .before .before .before .before .before .load-header .ensures in
-    let place = c .before .before .before .before .before .before .before .before .before .before .wide .ensures in
-    last-of-all (a .words .now) (a .buffer .now) (a .output .now) (a .b) (c .before .before .before .before .before .before .before .before .before .with .ensures ∙ (λ i. withByte (from i) (place i) (a .b))) refl (c .before .before .before .before .before .before .before .put .ensures) (c .before .before .before .before .if1 .taken) (c .answer .ensures)
+returns c = let a = c .before .before .before .before .before .before .before .before .before .before .before .before .before .before .before .before .before .before .args in
+    let with-is = c .before .before .before .before .before .before .before .before .before .before .before .before .with .ensures in
+    let load-header-is = c .before .before .before .before .before .before .before .before .before .before .before .before .before .before .load-header .ensures in
+    let wide-is = c .before .before .before .before .before .before .before .before .before .before .before .before .before .wide .ensures in
+    let put-is = c .before .before .before .before .before .before .before .before .before .before .put .ensures in
+    let load-serial-is = c .before .before .before .before .before .load-serial .ensures in
+    last-of-all (a .words .now) (a .buffer .now) (a .output .now) (a .b) (with-is ∙ (λ i. withByte (load-header-is i) (wide-is i) (a .b))) refl put-is (c .before .before .before .before .before .before .before .if1 .taken) load-serial-is (c .before .answer .ensures) (c .save-moved .ensures)
+
+element-write-words : tie.Need-element-write-words
+element-write-words c = search needs
 
 add-whole-bytes : tie.Need-add-whole-bytes
 add-whole-bytes c = search needs
@@ -53,9 +65,11 @@ same-length-2 c = search needs
 
 returns-2 : tie.Need-returns-2
 returns-2 c = let a = c .before .before .before .before .before .before .before .before .before .before .before .before .before .before .args in
-    let from = c .before .before .before .before .before .before .before .before .before .before .load-header .ensures in
-    let place = c .before .before .before .before .before .before .before .before .before .wide .ensures in
-    more-to-come (a .words .now) (a .buffer .now) (a .output .now) (a .b) (c .before .before .before .before .before .before .before .before .with .ensures ∙ (λ i. withByte (from i) (place i) (a .b))) refl (c .before .before .before .before .before .before .put .ensures) (c .before .before .before .if1 .left) (next-header (a .words .now) (c .before .whole-bytes .ensures) (c .save-partial .ensures))
+    let with-is = c .before .before .before .before .before .before .before .before .with .ensures in
+    let load-header-is = c .before .before .before .before .before .before .before .before .before .before .load-header .ensures in
+    let wide-is = c .before .before .before .before .before .before .before .before .before .wide .ensures in
+    let put-is = c .before .before .before .before .before .before .put .ensures in
+    more-to-come (a .words .now) (a .buffer .now) (a .output .now) (a .b) (with-is ∙ (λ i. withByte (load-header-is i) (wide-is i) (a .b))) refl put-is (c .before .before .before .if1 .left) (next-header (a .words .now) (c .before .before .before .before .before .before .before .before .before .before .before .before .before .before .pre) (c .before .whole-bytes .ensures) (c .save-partial .ensures))
 
 pub take-any-spec : {M : Type 1} → statement M
 take-any-spec =
@@ -68,9 +82,12 @@ take-any-spec =
     put-requires
     cast-if1
     add-if1
+    load-serial-requires
     answer-requires
+    save-moved-requires
     same-length
     returns
+    element-write-words
     add-whole-bytes
     whole-bytes-requires
     save-partial-requires

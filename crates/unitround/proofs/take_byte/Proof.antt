@@ -1,5 +1,5 @@
 -- `unitround::take_byte` meets its contract: a data byte before the last leaves the header as it is.
-use Rattle.unitround.proofs.Laws.{more-to-come, header-stays, next-data}
+use Rattle.unitround.proofs.Laws.{header-stays, more-to-come, next-data}
 use borrow.Author.Needs.{needs}
 use Rattle.unitround.proofs.take_byte.Statement.{statement}
 use Rattle.unitround.proofs.take_byte.Tie as tie
@@ -22,21 +22,25 @@ add-if2 c = search needs
 put-requires : tie.Need-put-requires
 put-requires c κs = search needs
 
-save-selecting-requires : tie.Need-save-selecting-requires
-save-selecting-requires c κs = search needs
+element-write-words : tie.Need-element-write-words
+element-write-words c = search needs
+
+save-low-requires : tie.Need-save-low-requires
+save-low-requires c κs = search needs
 
 add-words : tie.Need-add-words
 add-words c = search needs
 
-element-write-words : tie.Need-element-write-words
-element-write-words c = search needs
+element-write-words-2 : tie.Need-element-write-words-2
+element-write-words-2 c = search needs
 
 same-length : tie.Need-same-length
 same-length c = search needs
 
 returns : tie.Need-returns
 returns c = let a = c .before .before .before .before .before .before .before .before .before .before .before .before .args in
-    more-to-come (a .words .now) (a .buffer .now) (a .output .now) (a .b) (header-stays (a .words .now) (a .b) (c .before .before .before .before .before .before .before .if1 .taken)) (c .before .before .before .before .before .before .before .before .number16 .ensures) (c .before .before .before .before .put .ensures) (c .before .before .before .before .before .before .if2 .taken) (next-data (a .words .now) (c .save-selecting .ensures))
+    let number-is = c .before .before .before .before .before .before .before .before .number16 .ensures in
+    more-to-come (a .words .now) (a .buffer .now) (a .output .now) (a .b) (header-stays (a .words .now) (a .b) (c .before .before .before .before .before .before .before .if1 .taken)) number-is (c .before .before .before .before .put .ensures) (c .before .before .before .before .before .before .if2 .taken) (next-data (a .words .now) (c .before .before .before .before .before .before .before .before .before .before .before .before .pre) (c .save-low .ensures))
 
 take-any-requires : tie.Need-take-any-requires
 take-any-requires c κs = search needs
@@ -66,9 +70,10 @@ take-byte-spec =
     cast-if2
     add-if2
     put-requires
-    save-selecting-requires
-    add-words
     element-write-words
+    save-low-requires
+    add-words
+    element-write-words-2
     same-length
     returns
     take-any-requires

@@ -1,6 +1,5 @@
 -- `unitround::taking` meets its contract: the tests are those of `takingStep`.
-use mathlib.Core.List.{[]}
-use Rattle.unitround.proofs.Laws.{second-half, first-half, no-nibble}
+use Rattle.unitround.proofs.Laws.{first-half, no-nibble, second-half}
 use borrow.Author.Needs.{needs}
 use Rattle.unitround.proofs.taking.Statement.{statement}
 use Rattle.unitround.proofs.taking.Tie as tie
@@ -34,27 +33,28 @@ same-length c = search needs
 
 returns : tie.Need-returns
 returns c = let a = c .before .before .before .before .before .before .before .before .before .before .before .before .before .before .before .before .args in
-    second-half (a .words .now) (a .seen) (a .busy) (a .buffer .now) [] (a .output .now) (c .before .before .before .before .before .before .before .before .before .before .before .before .before .takes .ensures) (c .before .before .before .before .before .before .before .before .before .before .before .before .if1 .taken) (c .before .before .before .before .before .before .before .before .before .before .flag .ensures) (c .before .before .before .before .before .before .before .before .before .if2 .taken) (c .before .before .before .before .before .before .before .number8 .ensures) (c .before .before .before .before .before .before .byte-of .ensures) (c .before .before .take-byte .ensures)
+    let takes-is = c .before .before .before .before .before .before .before .before .before .before .before .before .before .takes .ensures in
+    let flag-is = c .before .before .before .before .before .before .before .before .before .before .flag .ensures in
+    let number-is = c .before .before .before .before .before .before .before .number8 .ensures in
+    let byte-of-is = c .before .before .before .before .before .before .byte-of .ensures in
+    second-half (a .words .now) (c .before .before .before .before .before .before .before .before .before .before .before .before .before .before .before .before .pre) (a .seen) (a .busy) (a .buffer .now) (a .output .now) takes-is (c .before .before .before .before .before .before .before .before .before .before .before .before .if1 .taken) flag-is (c .before .before .before .before .before .before .before .before .before .if2 .taken) number-is byte-of-is (c .before .before .take-byte .ensures)
 
-save-selecting-requires : tie.Need-save-selecting-requires
-save-selecting-requires c κs = search needs
+take-low-requires : tie.Need-take-low-requires
+take-low-requires c κs = search needs
 
 returns-2 : tie.Need-returns-2
 returns-2 c = let a = c .before .before .before .before .before .before .before .before .before .args in
-    first-half (a .words .now) (a .seen) (a .busy) (a .buffer .now) [] (a .output .now) (c .before .before .before .before .before .before .takes .ensures) (c .before .before .before .before .before .if1 .taken) (c .before .before .before .flag .ensures) (c .before .before .if2 .left) (c .save-selecting .ensures)
-
-element-write-words : tie.Need-element-write-words
-element-write-words c = search needs
+    first-half (a .words .now) (c .before .before .before .before .before .before .before .before .before .pre) (a .seen) (a .busy) (a .buffer .now) (a .output .now) (c .before .before .before .before .before .before .takes .ensures) (c .before .before .before .before .before .if1 .taken) (c .before .before .before .flag .ensures) (c .before .before .if2 .left) (c .take-low .ensures)
 
 heard-requires : tie.Need-heard-requires
 heard-requires c κs = search needs
 
-element-write-words-2 : tie.Need-element-write-words-2
-element-write-words-2 c = search needs
+element-write-words : tie.Need-element-write-words
+element-write-words c = search needs
 
 returns-3 : tie.Need-returns-3
 returns-3 c = let a = c .before .before .before .before .before .args in
-    no-nibble (a .words .now) (a .seen) (a .busy) (a .buffer .now) [] (a .output .now) (c .before .before .takes .ensures) (c .before .if1 .left) (c .heard .ensures)
+    no-nibble (a .words .now) (c .before .before .before .before .before .pre) (a .seen) (a .busy) (a .buffer .now) (a .output .now) (c .before .before .takes .ensures) (c .before .if1 .left) (c .heard .ensures)
 
 pub taking-spec : {M : Type 1} → statement M
 taking-spec =
@@ -70,9 +70,8 @@ taking-spec =
     take-byte-requires
     same-length
     returns
-    save-selecting-requires
+    take-low-requires
     returns-2
-    element-write-words
     heard-requires
-    element-write-words-2
+    element-write-words
     returns-3)

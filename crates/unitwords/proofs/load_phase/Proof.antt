@@ -1,4 +1,4 @@
--- `unitwords::load_phase` meets its contract: the tags are those of `loadedPhase`.
+-- `unitwords::load_phase` meets its contract: the tags are those of `phaseBy`.
 use borrow.Author.Needs.{needs}
 use Rattle.unitwords.proofs.load_phase.Statement.{statement}
 use Rattle.unitwords.proofs.load_phase.Tie as tie
@@ -57,11 +57,26 @@ reply-requires c κs = search needs
 returns-3 : tie.Need-returns-3
 returns-3 c = simp (c .before .before .before .before .before .before .before .if1 .left, c .before .before .before .before .before .before .if2 .left, c .before .before .before .before .before .if3 .taken) (simp (← (c .before .before .before .listener3 .ensures)) (simp (c .reply .ensures)))
 
-load-responding-requires : tie.Need-load-responding-requires
-load-responding-requires c κs = search needs
+element-copy-out-reply-3 : tie.Need-element-copy-out-reply-3
+element-copy-out-reply-3 c = search needs
 
-returns-4 : tie.Need-returns-4
-returns-4 c = simp (c .before .before .before .before .if1 .left, c .before .before .before .if2 .left, c .before .before .if3 .left, c .before .if4 .taken) (c .load-responding .ensures)
+element-copy-out-reply-4 : tie.Need-element-copy-out-reply-4
+element-copy-out-reply-4 c = search needs
+
+reply-requires-2 : tie.Need-reply-requires-2
+reply-requires-2 c κs = search needs
+
+element-copy-out-t51 : tie.Need-element-copy-out-t51
+element-copy-out-t51 c = search needs
+
+element-copy-out-sender : tie.Need-element-copy-out-sender
+element-copy-out-sender c = search needs
+
+element-copy-out-sender-2 : tie.Need-element-copy-out-sender-2
+element-copy-out-sender-2 c = search needs
+
+sender-requires : tie.Need-sender-requires
+sender-requires c κs = search needs
 
 element-copy-out-flag-2 : tie.Need-element-copy-out-flag-2
 element-copy-out-flag-2 c = search needs
@@ -69,8 +84,17 @@ element-copy-out-flag-2 c = search needs
 flag-requires-2 : tie.Need-flag-requires-2
 flag-requires-2 c κs = search needs
 
+returns-4 : tie.Need-returns-4
+returns-4 c = simp (c .before .before .before .before .before .before .before .before .before .before .before .before .if1 .left, c .before .before .before .before .before .before .before .before .before .before .before .if2 .left, c .before .before .before .before .before .before .before .before .before .before .if3 .left, c .before .before .before .before .before .before .before .before .before .if4 .taken) (simp (← (c .before .before .before .before .before .before .reply2 .ensures), ← (c .before .before .sender .ensures)) (simp (c .flag2 .ensures)))
+
+element-copy-out-flag-3 : tie.Need-element-copy-out-flag-3
+element-copy-out-flag-3 c = search needs
+
+flag-requires-3 : tie.Need-flag-requires-3
+flag-requires-3 c κs = search needs
+
 returns-5 : tie.Need-returns-5
-returns-5 c = simp (c .before .before .before .before .before .before .if1 .left, c .before .before .before .before .before .if2 .left, c .before .before .before .before .if3 .left, c .before .before .before .if4 .left, c .before .before .if5 .taken, c .flag2 .ensures)
+returns-5 c = simp (c .before .before .before .before .before .before .if1 .left, c .before .before .before .before .before .if2 .left, c .before .before .before .before .if3 .left, c .before .before .before .if4 .left, c .before .before .if5 .taken, c .flag3 .ensures)
 
 returns-6 : tie.Need-returns-6
 returns-6 c = simp (c .before .before .before .before .if1 .left, c .before .before .before .if2 .left, c .before .before .if3 .left, c .before .if4 .left, c .if5 .left)
@@ -97,9 +121,17 @@ load-phase-spec =
     element-copy-out-reply-2
     reply-requires
     returns-3
-    load-responding-requires
-    returns-4
+    element-copy-out-reply-3
+    element-copy-out-reply-4
+    reply-requires-2
+    element-copy-out-t51
+    element-copy-out-sender
+    element-copy-out-sender-2
+    sender-requires
     element-copy-out-flag-2
     flag-requires-2
+    returns-4
+    element-copy-out-flag-3
+    flag-requires-3
     returns-5
     returns-6)

@@ -1,41 +1,16 @@
--- `words::with_sender` meets its contract: only a nibble that is placed or kept has its word.
+-- `words::with_sender` meets its contract: the tag of the case.
 use borrow.Author.Needs.{needs}
 use Rattle.words.proofs.with_sender.Statement.{statement}
 use Rattle.words.proofs.with_sender.Tie as tie
 
-enum-told : tie.Need-enum-told
-enum-told c = search needs
+sender-tag-requires : tie.Need-sender-tag-requires
+sender-tag-requires c κs = search needs
 
-enum-known-s : tie.Need-enum-known-s
-enum-known-s c = search needs
-
-with8-requires : tie.Need-with8-requires
-with8-requires c κs = search needs
-
-enum-known-s-2 : tie.Need-enum-known-s-2
-enum-known-s-2 c = search needs
-
-with8-requires-2 : tie.Need-with8-requires-2
-with8-requires-2 c κs = search needs
+with-tag-requires : tie.Need-with-tag-requires
+with-tag-requires c κs = search needs
 
 returns : tie.Need-returns
-returns c = search needs
-
-returns-2 : tie.Need-returns-2
-returns-2 c = simp (c .before .before .s .given .1) (c .with8 .ensures)
-
-returns-3 : tie.Need-returns-3
-returns-3 c = simp (c .before .before .s2 .given .1) (c .with82 .ensures)
+returns c = simp (← (c .before .sender-tag .ensures)) (c .with-tag .ensures)
 
 pub with-sender-spec : {M : Type 1} → statement M
-with-sender-spec =
-    tie.close
-    (tie.spec
-    enum-told
-    enum-known-s
-    with8-requires
-    enum-known-s-2
-    with8-requires-2
-    returns
-    returns-2
-    returns-3)
+with-sender-spec = tie.close (tie.spec sender-tag-requires with-tag-requires returns)
