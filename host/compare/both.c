@@ -16,24 +16,24 @@ static void start_unit(struct station *s, const struct start *f)
 {
     uint32_t *w = s->lib.unit.word;
 
-    w[OPENING] = s->two.mode = f->mode;
-    w[ACCEPTED] = s->two.accepted = f->accepted;
-    w[ENABLED] = s->two.enabled = f->enabled;
-    w[REQUESTING] = s->two.requesting = f->requesting;
-    w[INPUT] = s->two.input.head = f->input_head;
-    w[INPUT + 1] = s->two.input.count = f->input_count;
-    w[OUTPUT] = s->two.output.head = f->output_head;
-    w[OUTPUT + 1] = s->two.output.count = f->output_count;
+    w[UNIT_OPENING] = s->two.mode = f->mode;
+    w[UNIT_ACCEPTED] = s->two.accepted = f->accepted;
+    w[UNIT_ENABLED] = s->two.enabled = f->enabled;
+    w[UNIT_REQUESTING] = s->two.requesting = f->requesting;
+    w[UNIT_INPUT_HEAD] = s->two.input.head = f->input_head;
+    w[UNIT_INPUT_COUNT] = s->two.input.count = f->input_count;
+    w[UNIT_OUTPUT_HEAD] = s->two.output.head = f->output_head;
+    w[UNIT_OUTPUT_COUNT] = s->two.output.count = f->output_count;
 }
 
 static void start_ring(struct bench *b, const struct trial *t)
 {
     uint32_t *w = b->lib.controller.word;
 
-    w[ENTRIES] = b->two.ring_count = (uint8_t)t->entries;
+    w[CONTROLLER_ENTRIES] = b->two.ring_count = (uint8_t)t->entries;
     for (unsigned i = 0; i < t->entries; i++) {
         b->two.ring[i] = t->entry[i];
-        w[ENTRIES + 1 + i] = t->entry[i].code + (t->entry[i].marked ? HEXBUS_MARK : 0u);
+        w[CONTROLLER_ENTRY + i] = t->entry[i].code + (t->entry[i].marked ? HEXBUS_MARK : 0u);
     }
 }
 
@@ -173,8 +173,10 @@ static bool step_unit(struct station *s, const struct call *c, bool bav, bool hs
         return false;
     answer = hexbus_unit_step(&s->lib.unit, bav, hsk, nibble, busy, one->command.bytes, room, one->input.bytes, one->output.bytes);
     other = second_unit_step(&s->two, seen, busy && broken != FORGETS_BUSY, two->command.bytes, room, two->input.bytes, two->output.bytes);
-    if (broken == CLEARS_NOBODYS_BITS)
-        s->lib.unit.word[3] &= FLAG;
+    if (broken == CLEARS_UNUSED_BITS)
+        s->lib.unit.word[UNIT_ASKING] &= FLAG;
+    if (broken == WRITES_A_TAG_AGAIN && s->lib.unit.word[UNIT_PHASE] >= PHASES)
+        s->lib.unit.word[UNIT_PHASE] = IDLE;
     if (broken == WRITES_PAST_A_BUFFER && (hexbus_unit_pulls(&s->lib.unit) & HEXBUS_HSK) != 0)
         one->input.after[0]++;
     return same(answer == (uint32_t)other, "a unit's step") && kept(before, words_of(&s->lib), answer == 0) && same_unit(s);

@@ -4,6 +4,7 @@
 
 #include "../../include/hexbus.h"
 #include "../second/second.h"
+#include "layout.h"
 
 #include <inttypes.h>
 #include <stdio.h>
@@ -40,7 +41,8 @@ static inline uint8_t random_byte(void)
 }
 
 /* What is done wrong on purpose. */
-enum broken_by { NOTHING, FORGETS_BUSY, LATE_TIME_OUT, FEEDS_OTHER_BYTE, CLEARS_NOBODYS_BITS, WRITES_PAST_A_BUFFER, LOOKS_AT_NOBODYS_BITS };
+enum broken_by { NOTHING, FORGETS_BUSY, LATE_TIME_OUT, FEEDS_OTHER_BYTE, CLEARS_UNUSED_BITS, WRITES_PAST_A_BUFFER, LOOKS_AT_UNUSED_BITS,
+                 WRITES_A_TAG_AGAIN };
 
 #ifdef BROKEN
 extern enum broken_by broken;
@@ -64,7 +66,7 @@ struct call {
     uint8_t byte;                /* fed, or the code acknowledged */
     bool wrong_data, short_room; /* a step that is lent something else */
     bool exact_room;             /* a command buffer of just 256 bytes */
-    uint64_t garble;             /* the seed of what stands in bits that are nobody's; 0 where they stay */
+    uint64_t garble;             /* the seed of what stands in bits that no field uses; 0 where they stay */
     struct second_command command;
     uint32_t data_length, room;
 };
@@ -172,28 +174,29 @@ extern bool all_made;
 enum { FLAG = 1, BYTE = 0xFF, FIELD = 0xFFFF, ENTRY = 0x1FF };
 #define WHOLE UINT32_MAX
 
-enum unit_word {
-    OPENING = 4, ACCEPTED = 5, ENABLED = 6, REQUESTING = 7, INPUT = 8, OUTPUT = 10, PHASE = 12, UNIT_LINE = 13, UNIT_HALF = 14,
-    UNIT_NIBBLE = 15, UNIT_PLACE = 16, REPLY = 17, REPLY_VALUE = 18
+enum unit_phase { IDLE, SELECTING, TAKING, ANSWERED, RESPONDING, SITTING_OUT, PHASES };
+enum controller_stage { FREE, RESTING, WAITING, SENDING, LISTENING, STAGES };
+enum { LINE_TAGS = 3, REPLIES = 5, KINDS = 3, RESPONSES = 3 };
+
+_Static_assert((int)UNIT_WORDS == HEXBUS_UNIT_WORDS && (int)CONTROLLER_WORDS == HEXBUS_CONTROLLER_WORDS, "the header's words are the library's");
+
+/* What a state makes of one of its words: the bits that it uses, and, where the word is a tag, of how many cases; 0 where it is none. */
+struct use {
+    uint32_t bits, cases;
 };
-enum unit_phase { SELECTING = 1, TAKING, ANSWERED, RESPONDING, SITTING_OUT };
-enum controller_word {
-    STAGE = 1, KIND = 2, CONTROLLER_HALF = 9, CONTROLLER_LINE = 10, CONTROLLER_NIBBLE = 11, CONTROLLER_PLACE = 12, RESPONSE = 13, LENGTH = 14,
-    QUIET = 15, ENTRIES = 16
-};
-enum controller_stage { RESTING = 1, WAITING, SENDING, LISTENING };
 
 /* Words with their kind, for what is the same for both. */
 struct words {
     uint32_t *word;
     size_t n;
-    void (*bits)(const uint32_t *, uint32_t *);
+    void (*uses)(const uint32_t *, struct use *);
 };
 
 void fill(void *memory, size_t n, uint64_t *seed);
 struct words words_of(struct unit_words *u);
 struct words controller_words_of(struct controller_words *c);
 void garble(struct words w, uint64_t seed);
+uint32_t meaning(uint32_t word, struct use use);
 bool kept(const uint32_t *before, struct words w, bool accepted);
 bool clean(struct words w);
 bool kept_around(const uint32_t *before, const uint32_t *after);

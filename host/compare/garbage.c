@@ -1,4 +1,4 @@
-/* Words that no save makes, beside a copy in which what is nobody's differs. */
+/* Words that no save makes, beside a copy in which what no field uses differs. */
 #include "compare.h"
 
 /* Random words: tags of every case and of none, numbers on both sides of what a state can hold. */
@@ -7,19 +7,19 @@ static void random_words(struct words w)
     for (size_t i = 0; i < w.n; i++)
         w.word[i] = one_in(4) ? random_word() : one_in(2) ? below(6) : below(600);
     if (w.n == HEXBUS_UNIT_WORDS)
-        w.word[PHASE] = one_in(8) ? random_word() : below(6);
+        w.word[UNIT_PHASE] = one_in(8) ? random_word() : below(PHASES);
     else
-        w.word[STAGE] = one_in(8) ? random_word() : below(5);
+        w.word[CONTROLLER_STAGE] = one_in(8) ? random_word() : below(STAGES);
 }
 
-/* Two states in words of which one differs from the other in what is nobody's alone. */
+/* Two states in words of which one differs from the other in what no field uses, and in tags that mean the same. */
 static bool same_words(struct words a, struct words b)
 {
-    uint32_t bits[HEXBUS_CONTROLLER_WORDS];
+    struct use uses[HEXBUS_CONTROLLER_WORDS];
 
-    a.bits(a.word, bits);
+    a.uses(a.word, uses);
     for (size_t i = 0; i < a.n; i++)
-        if (!same(((a.word[i] ^ b.word[i]) & bits[i]) == 0, "what is done to words that no save makes"))
+        if (!same(meaning(a.word[i], uses[i]) == meaning(b.word[i], uses[i]), "what is done to words that no save makes"))
             return false;
     return true;
 }
@@ -91,8 +91,8 @@ static bool garbage_unit(void)
     random_words(w);
     v = u;
     garble(x, seed | 1);
-    if (broken == LOOKS_AT_NOBODYS_BITS)
-        v.unit.word[3] ^= FLAG;
+    if (broken == LOOKS_AT_UNUSED_BITS)
+        v.unit.word[UNIT_ASKING] ^= FLAG;
     difference = NULL;
     for (int i = 0; i < 16 && difference == NULL; i++) {
         struct unit_words before_u = u, before_v = v;
@@ -158,8 +158,8 @@ static bool garbage_controller(void)
         hexbus_event e = { 7, 8, 9 }, f = e;
         struct any_answer a, b;
 
-        c.data_length = one_in(20) ? below(65536) : u.controller.word[KIND + 6] & FIELD;
-        c.room = one_in(20) ? below(65536) : u.controller.word[KIND + 5] & FIELD;
+        c.data_length = one_in(20) ? below(65536) : u.controller.word[CONTROLLER_DATA_LENGTH] & FIELD;
+        c.room = one_in(20) ? below(65536) : u.controller.word[CONTROLLER_BUFFER_LENGTH] & FIELD;
         a = call_any_controller(&u, &one, &c, &e);
         b = call_any_controller(&v, &two, &c, &f);
         if (same(a.number == b.number && memcmp(&e, &f, sizeof e) == 0, "a call on words that no save makes") && same_any_controller(&u, &v, c.byte)

@@ -4,9 +4,9 @@
  * what can be looked at are compared. A difference is replayed with calls left out, as long as it stays, and what
  * remains is printed.
  *
- * Before some calls the words of a state are garbled: the bits that are nobody's, and tags that no save makes in place
- * of the first case's. The call must do the same, and leave what is nobody's as it is. Then words that are random
- * altogether are stepped beside a copy in which what is nobody's differs.
+ * Before some calls the words of a state are garbled: the bits that no field uses, and tags that no save makes in place
+ * of the first case's. The call must do the same, and leave these bits as they are. Then words that are random
+ * altogether are stepped beside a copy in which such bits differ.
  *
  *   compare [STEPS [SEED]]
  *

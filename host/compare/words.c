@@ -1,4 +1,4 @@
-/* The words that a state of the library stands in: whose their bits are, garbling what is nobody's, and what a call may have changed. */
+/* The words that a state of the library stands in: which bits a field uses, garbling the others, and what a call may have changed. */
 #include "compare.h"
 
 void fill(void *memory, size_t n, uint64_t *seed)
@@ -13,7 +13,7 @@ void fill(void *memory, size_t n, uint64_t *seed)
     random_state = keep;
 }
 
-/* A tag in a word, and the bits of the word that go with it. */
+/* The bits of the word that goes with a tag. */
 static uint32_t of_sender(uint32_t tag)
 {
     return tag == 1 || tag == 2 ? BYTE : 0;
@@ -24,147 +24,157 @@ static uint32_t of_reply(uint32_t tag)
     return tag == 1 || tag == 2 ? BYTE : tag == 3 ? FIELD : 0;
 }
 
-/* The bits of each word that a unit in these words stands in; the others are nobody's (crates/unitwords/specs/Unit.antt). */
-static void unit_bits(const uint32_t *w, uint32_t *bits)
+static struct use tag(uint32_t cases)
 {
-    static const uint32_t always[HEXBUS_UNIT_WORDS] = { BYTE, FIELD, FIELD, FLAG, 3, 0, FLAG, FLAG, BYTE, FIELD, BYTE, FIELD, WHOLE };
-    static const uint32_t header[6] = { BYTE, BYTE, BYTE, FIELD, FIELD, FIELD };
-    uint32_t phase = w[PHASE];
+    return (struct use){ WHOLE, cases };
+}
 
-    memcpy(bits, always, sizeof always);
-    bits[ACCEPTED] = (w[OPENING] & 3u) != 0 ? BYTE : 0;
-    if (phase >= SELECTING && phase <= RESPONDING)
-        bits[UNIT_LINE] = WHOLE;
-    if (phase == SELECTING || phase == TAKING || phase == RESPONDING || phase == SITTING_OUT)
-        bits[UNIT_HALF] = FLAG;
-    if (phase == SELECTING || phase == TAKING)
-        bits[UNIT_NIBBLE] = BYTE;
-    if (phase == TAKING || phase == RESPONDING)
-        bits[UNIT_PLACE] = WHOLE;
-    if (phase == TAKING)
-        memcpy(bits + REPLY, header, sizeof header);
-    if (phase == RESPONDING)
-        bits[UNIT_NIBBLE] = of_sender(w[UNIT_LINE]);
-    if (phase == ANSWERED || phase == RESPONDING) {
-        bits[REPLY] = WHOLE;
-        bits[REPLY_VALUE] = of_reply(w[REPLY]);
+static struct use number(uint32_t bits)
+{
+    return (struct use){ bits, 0 };
+}
+
+/* What a unit uses of its words (crates/unitwords/specs/Unit.antt). */
+static void unit_uses(const uint32_t *w, struct use *uses)
+{
+    uint32_t phase = w[UNIT_PHASE];
+
+    memset(uses, 0, HEXBUS_UNIT_WORDS * sizeof *uses);
+    uses[UNIT_OWN] = number(BYTE);
+    uses[UNIT_RETRY] = uses[UNIT_QUIET] = number(FIELD);
+    uses[UNIT_ASKING] = uses[UNIT_ENABLED] = uses[UNIT_REQUESTING] = number(FLAG);
+    uses[UNIT_OPENING] = number(3);
+    uses[UNIT_ACCEPTED] = number((w[UNIT_OPENING] & 3u) != 0 ? BYTE : 0);
+    uses[UNIT_INPUT_HEAD] = uses[UNIT_OUTPUT_HEAD] = number(BYTE);
+    uses[UNIT_INPUT_COUNT] = uses[UNIT_OUTPUT_COUNT] = number(FIELD);
+    uses[UNIT_PHASE] = tag(PHASES);
+    if (phase >= SELECTING && phase <= ANSWERED)
+        uses[UNIT_EAR] = tag(LINE_TAGS);
+    if (phase == SELECTING || phase == TAKING) {
+        uses[UNIT_HALF] = number(FLAG);
+        uses[UNIT_LOW] = number(BYTE);
     }
+    if (phase == TAKING) {
+        uses[UNIT_PLACE] = number(WHOLE);
+        uses[UNIT_DEVICE] = uses[UNIT_COMMAND] = uses[UNIT_LOGICAL_UNIT] = number(BYTE);
+        uses[UNIT_RECORD_NUMBER] = uses[UNIT_BUFFER_LENGTH] = uses[UNIT_DATA_LENGTH] = number(FIELD);
+    }
+    if (phase == ANSWERED || phase == RESPONDING) {
+        uses[UNIT_REPLY] = tag(REPLIES);
+        uses[UNIT_VALUE] = number(of_reply(w[UNIT_REPLY]));
+    }
+    if (phase == RESPONDING) {
+        uses[UNIT_SENDER] = tag(LINE_TAGS);
+        uses[UNIT_WAIT] = number(FLAG);
+        uses[UNIT_NIBBLE] = number(of_sender(w[UNIT_SENDER]));
+        uses[UNIT_NEXT] = number(WHOLE);
+    }
+    if (phase == SITTING_OUT)
+        uses[UNIT_LAST] = number(FLAG);
 }
 
 /* The same of a controller (crates/controllerwords/specs/Controller.antt). */
-static void controller_bits(const uint32_t *w, uint32_t *bits)
+static void controller_uses(const uint32_t *w, struct use *uses)
 {
-    static const uint32_t frame[7] = { WHOLE, BYTE, BYTE, BYTE, FIELD, FIELD, FIELD };
-    uint32_t stage = w[STAGE];
+    uint32_t stage = w[CONTROLLER_STAGE];
 
-    memset(bits, 0, HEXBUS_CONTROLLER_WORDS * sizeof *bits);
-    bits[0] = FIELD;
-    bits[STAGE] = WHOLE;
-    bits[ENTRIES] = BYTE;
+    memset(uses, 0, HEXBUS_CONTROLLER_WORDS * sizeof *uses);
+    uses[CONTROLLER_TIMEOUT] = number(FIELD);
+    uses[CONTROLLER_STAGE] = tag(STAGES);
+    uses[CONTROLLER_ENTRIES] = number(BYTE);
     for (int i = 0; i < HEXBUS_RING_ENTRIES; i++)
-        bits[ENTRIES + 1 + i] = ENTRY;
-    if (stage >= WAITING && stage <= LISTENING)
-        memcpy(bits + KIND, frame, sizeof frame);
-    if (stage == RESTING || stage == SENDING)
-        bits[CONTROLLER_HALF] = FLAG;
-    if (stage == SENDING || stage == LISTENING)
-        bits[CONTROLLER_LINE] = WHOLE;
+        uses[CONTROLLER_ENTRY + i] = number(ENTRY);
+    if (stage >= WAITING && stage <= LISTENING) {
+        uses[CONTROLLER_KIND] = tag(KINDS);
+        uses[CONTROLLER_DEVICE] = uses[CONTROLLER_COMMAND] = uses[CONTROLLER_LOGICAL_UNIT] = number(BYTE);
+        uses[CONTROLLER_RECORD_NUMBER] = uses[CONTROLLER_BUFFER_LENGTH] = uses[CONTROLLER_DATA_LENGTH] = number(FIELD);
+    }
+    if (stage == RESTING)
+        uses[CONTROLLER_FIRST] = number(FLAG);
     if (stage == SENDING) {
-        bits[CONTROLLER_NIBBLE] = of_sender(w[CONTROLLER_LINE]);
-        bits[CONTROLLER_PLACE] = WHOLE;
+        uses[CONTROLLER_WAIT] = number(FLAG);
+        uses[CONTROLLER_SENDER] = tag(LINE_TAGS);
+        uses[CONTROLLER_NIBBLE] = number(of_sender(w[CONTROLLER_SENDER]));
+        uses[CONTROLLER_NEXT] = number(WHOLE);
     }
     if (stage != LISTENING)
         return;
-    bits[QUIET] = FIELD;
-    bits[RESPONSE] = WHOLE;
-    if (w[RESPONSE] == 2)
+    uses[CONTROLLER_EAR] = tag(LINE_TAGS);
+    uses[CONTROLLER_QUIET] = number(FIELD);
+    uses[CONTROLLER_RESPONSE] = tag(RESPONSES);
+    if (w[CONTROLLER_RESPONSE] == 2)
         return;
-    bits[CONTROLLER_NIBBLE] = BYTE;
-    bits[LENGTH] = FIELD;
-    if (w[RESPONSE] != 1) {
-        bits[CONTROLLER_HALF] = FLAG;
-        bits[CONTROLLER_PLACE] = WHOLE;
+    uses[CONTROLLER_LENGTH] = number(FIELD);
+    if (w[CONTROLLER_RESPONSE] == 1) {
+        uses[CONTROLLER_STATUS] = number(BYTE);
+    } else {
+        uses[CONTROLLER_HALF] = number(FLAG);
+        uses[CONTROLLER_LOW] = number(BYTE);
+        uses[CONTROLLER_PLACE] = number(WHOLE);
     }
+}
+
+/* What a word means: a tag that no save makes means the first case. */
+uint32_t meaning(uint32_t word, struct use use)
+{
+    return use.cases == 0 ? word & use.bits : word < use.cases ? word : 0;
 }
 
 struct words words_of(struct unit_words *u)
 {
-    return (struct words){ u->unit.word, HEXBUS_UNIT_WORDS, unit_bits };
+    return (struct words){ u->unit.word, HEXBUS_UNIT_WORDS, unit_uses };
 }
 
 struct words controller_words_of(struct controller_words *c)
 {
-    return (struct words){ c->controller.word, HEXBUS_CONTROLLER_WORDS, controller_bits };
+    return (struct words){ c->controller.word, HEXBUS_CONTROLLER_WORDS, controller_uses };
 }
 
-/* A tag of the first case becomes one that no save makes. */
-static void garble_tag(uint32_t *word, uint32_t last)
-{
-    if (*word == 0 && one_in(2))
-        *word = last + 1 + below(UINT32_MAX - last);
-}
-
-static void garble_tags(struct words w)
-{
-    if (w.n == HEXBUS_UNIT_WORDS) {
-        uint32_t phase = w.word[PHASE];
-
-        garble_tag(&w.word[PHASE], SITTING_OUT);
-        if (phase >= SELECTING && phase <= RESPONDING)
-            garble_tag(&w.word[UNIT_LINE], 2);
-        if (phase == ANSWERED || phase == RESPONDING)
-            garble_tag(&w.word[REPLY], 4);
-    } else {
-        uint32_t stage = w.word[STAGE];
-
-        garble_tag(&w.word[STAGE], LISTENING);
-        if (stage >= WAITING && stage <= LISTENING)
-            garble_tag(&w.word[KIND], 2);
-        if (stage == SENDING || stage == LISTENING)
-            garble_tag(&w.word[CONTROLLER_LINE], 2);
-        if (stage == LISTENING)
-            garble_tag(&w.word[RESPONSE], 2);
-    }
-}
-
+/* Bits that no field uses, and tags of the first case as words that no save makes. */
 void garble(struct words w, uint64_t seed)
 {
-    uint32_t bits[HEXBUS_CONTROLLER_WORDS];
+    struct use uses[HEXBUS_CONTROLLER_WORDS];
     uint64_t keep = random_state;
 
     if (seed == 0)
         return;
     random_state = seed;
-    w.bits(w.word, bits);
-    for (size_t i = 0; i < w.n; i++)
-        if (bits[i] != WHOLE)
-            w.word[i] = (w.word[i] & bits[i]) | (random_word() & ~bits[i]);
-    garble_tags(w);
+    w.uses(w.word, uses);
+    for (size_t i = 0; i < w.n; i++) {
+        if (uses[i].cases == 0)
+            w.word[i] = (w.word[i] & uses[i].bits) | (random_word() & ~uses[i].bits);
+        else if (w.word[i] == 0 && one_in(2))
+            w.word[i] = uses[i].cases + below(UINT32_MAX - uses[i].cases);
+    }
     random_state = keep;
 }
 
-/* What a call may have done to words: nothing where it was refused, else nothing to bits that are nobody's now. */
+/* What a call may have done to words: nothing where it was refused, else nothing to bits that no field uses now, nor to a word that meant
+ * before what it means now. */
 bool kept(const uint32_t *before, struct words w, bool accepted)
 {
-    uint32_t bits[HEXBUS_CONTROLLER_WORDS];
+    struct use uses[HEXBUS_CONTROLLER_WORDS];
 
     if (!accepted)
         return same(memcmp(before, w.word, w.n * sizeof *before) == 0, "a refused call changes words");
-    w.bits(w.word, bits);
-    for (size_t i = 0; i < w.n; i++)
-        if (!same(((before[i] ^ w.word[i]) & ~bits[i]) == 0, "bits that are nobody's"))
+    w.uses(w.word, uses);
+    for (size_t i = 0; i < w.n; i++) {
+        if (!same(((before[i] ^ w.word[i]) & ~uses[i].bits) == 0, "bits that no field uses"))
             return false;
+        if (!same(before[i] == w.word[i] || meaning(before[i], uses[i]) != meaning(w.word[i], uses[i]), "a word whose meaning stays the same"))
+            return false;
+    }
     return true;
 }
 
 /* New words: whole, whatever stood there. */
 bool clean(struct words w)
 {
-    uint32_t bits[HEXBUS_CONTROLLER_WORDS];
+    struct use uses[HEXBUS_CONTROLLER_WORDS];
 
-    w.bits(w.word, bits);
+    w.uses(w.word, uses);
     for (size_t i = 0; i < w.n; i++)
-        if (!same((w.word[i] & ~bits[i]) == 0, "bits that are nobody's, of a new state"))
+        if (!same((w.word[i] & ~uses[i].bits) == 0, "bits that no field uses, of a new state"))
             return false;
     return true;
 }
