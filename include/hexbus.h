@@ -142,7 +142,7 @@ enum {
 
 /* ---- a unit ---- */
 
-/* Makes a new unit in the 23 lent words, with its own device code and retry count: refuses 5 for own code 0 or a retry count not 4 to
+/* Makes a new unit in the lent words, with its own device code and retry count: refuses 5 for own code 0 or a retry count not 4 to
  * 65,535. */
 hexbus_refusal hexbus_unit_make(hexbus_unit *unit, uint8_t own, uint32_t retry);
 
@@ -170,7 +170,7 @@ void hexbus_unit_look(const hexbus_unit *unit, hexbus_unit_looks *looks);
 
 /* ---- the controller ---- */
 
-/* Makes a new controller in the 33 lent words, with its time-out count and an empty ring: refuses 5 for a time-out not 8 to 65,535. */
+/* Makes a new controller in the lent words, with its time-out count and an empty ring: refuses 5 for a time-out not 8 to 65,535. */
 hexbus_refusal hexbus_controller_make(hexbus_controller *controller, uint32_t timeout);
 
 /* Steps a controller through a round at these levels (true is low), with its host busy or not, lent the submitted command's data and

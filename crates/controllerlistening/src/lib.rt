@@ -13,7 +13,6 @@ pub fn take(words: &mut Words, nibble: u8, response: &mut [u8])
     ensures { λ _. ⌜ (now (words .exit) ≡ takenIn (now (words .entry)) nibble) × (now (response .exit) ≡ takenBuffer (now (words .entry)) nibble (now (response .entry))) ⌝ }
 {
     controllerwords::save_listening(words, 1, 0);
-    // `take_any` is called at two places, so that LLVM keeps it out of line.
     if controllerwords::is_over(words[RESPONSE]) {
         take_any(words, nibble, response);
         return;
@@ -28,7 +27,7 @@ pub fn take(words: &mut Words, nibble: u8, response: &mut [u8])
     words[LOW] = low;
 }
 
-// Any nibble, by value.
+// The response with this nibble, by value.
 fn take_any(words: &mut Words, nibble: u8, response: &mut [u8])
     ensures { λ _. ⌜ (now (words .exit) ≡ nibbleIn (now (words .entry)) nibble) × (now (response .exit) ≡ takenBuffer (now (words .entry)) nibble (now (response .entry))) ⌝ }
 {

@@ -10,10 +10,25 @@ use Rattle.message.specs.Reading.{reading}
 use Rattle.message.specs.Writing.{writing, writtenAs}
 use Rattle.words.specs.Words.{at, commandOf, number}
 
--- The command that six words say: device code, command code, logical unit, record number, buffer length. Its data length is that of
--- the data beside it, and the sixth word is not looked at.
+-- A command's fields in words, by name.
+abbrev DEVICE : ℕ
+DEVICE = 0
+
+abbrev COMMAND : ℕ
+COMMAND = 1
+
+abbrev «LOGICAL_UNIT» : ℕ
+«LOGICAL_UNIT» = 2
+
+abbrev «RECORD_NUMBER» : ℕ
+«RECORD_NUMBER» = 3
+
+abbrev «BUFFER_LENGTH» : ℕ
+«BUFFER_LENGTH» = 4
+
+-- The command that six words say. Its data length is that of the data beside it, and the sixth word is not looked at.
 abbrev pub commandIn : List ℕ → Command
-commandIn ws = commandOf (at ws 0) (at ws 1) (at ws 2) (at ws 3) (at ws 4)
+commandIn ws = commandOf (at ws DEVICE) (at ws COMMAND) (at ws «LOGICAL_UNIT») (at ws «RECORD_NUMBER») (at ws «BUFFER_LENGTH»)
 
 -- The words after a message was read: its fields in the order of the paper, and its data's length. A refusal leaves them as they are.
 abbrev pub readWords : Answer Message → List ℕ → List ℕ

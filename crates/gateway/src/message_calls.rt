@@ -13,6 +13,17 @@ ghost use Rattle.gateway.specs.Messages.{commandIn, MessageRead, Message
 use header::Command;
 use writer::Written;
 
+// The words of a command's fields that are looked at, by name (specs/Messages.antt), as hexbus_command declares them.
+const DEVICE: usize = 0;
+
+const COMMAND: usize = 1;
+
+const LOGICAL_UNIT: usize = 2;
+
+const RECORD_NUMBER: usize = 3;
+
+const BUFFER_LENGTH: usize = 4;
+
 // Reads a command into six words.
 #[no_mangle]
 pub extern "C" fn hexbus_command_read(message: &[u8], fields: &mut [u32; 6]) -> u32
@@ -94,7 +105,13 @@ pub extern "C" fn hexbus_class(code: u8) -> u8
 pub fn command_in(fields: &[u32; 6]) -> Command
     ensures { λ r. ⌜ r ≡ commandIn (now (fields .entry)) ⌝ }
 {
-    words::command(fields[0], fields[1], fields[2], fields[3], fields[4])
+    words::command(
+        fields[DEVICE],
+        fields[COMMAND],
+        fields[LOGICAL_UNIT],
+        fields[RECORD_NUMBER],
+        fields[BUFFER_LENGTH],
+    )
 }
 
 fn command_data(message: &[u8]) -> u32
