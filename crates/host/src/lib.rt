@@ -1,11 +1,11 @@
 // The calls of a unit's host: to make it, feed it, take from it, raise a request, and look at it.
 ghost use mathlib.Core.Path.{_≡_};
 ghost use Rattle.unit.specs.Unit.{newUnit};
-ghost use Rattle.host.specs.Calls.{making, made, isFed, feeding, inputAfter, fed, taking, raising, raised, looksOf, withSerial, withOutput};
+ghost use Rattle.host.specs.Calls.{making, made, feeding, inputAfter, fed, taking, raising, raised, looksOf, withSerial};
+ghost use Rattle.serial.specs.Serial.{withOutput};
 use phase::Phase;
 use queue::Popped;
 use queue::Queue;
-use serial::Mode;
 use serial::Opening;
 use serial::Serial;
 use unit::Unit;
@@ -74,7 +74,8 @@ pub fn feed(u: Unit, input: &mut [u8; 256], b: u8) -> Fed
     let s = u.serial;
     let q = s.input;
     let opening = s.opening;
-    if is_fed(opening) {
+    let kind = kind::kind_of(u.own);
+    if kind::is_fed(kind, opening) {
         let full = q.room() == 0;
         if full {
             return Fed::Full;
@@ -140,19 +141,6 @@ fn new(own: u8, retry: u16) -> Unit
         asking: false,
         phase: Phase::Idle,
         serial,
-    }
-}
-
-fn is_fed(opening: Opening) -> bool
-    ensures { λ r. ⌜ r ≡ isFed opening ⌝ }
-{
-    match opening {
-        Opening::Closed => false,
-        Opening::OpenFor(mode, _) => match mode {
-            Mode::Input => true,
-            Mode::Output => false,
-            Mode::Update => true,
-        },
     }
 }
 

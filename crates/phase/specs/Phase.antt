@@ -8,6 +8,7 @@ use lib.ListN.{set, take}
 use Rattle.field.specs.Field.{byteFrom}
 use Rattle.header.specs.Header.{headerBytes, headerIn}
 use Rattle.header.specs.declared.Header.{Header}
+use Rattle.kind.specs.Kinds.{kindOf, verdictOf}
 use Rattle.line.specs.Line.{sendOf, sentOf, hearOf, takenOf, isReady}
 use Rattle.line.specs.declared.Lines.{Lines}
 use Rattle.line.specs.declared.Listener.{Listener}
@@ -20,8 +21,7 @@ use Rattle.reply.specs.Reply.{isSilent, responseBytes, lastNibble}
 use Rattle.serial.specs.Serial.{applied, outputAfter, finished}
 use Rattle.serial.specs.declared.Reply.{Reply}
 use Rattle.serial.specs.declared.Serial.{Serial}
-use Rattle.verdict.specs.Verdict.{verdictOf}
-use Rattle.verdict.specs.declared.Verdict.{Verdict}
+use Rattle.serial.specs.declared.Verdict.{Verdict}
 use Rattle.phase.specs.declared.Partial.{Partial}
 use Rattle.phase.specs.declared.Progress.{Progress}
 use Rattle.phase.specs.declared.Progress.the-variants.{Taking, Answered}
@@ -67,42 +67,42 @@ abbrev pub storedData : ℕ → List ℕ → List ℕ
 storedData n buffer = cond (ltb 256 n) [] (take n buffer)
 
 -- The last nibble of the announced length is taken: the answer is fixed, and effects happen.
-abbrev pub verdictOn : Serial → Header → List ℕ → Verdict
-verdictOn s h buffer = verdictOf s (h .command) (h .«data_length») (storedData (h .«data_length») buffer)
+abbrev pub verdictOn : ℕ → Serial → Header → List ℕ → Verdict
+verdictOn own s h buffer = verdictOf (kindOf own) s (h .command) (h .«data_length») (storedData (h .«data_length») buffer)
 
-abbrev pub answered : Serial → Header → List ℕ → Moved
-answered s h buffer =
-    moves (Receiving Holding (Answered (verdictOn s h buffer .reply)))
-    (applied s (verdictOn s h buffer .effect) (storedData (h .«data_length») buffer))
+abbrev pub answered : ℕ → Serial → Header → List ℕ → Moved
+answered own s h buffer =
+    moves (Receiving Holding (Answered (verdictOn own s h buffer .reply)))
+    (applied s (verdictOn own s h buffer .effect) (storedData (h .«data_length») buffer))
 
-abbrev pub stored : Serial → Header → List ℕ → List ℕ → List ℕ
-stored s h buffer output = outputAfter s (verdictOn s h buffer .effect) (storedData (h .«data_length») buffer) output
+abbrev pub stored : ℕ → Serial → Header → List ℕ → List ℕ → List ℕ
+stored own s h buffer output = outputAfter s (verdictOn own s h buffer .effect) (storedData (h .«data_length») buffer) output
 
 -- The byte at a place is the last of a message with n bytes of data.
 abbrev pub isLast : ℕ → ℕ → Bool
 isLast n place = leb (8 + n) place
 
 -- A byte is there: what the phase and state, the lent buffer and the output queue's bytes become.
-abbrev pub byteStep : Serial → Partial → ℕ → List ℕ → Moved
-byteStep s p b buffer =
+abbrev pub byteStep : ℕ → Serial → Partial → ℕ → List ℕ → Moved
+byteStep own s p b buffer =
     cond (isLast (withByte (p .header) (p .place) b .«data_length») (p .place))
-    (answered s (withByte (p .header) (p .place) b) (bufferWith (withByte (p .header) (p .place) b .«data_length») (p .place) b buffer))
+    (answered own s (withByte (p .header) (p .place) b) (bufferWith (withByte (p .header) (p .place) b .«data_length») (p .place) b buffer))
     (moves (Receiving Holding (Taking (partial (withByte (p .header) (p .place) b) (p .place + 1)))) s)
 
 abbrev pub byteBuffer : Partial → ℕ → List ℕ → List ℕ
 byteBuffer p b buffer = bufferWith (withByte (p .header) (p .place) b .«data_length») (p .place) b buffer
 
-abbrev pub byteOutput : Serial → Partial → ℕ → List ℕ → List ℕ → List ℕ
-byteOutput s p b buffer output =
+abbrev pub byteOutput : ℕ → Serial → Partial → ℕ → List ℕ → List ℕ → List ℕ
+byteOutput own s p b buffer output =
     cond (isLast (withByte (p .header) (p .place) b .«data_length») (p .place))
-    (stored s (withByte (p .header) (p .place) b) (byteBuffer p b buffer) output)
+    (stored own s (withByte (p .header) (p .place) b) (byteBuffer p b buffer) output)
     output
 
 -- Receiving, until the last nibble is taken.
-abbrev pub takingStep : Serial → Listener → Partial → Lines → Bool → List ℕ → Moved
-takingStep s ear p seen busy buffer =
+abbrev pub takingStep : ℕ → Serial → Listener → Partial → Lines → Bool → List ℕ → Moved
+takingStep own s ear p seen busy buffer =
     cond (takenOf ear (seen .hsk))
-    (cond (p .half) (byteStep s p (byteFrom (p .low) (seen .nibble)) buffer)
+    (cond (p .half) (byteStep own s p (byteFrom (p .low) (seen .nibble)) buffer)
     (moves (Receiving Holding (Taking (record { header = p .header; place = p .place; half = true; low = seen .nibble }))) s))
     (moves (Receiving (hearOf ear (seen .hsk) busy) (Taking p)) s)
 
@@ -110,9 +110,9 @@ abbrev pub takingBuffer : Listener → Partial → Lines → List ℕ → List �
 takingBuffer ear p seen buffer =
     cond (takenOf ear (seen .hsk)) (cond (p .half) (byteBuffer p (byteFrom (p .low) (seen .nibble)) buffer) buffer) buffer
 
-abbrev pub takingOutput : Serial → Listener → Partial → Lines → List ℕ → List ℕ → List ℕ
-takingOutput s ear p seen buffer output =
-    cond (takenOf ear (seen .hsk)) (cond (p .half) (byteOutput s p (byteFrom (p .low) (seen .nibble)) buffer output) output) output
+abbrev pub takingOutput : ℕ → Serial → Listener → Partial → Lines → List ℕ → List ℕ → List ℕ
+takingOutput own s ear p seen buffer output =
+    cond (takenOf ear (seen .hsk)) (cond (p .half) (byteOutput own s p (byteFrom (p .low) (seen .nibble)) buffer output) output) output
 
 -- Receiving leaves when the last nibble of the announced length is taken and HSK seen high. A response begins exactly two rounds
 -- after; a command that draws none leads to sitting out.
@@ -137,14 +137,14 @@ respondingStep s reply i sender wait hsk input =
     (moves (Responding reply i (sendOf sender hsk (nibbleIn (responseBytes (contents input (s .input)) reply) i)) false) s))
 
 -- The round of a phase, while BAV is seen low. Sitting out leaves when BAV is seen high.
-abbrev pub receivingStep : Serial → Listener → Progress → Lines → Bool → List ℕ → Moved
-receivingStep s ear (Taking p) seen busy buffer = takingStep s ear p seen busy buffer
-receivingStep s ear (Answered reply) seen busy buffer = moves (answeredStep ear reply (seen .hsk) busy) s
+abbrev pub receivingStep : ℕ → Serial → Listener → Progress → Lines → Bool → List ℕ → Moved
+receivingStep own s ear (Taking p) seen busy buffer = takingStep own s ear p seen busy buffer
+receivingStep own s ear (Answered reply) seen busy buffer = moves (answeredStep ear reply (seen .hsk) busy) s
 
 abbrev pub phaseStep : Phase → ℕ → Serial → Lines → Bool → List ℕ → List ℕ → Moved
 phaseStep Idle own s seen busy buffer input = moves (idleStep (seen .hsk)) s
 phaseStep (Selecting ear half low) own s seen busy buffer input = moves (selectingStep own ear half low seen busy) s
-phaseStep (Receiving ear progress) own s seen busy buffer input = receivingStep s ear progress seen busy buffer
+phaseStep (Receiving ear progress) own s seen busy buffer input = receivingStep own s ear progress seen busy buffer
 phaseStep (Responding reply i sender wait) own s seen busy buffer input = respondingStep s reply i sender wait (seen .hsk) input
 phaseStep (SittingOut last) own s seen busy buffer input = moves (SittingOut false) s
 
@@ -160,13 +160,13 @@ phaseBuffer (Receiving ear progress) seen buffer = receivingBuffer ear progress 
 phaseBuffer (Responding reply i sender wait) seen buffer = buffer
 phaseBuffer (SittingOut last) seen buffer = buffer
 
-abbrev pub receivingOutput : Serial → Listener → Progress → Lines → List ℕ → List ℕ → List ℕ
-receivingOutput s ear (Taking p) seen buffer output = takingOutput s ear p seen buffer output
-receivingOutput s ear (Answered reply) seen buffer output = output
+abbrev pub receivingOutput : ℕ → Serial → Listener → Progress → Lines → List ℕ → List ℕ → List ℕ
+receivingOutput own s ear (Taking p) seen buffer output = takingOutput own s ear p seen buffer output
+receivingOutput own s ear (Answered reply) seen buffer output = output
 
-abbrev pub phaseOutput : Phase → Serial → Lines → List ℕ → List ℕ → List ℕ
-phaseOutput Idle s seen buffer output = output
-phaseOutput (Selecting ear half low) s seen buffer output = output
-phaseOutput (Receiving ear progress) s seen buffer output = receivingOutput s ear progress seen buffer output
-phaseOutput (Responding reply i sender wait) s seen buffer output = output
-phaseOutput (SittingOut last) s seen buffer output = output
+abbrev pub phaseOutput : Phase → ℕ → Serial → Lines → List ℕ → List ℕ → List ℕ
+phaseOutput Idle own s seen buffer output = output
+phaseOutput (Selecting ear half low) own s seen buffer output = output
+phaseOutput (Receiving ear progress) own s seen buffer output = receivingOutput own s ear progress seen buffer output
+phaseOutput (Responding reply i sender wait) own s seen buffer output = output
+phaseOutput (SittingOut last) own s seen buffer output = output

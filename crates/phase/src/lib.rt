@@ -55,12 +55,21 @@ pub fn step(
     input: &[u8; 256],
     output: &mut [u8; 256],
 ) -> Moved
-    ensures { λ r. ⌜ (r ≡ phaseStep phase own s seen busy (now (buffer .entry)) (now (input .entry))) × ((now (buffer .exit) ≡ phaseBuffer phase seen (now (buffer .entry))) × (now (output .exit) ≡ phaseOutput phase s seen (now (buffer .entry)) (now (output .entry)))) ⌝ }
+    ensures { λ r. ⌜ (r ≡ phaseStep phase own s seen busy (now (buffer .entry)) (now (input .entry))) × ((now (buffer .exit) ≡ phaseBuffer phase seen (now (buffer .entry))) × (now (output .exit) ≡ phaseOutput phase own s seen (now (buffer .entry)) (now (output .entry)))) ⌝ }
 {
     match phase {
         Phase::Idle => moves(idle(seen.hsk), s),
         Phase::Selecting(ear, half, low) => moves(selecting(own, ear, half, low, seen, busy), s),
-        Phase::Receiving(ear, progress) => receiving(s, ear, progress, seen, busy, buffer, output),
+        Phase::Receiving(ear, progress) => receiving(
+            own,
+            s,
+            ear,
+            progress,
+            seen,
+            busy,
+            buffer,
+            output,
+        ),
         Phase::Responding(reply, i, sender, wait) => responding(
             s,
             reply,
@@ -137,6 +146,7 @@ pub fn whole_bytes(header: Header, place: u32) -> Partial
 }
 
 fn receiving(
+    own: u8,
     s: Serial,
     ear: Listener,
     progress: Progress,
@@ -145,15 +155,16 @@ fn receiving(
     buffer: &mut [u8],
     output: &mut [u8; 256],
 ) -> Moved
-    ensures { λ r. ⌜ (r ≡ receivingStep s ear progress seen busy (now (buffer .entry))) × ((now (buffer .exit) ≡ receivingBuffer ear progress seen (now (buffer .entry))) × (now (output .exit) ≡ receivingOutput s ear progress seen (now (buffer .entry)) (now (output .entry)))) ⌝ }
+    ensures { λ r. ⌜ (r ≡ receivingStep own s ear progress seen busy (now (buffer .entry))) × ((now (buffer .exit) ≡ receivingBuffer ear progress seen (now (buffer .entry))) × (now (output .exit) ≡ receivingOutput own s ear progress seen (now (buffer .entry)) (now (output .entry)))) ⌝ }
 {
     match progress {
-        Progress::Taking(p) => taking(s, ear, p, seen, busy, buffer, output),
+        Progress::Taking(p) => taking(own, s, ear, p, seen, busy, buffer, output),
         Progress::Answered(reply) => moves(answered(ear, reply, seen.hsk, busy), s),
     }
 }
 
 fn taking(
+    own: u8,
     s: Serial,
     ear: Listener,
     p: Partial,
@@ -162,11 +173,18 @@ fn taking(
     buffer: &mut [u8],
     output: &mut [u8; 256],
 ) -> Moved
-    ensures { λ r. ⌜ (r ≡ takingStep s ear p seen busy (now (buffer .entry))) × ((now (buffer .exit) ≡ takingBuffer ear p seen (now (buffer .entry))) × (now (output .exit) ≡ takingOutput s ear p seen (now (buffer .entry)) (now (output .entry)))) ⌝ }
+    ensures { λ r. ⌜ (r ≡ takingStep own s ear p seen busy (now (buffer .entry))) × ((now (buffer .exit) ≡ takingBuffer ear p seen (now (buffer .entry))) × (now (output .exit) ≡ takingOutput own s ear p seen (now (buffer .entry)) (now (output .entry)))) ⌝ }
 {
     if ear.taken(seen.hsk) {
         if p.half {
-            return take_byte(s, p, field::byte_of(p.low, seen.nibble), buffer, output);
+            return take_byte(
+                own,
+                s,
+                p,
+                field::byte_of(p.low, seen.nibble),
+                buffer,
+                output,
+            );
         }
         let mut next = p;
         next.half = true;
@@ -182,8 +200,15 @@ fn taking(
     )
 }
 
-fn take_byte(s: Serial, p: Partial, b: u8, buffer: &mut [u8], output: &mut [u8; 256]) -> Moved
-    ensures { λ r. ⌜ (r ≡ byteStep s p b (now (buffer .entry))) × ((now (buffer .exit) ≡ byteBuffer p b (now (buffer .entry))) × (now (output .exit) ≡ byteOutput s p b (now (buffer .entry)) (now (output .entry)))) ⌝ }
+fn take_byte(
+    own: u8,
+    s: Serial,
+    p: Partial,
+    b: u8,
+    buffer: &mut [u8],
+    output: &mut [u8; 256],
+) -> Moved
+    ensures { λ r. ⌜ (r ≡ byteStep own s p b (now (buffer .entry))) × ((now (buffer .exit) ≡ byteBuffer p b (now (buffer .entry))) × (now (output .exit) ≡ byteOutput own s p b (now (buffer .entry)) (now (output .entry)))) ⌝ }
 {
     let place = p.place;
     let old = p.header;
@@ -191,7 +216,7 @@ fn take_byte(s: Serial, p: Partial, b: u8, buffer: &mut [u8], output: &mut [u8; 
     let n = header.data_length;
     put(n, place, b, buffer);
     if 8 + n as u32 <= place {
-        return answer(s, header, buffer, output);
+        return answer(own, s, header, buffer, output);
     }
     moves(
         Phase::Receiving(
@@ -224,14 +249,15 @@ pub fn wide(n: u32) -> usize
     n as usize
 }
 
-// The command is whole.
-pub fn answer(s: Serial, header: Header, buffer: &[u8], output: &mut [u8; 256]) -> Moved
-    ensures { λ r. ⌜ (r ≡ answered s header (now (buffer .entry))) × (now (output .exit) ≡ stored s header (now (buffer .entry)) (now (output .entry))) ⌝ }
+// The command is whole: what a unit with this code makes of it goes by its kind.
+pub fn answer(own: u8, s: Serial, header: Header, buffer: &[u8], output: &mut [u8; 256]) -> Moved
+    ensures { λ r. ⌜ (r ≡ answered own s header (now (buffer .entry))) × (now (output .exit) ≡ stored own s header (now (buffer .entry)) (now (output .entry))) ⌝ }
 {
     let c = header.command;
     let n = header.data_length as usize;
     let d = data_in(n, buffer);
-    let v = verdict::verdict_of(s, c, n, d);
+    let kind = kind::kind_of(own);
+    let v = kind::verdict_of(kind, s, c, n, d);
     let reply = v.reply;
     let effect = v.effect;
     let after = s.after(effect, d, output);

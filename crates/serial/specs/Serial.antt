@@ -17,15 +17,35 @@ use Rattle.serial.specs.declared.Effect.the-variants.{Keeps, Opens, Clos
 abbrev pub newSerial : Serial
 newSerial = record { opening = Closed; enabled = false; requesting = false; input = emptyQueue; output = emptyQueue }
 
+-- A state with one thing changed.
+abbrev pub withOpening : Serial → Opening → Serial
+withOpening s opening = record { opening = opening; enabled = s .enabled; requesting = s .requesting; input = s .input; output = s .output }
+
+abbrev pub withService : Serial → Bool → Serial
+withService s enabled = record { opening = s .opening; enabled = enabled; requesting = s .requesting; input = s .input; output = s .output }
+
+abbrev pub withRequest : Serial → Bool → Serial
+withRequest s requesting = record { opening = s .opening; enabled = s .enabled; requesting = requesting; input = s .input; output = s .output }
+
+abbrev pub withInput : Serial → Queue → Serial
+withInput s input = record { opening = s .opening; enabled = s .enabled; requesting = s .requesting; input = input; output = s .output }
+
+abbrev pub withOutput : Serial → Queue → Serial
+withOutput s output = record { opening = s .opening; enabled = s .enabled; requesting = s .requesting; input = s .input; output = output }
+
+-- Service and request end together.
+abbrev pub unserved : Serial → Serial
+unserved s = withRequest (withService s false) false
+
 -- The effects, when the last command nibble is taken. Close closes, ends service and request, empties the input queue; output stays.
 abbrev pub applied : Serial → Effect → List ℕ → Serial
 applied s Keeps d = s
-applied s (Opens m accepted) d = record { opening = OpenFor m accepted; enabled = s .enabled; requesting = s .requesting; input = s .input; output = s .output }
-applied s Closes d = record { opening = Closed; enabled = false; requesting = false; input = emptyQueue; output = s .output }
+applied s (Opens m accepted) d = withOpening s (OpenFor m accepted)
+applied s Closes d = withInput (unserved (withOpening s Closed)) emptyQueue
 applied s Resets d = newSerial
-applied s Enables d = record { opening = s .opening; enabled = true; requesting = s .requesting; input = s .input; output = s .output }
-applied s Disables d = record { opening = s .opening; enabled = false; requesting = false; input = s .input; output = s .output }
-applied s Stores d = record { opening = s .opening; enabled = s .enabled; requesting = s .requesting; input = s .input; output = queueWith (s .output) d }
+applied s Enables d = withService s true
+applied s Disables d = unserved s
+applied s Stores d = withOutput s (queueWith (s .output) d)
 
 -- The output queue's bytes afterwards.
 abbrev pub outputAfter : Serial → Effect → List ℕ → List ℕ → List ℕ
@@ -42,5 +62,5 @@ abbrev pub finished : Serial → Reply → Serial
 finished s Silent = s
 finished s (Status number) = s
 finished s (Opened accepted) = s
-finished s (Bytes n) = record { opening = s .opening; enabled = s .enabled; requesting = s .requesting; input = queueWithout n (s .input); output = s .output }
-finished s Polled = record { opening = s .opening; enabled = s .enabled; requesting = false; input = s .input; output = s .output }
+finished s (Bytes n) = withInput s (queueWithout n (s .input))
+finished s Polled = withRequest s false

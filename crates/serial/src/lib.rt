@@ -1,7 +1,9 @@
-// The state of a serial unit, and what a command's effects and the end of its response do to it. There are no lines in it.
+// The state of a unit, what a command's effects and the end of its response do to it, and the verdict on a command: both together.
+// There are no lines in it, and no kind of unit.
 ghost use mathlib.Core.Path.{_≡_};
 ghost use mathlib.Core.List.{[]};
 ghost use Rattle.serial.specs.Serial.{newSerial, applied, outputAfter, finished};
+ghost use Rattle.serial.specs.Verdict.{says, status, pollBy};
 use queue::Queue;
 
 // What an open unit is open for.
@@ -50,6 +52,12 @@ pub enum Effect {
     Disables,
     // Its data goes into the output queue.
     Stores,
+}
+
+// What a unit answers to a command, and what the command does to it.
+pub struct Verdict {
+    pub reply: Reply,
+    pub effect: Effect,
 }
 
 impl Serial {
@@ -168,4 +176,31 @@ fn heard(s: Serial) -> Serial
     let mut t = s;
     t.requesting = false;
     t
+}
+
+// A reply with an effect.
+pub fn says(reply: Reply, effect: Effect) -> Verdict
+    ensures { λ r. ⌜ r ≡ says reply effect ⌝ }
+{
+    Verdict { reply, effect }
+}
+
+// A status with no data, which changes nothing.
+pub fn status(number: u8) -> Verdict
+    ensures { λ r. ⌜ r ≡ status number ⌝ }
+{
+    says(Reply::Status(number), Effect::Keeps)
+}
+
+// Check 11, the poll: of every kind of unit.
+pub fn poll(s: Serial) -> Verdict
+    ensures { λ r. ⌜ r ≡ pollBy (s .enabled) (s .requesting) ⌝ }
+{
+    if s.enabled {
+        if s.requesting {
+            return says(Reply::Polled, Effect::Keeps);
+        }
+        return status(0x0A);
+    }
+    status(0x0A)
 }

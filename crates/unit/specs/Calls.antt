@@ -4,6 +4,7 @@ use mathlib.Core.Bool.{Bool, cond}
 use mathlib.Core.List.{List}
 use lib.Dec.{ltb}
 use lib.ListN.{length}
+use Rattle.kind.specs.Kinds.{kindOf, isShort}
 use Rattle.line.specs.declared.Lines.{Lines}
 use Rattle.message.specs.Answer.{Answer, gives, refused, kept}
 use Rattle.unit.specs.Unit.{unitStep, unitBuffer, unitOutput}
@@ -11,10 +12,10 @@ use Rattle.unit.specs.declared.Unit.{Unit}
 use Rattle.unit.specs.declared.Stepped.{Stepped}
 use Rattle.unit.specs.declared.Stepped.the-variants.{On, Level, Buffer}
 
--- Stepping: 5 for a nibble level over 15, then 11 for a command buffer under 256.
+-- Stepping: 5 for a nibble level over 15, then 11 for memory that is too short.
 abbrev pub stepping : Unit → Lines → Bool → List ℕ → List ℕ → Answer Unit
 stepping u seen busy buffer input =
-    cond (ltb 15 (seen .nibble)) (refused 5) (cond (ltb (length buffer) 256) (refused 11) (gives (unitStep u seen busy buffer input)))
+    cond (ltb 15 (seen .nibble)) (refused 5) (cond (isShort (kindOf (u .own)) (length buffer)) (refused 11) (gives (unitStep u seen busy buffer input)))
 
 -- A refusal changes no lent memory.
 abbrev pub bufferAfter : Unit → Lines → Bool → List ℕ → List ℕ → List ℕ

@@ -6,7 +6,6 @@ use lib.Dec.{leb}
 use Rattle.line.specs.Line.{senderHsk, senderNibble, listenerHsk}
 use Rattle.line.specs.declared.Lines.{Lines}
 use Rattle.serial.specs.Serial.{newSerial}
-use Rattle.serial.specs.declared.Serial.{Serial}
 use Rattle.phase.specs.Phase.{phaseStep, phaseBuffer, phaseOutput}
 use Rattle.phase.specs.declared.Moved.{Moved}
 use Rattle.phase.specs.declared.Phase.{Phase}
@@ -43,9 +42,9 @@ quietAfter u = min (u .quiet + 1) (u .retry)
 
 -- An idle peripheral that is enabled and holds a request pulls BAV once BAV has been seen high for the retry count of rounds in a
 -- row, the present one included, counted with or without a request. It releases it at the first HSK low it sees in a later round.
-abbrev pub asks : Bool → Serial → ℕ → ℕ → Bool → Bool
-asks true s retry quiet hsk = not hsk
-asks false s retry quiet hsk = s .enabled && (s .requesting && leb retry quiet)
+abbrev pub asks : Bool → Bool → Bool → ℕ → ℕ → Bool → Bool
+asks true enabled requesting retry quiet hsk = not hsk
+asks false enabled requesting retry quiet hsk = enabled && (requesting && leb retry quiet)
 
 -- BAV seen high is looked at before everything else, in every phase: all lines are released (a request's pull is the exception),
 -- the message is dropped, phase idle.
@@ -54,7 +53,7 @@ highStep u hsk = record {
   own = u .own;
   retry = u .retry;
   quiet = quietAfter u;
-  asking = asks (u .asking) (u .serial) (u .retry) (quietAfter u) hsk;
+  asking = asks (u .asking) (u .serial .enabled) (u .serial .requesting) (u .retry) (quietAfter u) hsk;
   phase = Idle;
   serial = u .serial;
 }
@@ -79,4 +78,4 @@ abbrev pub unitBuffer : Unit → Lines → List ℕ → List ℕ
 unitBuffer u seen buffer = cond (seen .bav) (phaseBuffer (u .phase) seen buffer) buffer
 
 abbrev pub unitOutput : Unit → Lines → List ℕ → List ℕ → List ℕ
-unitOutput u seen buffer output = cond (seen .bav) (phaseOutput (u .phase) (u .serial) seen buffer output) output
+unitOutput u seen buffer output = cond (seen .bav) (phaseOutput (u .phase) (u .own) (u .serial) seen buffer output) output

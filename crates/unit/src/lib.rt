@@ -1,4 +1,4 @@
-// A serial unit: its settings and state, its round, and what it pulls.
+// A unit: its settings and state, its round, and what it pulls.
 ghost use mathlib.Core.Path.{_≡_};
 ghost use mathlib.Core.Bool.{_&&_, not};
 ghost use Prim.Native.Nat.{_+_, min};
@@ -44,7 +44,7 @@ pub fn step(
     if 15 < seen.nibble {
         return Stepped::Level;
     }
-    if buffer.len() < 256 {
+    if kind::is_short(kind::kind_of(u.own), buffer.len()) {
         return Stepped::Buffer;
     }
     Stepped::On(round(u, seen, busy, buffer, input, output))
@@ -117,7 +117,14 @@ fn dropped(u: Unit, hsk: bool) -> Unit
 {
     let serial = u.serial;
     let quiet = quiet_after(u.quiet, u.retry);
-    let asking = asks(u.asking, serial, u.retry, quiet, hsk);
+    let asking = asks(
+        u.asking,
+        serial.enabled,
+        serial.requesting,
+        u.retry,
+        quiet,
+        hsk,
+    );
     Unit {
         own: u.own,
         retry: u.retry,
@@ -135,14 +142,21 @@ pub fn quiet_after(quiet: u16, retry: u16) -> u16
 }
 
 // Whether it pulls BAV for its request, after a round with BAV seen high.
-pub fn asks(asking: bool, s: Serial, retry: u16, quiet: u16, hsk: bool) -> bool
-    ensures { λ r. ⌜ r ≡ asks asking s retry quiet hsk ⌝ }
+pub fn asks(
+    asking: bool,
+    enabled: bool,
+    requesting: bool,
+    retry: u16,
+    quiet: u16,
+    hsk: bool,
+) -> bool
+    ensures { λ r. ⌜ r ≡ asks asking enabled requesting retry quiet hsk ⌝ }
 {
     if asking {
         return if hsk { false } else { true };
     }
-    if s.enabled {
-        if s.requesting {
+    if enabled {
+        if requesting {
             return retry <= quiet;
         }
         return false;

@@ -9,6 +9,9 @@ cast-n c = search needs
 data-in-requires : tie.Need-data-in-requires
 data-in-requires c κs = search needs
 
+kind-of-requires : tie.Need-kind-of-requires
+kind-of-requires c κs = search needs
+
 verdict-of-requires : tie.Need-verdict-of-requires
 verdict-of-requires c κs = search needs
 
@@ -21,10 +24,10 @@ moves-requires c κs = search needs
 returns : tie.Need-returns
 returns c = (
   cc,
-  simp (← (c .before .before .before .before .data-in .ensures), ← (c .before .before .before .verdict-of .ensures), ← (c .moves .ensures)) (c .before .after .ensures .1),
+  simp (← (c .before .before .before .before .before .data-in .ensures), ← (c .before .before .before .before .kind-of .ensures), ← (c .before .before .before .verdict-of .ensures), ← (c .moves .ensures)) (c .before .after .ensures .1),
 )
 
 pub answer-spec : {M : Type 1} → statement M
 answer-spec =
     tie.close
-    (tie.spec cast-n data-in-requires verdict-of-requires after-requires moves-requires returns)
+    (tie.spec cast-n data-in-requires kind-of-requires verdict-of-requires after-requires moves-requires returns)

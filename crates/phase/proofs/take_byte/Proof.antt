@@ -53,10 +53,10 @@ returns c =
     let a = at-put .before .before .before .before .before .before .args in
     let h = at-put .before .before .with .result in
     let l = at-put .put .last .1 .1 .1 .0 in (
-      c .answer .ensures .0 ∙ last-byte (a .s) (a .p) (a .b) (a .buffer .now) (a .output .now) h (header-is at-put) l (buffer-is at-put) (at-test .if1 .taken),
+      c .answer .ensures .0 ∙ last-byte (a .own) (a .s) (a .p) (a .b) (a .buffer .now) (a .output .now) h (header-is at-put) l (buffer-is at-put) (at-test .if1 .taken),
       (
         buffer-is at-put,
-        c .answer .ensures .1 ∙ last-output (a .s) (a .p) (a .b) (a .buffer .now) (a .output .now) h (header-is at-put) l (buffer-is at-put) (at-test .if1 .taken),
+        c .answer .ensures .1 ∙ last-output (a .own) (a .s) (a .p) (a .b) (a .buffer .now) (a .output .now) h (header-is at-put) l (buffer-is at-put) (at-test .if1 .taken),
       ),
     )
 
@@ -78,8 +78,8 @@ returns-2 c =
     let at-put = at-test .before .before .before in
     let a = at-put .before .before .before .before .before .before .args in
     let h = at-put .before .before .with .result in (
-      c .moves .ensures ∙ ap (λ (x : Partial). moves (Receiving Holding (Taking x)) (a .s)) (c .before .whole-bytes .ensures) ∙ more-bytes (a .s) (a .p) (a .b) (a .buffer .now) (a .output .now) h (header-is at-put) (at-test .if1 .left),
-      (buffer-is at-put, more-output (a .s) (a .p) (a .b) (a .buffer .now) (a .output .now) h (header-is at-put) (at-test .if1 .left)),
+      c .moves .ensures ∙ ap (λ (x : Partial). moves (Receiving Holding (Taking x)) (a .s)) (c .before .whole-bytes .ensures) ∙ more-bytes (a .own) (a .s) (a .p) (a .b) (a .buffer .now) (a .output .now) h (header-is at-put) (at-test .if1 .left),
+      (buffer-is at-put, more-output (a .own) (a .s) (a .p) (a .b) (a .buffer .now) (a .output .now) h (header-is at-put) (at-test .if1 .left)),
     )
 
 pub take-byte-spec : {M : Type 1} → statement M

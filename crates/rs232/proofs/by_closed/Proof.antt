@@ -1,0 +1,49 @@
+-- `rs232::by_closed` meets its contract: the tests are those of `closedBy`.
+use borrow.Author.Needs.{needs}
+use Rattle.rs232.proofs.by_closed.Statement.{statement}
+use Rattle.rs232.proofs.by_closed.Tie as tie
+
+at-requires : tie.Need-at-requires
+at-requires c κs = search needs
+
+at-requires-2 : tie.Need-at-requires-2
+at-requires-2 c κs = search needs
+
+value-of-requires : tie.Need-value-of-requires
+value-of-requires c κs = search needs
+
+at-requires-3 : tie.Need-at-requires-3
+at-requires-3 c κs = search needs
+
+open-requires : tie.Need-open-requires
+open-requires c κs = search needs
+
+returns : tie.Need-returns
+returns c = simp (c .before .before .before .before .before .if1 .taken) (simp (← (c .before .before .before .before .at .ensures), ← (c .before .before .before .at2 .ensures), ← (c .before .before .value-of .ensures), ← (c .before .at3 .ensures)) (c .«open» .ensures))
+
+poll-requires : tie.Need-poll-requires
+poll-requires c κs = search needs
+
+returns-2 : tie.Need-returns-2
+returns-2 c = simp (c .before .before .before .if1 .left, c .before .if2 .taken) (c .poll .ensures)
+
+status-requires : tie.Need-status-requires
+status-requires c κs = search needs
+
+returns-3 : tie.Need-returns-3
+returns-3 c = simp (c .before .before .before .if1 .left, c .before .if2 .left) (c .status .ensures)
+
+pub by-closed-spec : {M : Type 1} → statement M
+by-closed-spec =
+    tie.close
+    (tie.spec
+    at-requires
+    at-requires-2
+    value-of-requires
+    at-requires-3
+    open-requires
+    returns
+    poll-requires
+    returns-2
+    status-requires
+    returns-3)
