@@ -65,26 +65,26 @@ effect-length s Enables d bytes = refl
 effect-length s Disables d bytes = refl
 effect-length s Stores d bytes = length-with bytes (s .output) d
 
-end-length : (s : Serial) (p : Partial) (b : ℕ) (buffer output : List ℕ) → length (byteOutput s p b buffer output) ≡ length output
-end-length s p b buffer output =
+end-length : (own : ℕ) (s : Serial) (p : Partial) (b : ℕ) (buffer output : List ℕ) → length (byteOutput own s p b buffer output) ≡ length output
+end-length own s p b buffer output =
     let h = withByte (p .header) (p .place) b in
     let buffer′ = byteBuffer p b buffer in
-    either (isLast (h .«data_length») (p .place)) _ output output (effect-length s (verdictOn s h buffer′ .effect) (storedData (h .«data_length») buffer′) output) refl
+    either (isLast (h .«data_length») (p .place)) _ output output (effect-length s (verdictOn own s h buffer′ .effect) (storedData (h .«data_length») buffer′) output) refl
 
-phase-output : (x : Phase) (s : Serial) (seen : Lines) (buffer output : List ℕ) → length (phaseOutput x s seen buffer output) ≡ length output
-phase-output Idle s seen buffer output = refl
-phase-output (Selecting ear half low) s seen buffer output = refl
-phase-output (Receiving ear (Taking p)) s seen buffer output =
+phase-output : (x : Phase) (own : ℕ) (s : Serial) (seen : Lines) (buffer output : List ℕ) → length (phaseOutput x own s seen buffer output) ≡ length output
+phase-output Idle own s seen buffer output = refl
+phase-output (Selecting ear half low) own s seen buffer output = refl
+phase-output (Receiving ear (Taking p)) own s seen buffer output =
     let b = byteFrom (p .low) (seen .nibble) in
-    either (takenOf ear (seen .hsk)) _ output output (either (p .half) (byteOutput s p b buffer output) output output (end-length s p b buffer output) refl) refl
-phase-output (Receiving ear (Answered reply)) s seen buffer output = refl
-phase-output (Responding reply i sender wait) s seen buffer output = refl
-phase-output (SittingOut last) s seen buffer output = refl
+    either (takenOf ear (seen .hsk)) _ output output (either (p .half) (byteOutput own s p b buffer output) output output (end-length own s p b buffer output) refl) refl
+phase-output (Receiving ear (Answered reply)) own s seen buffer output = refl
+phase-output (Responding reply i sender wait) own s seen buffer output = refl
+phase-output (SittingOut last) own s seen buffer output = refl
 
 pub output-length : (u : Unit) (seen : Lines) (busy : Bool) (buffer input output : List ℕ) → length (outputAfter u seen busy buffer input output) ≡ length output
 output-length u seen busy buffer input output =
     answered (stepping u seen busy buffer input) (unitOutput u seen buffer output) output
-    (either (seen .bav) (phaseOutput (u .phase) (u .serial) seen buffer output) output output (phase-output (u .phase) (u .serial) seen buffer output) refl)
+    (either (seen .bav) (phaseOutput (u .phase) (u .own) (u .serial) seen buffer output) output output (phase-output (u .phase) (u .own) (u .serial) seen buffer output) refl)
 
 -- A part of 256 bytes.
 pub part-length : (k : ℕ) (m : List ℕ) {part : List ℕ} → k + 256 ≤ length m → part ≡ take 256 (drop k m) → length part ≡ 256

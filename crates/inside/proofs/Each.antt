@@ -1,4 +1,5 @@
--- Every verdict is one of a few: a property of each of these is a property of the verdict, whatever the state, the command and its data.
+-- Every verdict of a serial unit is one of a few: a property of each of these is a property of the verdict, whatever the state, the
+-- command and its data.
 use Prim.Native.Nat.{ℕ, _/_, _%_, _<_, _≤_, min}
 use native.Mathlib.Nat.{min-le-left, min-le-right, le-trans}
 use mathlib.Core.Path.{_≡_, refl, sym, _∙_, ap}
@@ -9,7 +10,10 @@ use lib.Dec.{ltb, eqb, lit<}
 use lib.ListN.{getD}
 use Rattle.field.specs.Field.{valueOf}
 use Rattle.header.specs.declared.Command.{Command}
+use Rattle.kind.specs.Kinds.{verdictOf}
+use Rattle.kind.specs.declared.Kind.the-variants.{Serial as SerialUnit}
 use Rattle.queue.specs.Queue.{held, room}
+use Rattle.rs232.specs.Checks.{modeOf, acceptedOf, openBy, readBy, writeBy, openedBy, commandBy, supported}
 use Rattle.serial.specs.declared.Effect.the-variants.{Keeps, Opens, Closes, Resets, Enables, Disables, Stores}
 use Rattle.serial.specs.declared.Mode.{Mode}
 use Rattle.serial.specs.declared.Mode.the-variants.{Input, Output, Update}
@@ -17,8 +21,8 @@ use Rattle.serial.specs.declared.Opening.{Opening}
 use Rattle.serial.specs.declared.Opening.the-variants.{Closed, OpenFor}
 use Rattle.serial.specs.declared.Reply.the-variants.{Silent, Status, Opened, Bytes, Polled}
 use Rattle.serial.specs.declared.Serial.{Serial}
-use Rattle.verdict.specs.Verdict.{says, status, modeOf, acceptedOf, openBy, readBy, writeBy, openedBy, pollBy, commandBy, supported, verdictOf}
-use Rattle.verdict.specs.declared.Verdict.{Verdict}
+use Rattle.serial.specs.Verdict.{says, status, pollBy}
+use Rattle.serial.specs.declared.Verdict.{Verdict}
 
 -- An or that holds, by one side where the other does not.
 pub or-right : (a : Bool) {b : Bool} → a ≡ false → (a || b) ≡ true → b ≡ true
@@ -93,7 +97,7 @@ module _ (s : Serial) (c : Command) where
         by-test (eqb (c .command) 0x00) _ _ (λ _. each .refuses 0x05 (lit< tt)) (λ a.
         by-test (eqb (c .command) 0x0A) _ _ (λ e. each-poll e (s .enabled) (s .requesting)) (λ b. each-in m accepted n known a b))
 
-    pub verdict-is : (n : ℕ) (d : List ℕ) → P (verdictOf s c n d)
+    pub verdict-is : (n : ℕ) (d : List ℕ) → P (verdictOf SerialUnit s c n d)
     verdict-is n d =
         by-test (eqb (c .command) 0xFE) _ _ (λ _. each .silent) (λ _.
         by-test (eqb (c .command) 0xFF) _ _ (λ e. each .resets e) (λ _.

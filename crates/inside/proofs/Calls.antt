@@ -1,0 +1,65 @@
+-- A host call reaches what is inside a unit, and nothing of its lines.
+use Prim.Native.Nat.{ℕ}
+use mathlib.Core.Path.{_≡_, refl}
+use mathlib.Core.Bool.{Bool, true, false, cond}
+use mathlib.Core.List.{List, [], _∷_}
+use lib.Dec.{eqb}
+use Rattle.bus.specs.Bus.{unitAfter}
+use Rattle.bus.specs.declared.Station.{Station}
+use Rattle.host.specs.Calls.{feedingIn, inUnit, takingIn, takenBy, raisingIn}
+use Rattle.kind.specs.Kinds.{kindOf, isFed}
+use Rattle.kind.specs.declared.Kind.{Kind}
+use Rattle.message.specs.Answer.{Answer, gives, refused, kept}
+use Rattle.queue.specs.Queue.{bytesWith, popped, queueWith, room}
+use Rattle.queue.specs.declared.Popped.{Popped}
+use Rattle.queue.specs.declared.Popped.the-variants.{Byte, Nothing}
+use Rattle.serial.specs.Serial.{withInput, withRequest}
+use Rattle.serial.specs.declared.Serial.{Serial}
+use Rattle.inside.specs.Calls.{HostCall, feeds, takes, raises, unitTaken, calledBy, called, stateAfter}
+use Rattle.inside.specs.Inside.{Inside, insideOf, isServed, hasRequest}
+
+pub record Called (call : HostCall) (st after : Station) : Type 0 where
+  pub own : after .unit .own ≡ st .unit .own
+  pub asking : after .unit .asking ≡ st .unit .asking
+  pub phase : after .unit .phase ≡ st .unit .phase
+  pub buffer : after .buffer ≡ st .buffer
+  pub inside : insideOf after ≡ called (kindOf (st .unit .own)) call (insideOf st)
+
+pub unit-called : (call : HostCall) (st : Station) → Called call st (calledBy call st)
+unit-called (feeds b h) st = by (feedingIn (kindOf (st .unit .own)) (st .unit .serial) b) refl
+  where
+    by : (a : Answer Serial) → feedingIn (kindOf (st .unit .own)) (st .unit .serial) b ≡ a → Called (feeds b h) st (calledBy (feeds b h) st)
+    by (gives s) e = record { own = rw e; asking = rw e; phase = rw e; buffer = refl; inside = rw e }
+    by (refused k) e = record { own = rw e; asking = rw e; phase = rw e; buffer = refl; inside = rw e }
+unit-called takes st = by (popped (st .output) (st .unit .serial .output)) refl
+  where
+    by : (p : Popped) → popped (st .output) (st .unit .serial .output) ≡ p → Called takes st (calledBy takes st)
+    by (Byte b q) e = record { own = rw e; asking = rw e; phase = rw e; buffer = refl; inside = rw e }
+    by Nothing e = record { own = rw e; asking = rw e; phase = rw e; buffer = refl; inside = rw e }
+unit-called raises st = by (raisingIn (st .unit .serial)) refl
+  where
+    by : (a : Answer Serial) → raisingIn (st .unit .serial) ≡ a → Called raises st (calledBy raises st)
+    by (gives s) e = record { own = rw e; asking = rw e; phase = rw e; buffer = refl; inside = rw e }
+    by (refused k) e = record { own = rw e; asking = rw e; phase = rw e; buffer = refl; inside = rw e }
+
+-- A raise leaves a request where service is enabled; no call ends one.
+pub raised : (kind : Kind) (x : Inside) → isServed x ≡ true → hasRequest (called kind raises x) ≡ true
+raised kind x e = rw e
+
+pub request-called : (kind : Kind) (x : Inside) (call : HostCall) → hasRequest x ≡ true → hasRequest (called kind call x) ≡ true
+request-called kind x (feeds b h) r = by (isFed kind (x .state .opening)) (eqb (room (x .state .input)) 0)
+  where
+    by : (t v : Bool) → stateAfter (cond t (cond v (refused 6) (gives (withInput (x .state) (queueWith (x .state .input) (b ∷ []))))) (refused 7)) (x .state) .requesting ≡ true
+    by true true = r
+    by true false = r
+    by false v = r
+request-called kind x takes r = by (popped (x .output) (x .state .output))
+  where
+    by : (p : Popped) → takingIn (x .state) p .requesting ≡ true
+    by (Byte b q) = r
+    by Nothing = r
+request-called kind x raises r = by (x .state .enabled)
+  where
+    by : (t : Bool) → stateAfter (cond t (gives (withRequest (x .state) true)) (refused 7)) (x .state) .requesting ≡ true
+    by true = refl
+    by false = r

@@ -1,0 +1,5 @@
+pub mod Replies
+pub mod Calls
+pub mod Each
+pub mod SerialUnit
+pub mod Lawful

@@ -1,0 +1,52 @@
+-- What the bus needs of a kind of unit. The theorems of demands 2 and 3 use these laws and unfold no check: a new kind is a new case of
+-- `Lent` and `Fit` here, with the proof that it is lawful. `proofs/Lawful.antt` has one for every kind.
+use Prim.Native.Nat.{ℕ}
+use mathlib.Core.Path.{_≡_}
+use mathlib.Core.Bool.{Bool, true, false, cond, _&&_, _||_}
+use mathlib.Core.List.{List, []}
+use lib.Dec.{eqb}
+use lib.ListN.{length}
+use Rattle.field.specs.Field.{Below}
+use Rattle.frame.specs.Frame.{pollOf}
+use Rattle.header.specs.declared.Command.{Command}
+use Rattle.kind.specs.declared.Kind.{Kind}
+use Rattle.kind.specs.declared.Kind.the-variants.{Serial as SerialUnit}
+use Rattle.reply.specs.Reply.{isSilent, replyStatus}
+use Rattle.serial.specs.Serial.{newSerial}
+use Rattle.serial.specs.declared.Reply.{Reply}
+use Rattle.whole.specs.Back.{Answered}
+use Rattle.inside.specs.Calls.{HostCall, called, calledAll}
+use Rattle.inside.specs.Inside.{Inside, isServed, hasRequest, replyOf, taken, ended, dataIn, clears}
+
+-- The memory that a unit of a kind is lent: 256 bytes for the input of a serial unit.
+abbrev pub Lent : Kind → Inside → Type 0
+Lent SerialUnit x = (length (x .input) ≡ 256) × Below 256 (x .input)
+
+-- What holds inside it from a quiet start on: that memory, and a request only while service is enabled.
+abbrev pub Fit : Kind → Inside → Type 0
+Fit SerialUnit x = Lent SerialUnit x × (hasRequest x ≡ true → isServed x ≡ true)
+
+-- The commands that end a request.
+abbrev pub isEnding : ℕ → Bool
+isEnding code = eqb code 0x01 || (eqb code 0x09 || eqb code 0xFF)
+
+pub record Lawful (kind : Kind) : Type 0 where
+  -- What fits goes on to, whatever comes.
+  pub fit-new : (x : Inside) → x .state ≡ newSerial → Lent kind x → Fit kind x
+  pub fit-taken : (x : Inside) (c : Command) (n : ℕ) (d : List ℕ) → Fit kind x → Fit kind (taken kind x c n d)
+  pub fit-ended : (x : Inside) (r : Reply) → Fit kind x → Fit kind (ended x r)
+  pub fit-called : (x : Inside) (call : HostCall) → Fit kind x → Fit kind (called kind call x)
+  -- The response is one, and its data fits the buffer length field.
+  pub answers : (x : Inside) (c : Command) (n : ℕ) (d : List ℕ) → Fit kind x → Answered (dataIn x (replyOf kind x c n d)) (replyStatus (replyOf kind x c n d)) (c .«buffer_length»)
+  -- Its data, and so its length, stays the same under the effects of its own command and under calls in mid-answer.
+  pub stands : (x : Inside) (c : Command) (n : ℕ) (d : List ℕ) (calls : List HostCall) → Fit kind x → dataIn (calledAll kind calls (taken kind x c n d)) (replyOf kind x c n d) ≡ dataIn x (replyOf kind x c n d)
+  -- At code 0 there is silence, and nothing but a reset acts.
+  pub zero-silent : (x : Inside) (c : Command) (n : ℕ) (d : List ℕ) → c .device ≡ 0 → isSilent (replyOf kind x c n d) ≡ true
+  pub zero-keeps : (x : Inside) (c : Command) (n : ℕ) (d : List ℕ) → c .device ≡ 0 → eqb (c .command) 0xFF ≡ false → taken kind x c n d ≡ x
+  -- A poll is answered 00 if service is enabled and a request is held, else 0A; nothing else has an answer that clears a request.
+  pub polled : (x : Inside) (own : ℕ) → Fit kind x → (own ≡ 0 → ⊥) → replyStatus (replyOf kind x (pollOf own .command) 0 []) ≡ cond (isServed x && hasRequest x) 0x00 0x0A
+  pub speaks : (x : Inside) (own : ℕ) → Fit kind x → (own ≡ 0 → ⊥) → isSilent (replyOf kind x (pollOf own .command) 0 []) ≡ false
+  pub clears-poll : (x : Inside) (c : Command) (n : ℕ) (d : List ℕ) → clears (replyOf kind x c n d) ≡ true → eqb (c .command) 0x0A ≡ true
+  -- A request is held only while service is enabled, and no other command ends it.
+  pub served : (x : Inside) → Fit kind x → hasRequest x ≡ true → isServed x ≡ true
+  pub request-taken : (x : Inside) (c : Command) (n : ℕ) (d : List ℕ) → isEnding (c .command) ≡ false → hasRequest (taken kind x c n d) ≡ hasRequest x
