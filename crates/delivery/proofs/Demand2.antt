@@ -8,8 +8,13 @@ use lib.Dec.{ltb, lit<}
 use lib.ListN.{length}
 use native.Mathlib.Nat.{not-suc-le-zero}
 use Rattle.delivery.proofs.Left.{left-called}
-use Rattle.delivery.specs.Calls.{HostCall, Call, host as at-unit, submits, acknowledges, calledAt, called}
-use Rattle.delivery.proofs.Calls.{called as unit-called}
+use Rattle.delivery.specs.Calls.{Call, host as at-unit, submits, acknowledges, calledAt, called}
+use Rattle.inside.specs.Calls.{HostCall}
+use Rattle.inside.specs.Inside.{Inside, insideOf}
+use Rattle.inside.specs.Lawful.{Fit}
+use Rattle.inside.proofs.Calls.{unit-called}
+use Rattle.inside.proofs.Lawful.{every-lawful}
+use Rattle.kind.specs.Kinds.{kindOf, isShort}
 use Rattle.whole.specs.Whole.{bytesFor}
 use Rattle.reply.specs.Reply.{isSilent, lastNibble as lastOf}
 use Rattle.line.specs.Line.{isReady, hearOf, sentOf}
@@ -76,7 +81,12 @@ use Rattle.delivery.proofs.Run.{on-called, in-frame-called}
 
 -- A quiet start is a rest.
 new-fresh : (st : Station) → New st → Fresh st × Sound st
-new-fresh st n = (idles (ap (λ (u : Unit). u .phase) (n .is-new)), n .lent)
+new-fresh st n =
+    let own : st .unit .own ≡ n .own = ap (λ (u : Unit). u .own) (n .is-new) in
+    let fit : Fit (kindOf (n .own)) (insideOf st) = every-lawful (kindOf (n .own)) .fit-new (insideOf st) (ap (λ (u : Unit). u .serial) (n .is-new)) (n .lent) in (
+      idles (ap (λ (u : Unit). u .phase) (n .is-new)),
+      record { room = ap (λ (k : ℕ). isShort (kindOf k) (length (st .buffer))) own ∙ n .room; fit = subst (λ (k : ℕ). Fit (kindOf k) (insideOf st)) (sym own) fit },
+    )
 
 starts : (T : Moment) (w : World) → QuietStart w → On T w
 starts T w q =
@@ -85,28 +95,28 @@ starts T w q =
 
 -- What was known of the moments is known still.
 abbrev Wider : Moment → Moment → Type 0
-Wider T U = (own : ℕ) (s : Serial) (m : List ℕ) → T own s m → U own s m
+Wider T U = (own : ℕ) (x : Inside) → T own x → U own x
 
-abbrev wider-promise : {T U : Serial → List ℕ → Type 0} {c : Command} {d : List ℕ} {r : Reply} {s : Serial} {input : List ℕ} → ((x : Serial) (m : List ℕ) → T x m → U x m) → Promised T c d r s input → Promised U c d r s input
-wider-promise g p = record { given = p .given; memory = p .memory; took = g (p .given) (p .memory) (p .took); said = p .said; stands = p .stands; long = p .long; enough = p .enough; fits = p .fits }
+abbrev wider-promise : {T U : Moment} {own : ℕ} {c : Command} {d : List ℕ} {r : Reply} {x : Inside} → Wider T U → Promised T own c d r x → Promised U own c d r x
+wider-promise {own = own} g p = record { given = p .given; took = g own (p .given) (p .took); fit = p .fit; said = p .said; calls = p .calls; now = p .now }
 
 pub wider-frame : {T U : Moment} {f : Frame} {found : List ℕ} {w : World} → Wider T U → InFrame T f found w → InFrame U f found w
 wider-frame g (begins framed d a) = begins framed d a
 wider-frame {T} {U} g (sends i sender framed d s l a) = sends i sender framed d s l (all-map (λ st p. (part st (p .0), p .1)) a)
   where
-    part : {c : Command} {e : List ℕ} {k : ℕ} {x : Sender} (st : Station) → Part (Promised (T (st .unit .own)) c e) c e k x st → Part (Promised (U (st .unit .own)) c e) c e k x st
+    part : {c : Command} {e : List ℕ} {k : ℕ} {x : Sender} (st : Station) → Part (Promised T (st .unit .own) c e) c e k x st → Part (Promised U (st .unit .own) c e) c e k x st
     part st (listens ear t f h a q) = listens ear t f h a q
-    part st (answers ear r f l a e p q) = answers ear r f l a e (wider-promise (g (st .unit .own)) p) q
+    part st (answers ear r f l a e p q) = answers ear r f l a e (wider-promise g p) q
     part st (sits now a e k q) = sits now a e k q
 wider-frame {T} {U} g (hears ear taken quiet framed d l o) = hears ear taken quiet framed d l (one-map (λ st p. (talk st (p .0), p .1)) o)
   where
     talk : {c : Command} {e : List ℕ} {stores : Bool} {found : List ℕ} {ear : Listener} {taken : Response} {quiet : ℕ} {buffer : List ℕ} (st : Station) → Talk T c e stores found ear taken quiet buffer st → Talk U c e stores found ear taken quiet buffer st
-    talk st (talks r j t sender wait e p fits h b l w z q own) = talks r j t sender wait e (wider-promise (g (st .unit .own)) p) fits h b l w z q own
+    talk st (talks r j t sender wait e p fits h b l w z q own) = talks r j t sender wait e (wider-promise g p) fits h b l w z q own
 wider-frame {T} {U} g (waits quiet framed d a why) = waits quiet framed d a (all-map hush why)
   where
     hush : {c : Command} {e : List ℕ} (st : Station) → Hushed T c e st → Hushed U c e st
     hush st (not-its-own e) = not-its-own e
-    hush st (by-the-rule given memory t e) = by-the-rule given memory (g (st .unit .own) given memory t) e
+    hush st (by-the-rule given t e) = by-the-rule given (g (st .unit .own) given t) e
 
 pub frame-runs : {T : Moment} {f : Frame} {found : List ℕ} {w : World} → InFrame T f found w → inFrame (w .controller .stage) ≡ true
 frame-runs (begins framed d a) = refl
@@ -122,18 +132,18 @@ wider-on g (runs f found x codes) = runs f found (wider-frame (g (frame-runs x))
 
 -- What a run has noted.
 pub notes : {w v : World} (r : Run w v) (busy : Busy) → Noted (Took (a-round r busy)) v busy
-notes r busy st after becomes e now = takes-it st after becomes e now refl refl refl
+notes r busy st after becomes e now = takes-it st after becomes e now refl refl
 
 pub every-run : Runs
 every-run w v q start = starts _ w q
-every-run w _ q (a-round {v = v} r busy) = on-round (Took (a-round r busy)) busy (notes r busy) (wider-on (λ e own s m t. took-it e t) (every-run w v q r))
+every-run w _ q (a-round {v = v} r busy) = on-round (Took (a-round r busy)) busy (notes r busy) (wider-on (λ e own x t. took-it e t) (every-run w v q r))
 every-run w _ q (a-call {v = v} r call) = on-called (every-run w v q r) call
 
 pub every-frame : Frames
 every-frame T f found w busy noted x = frame-round T f found busy noted x
 
 pub every-response : Responses
-every-response w v r f found x busy = frame-round (Took (a-round r busy)) f found busy (notes r busy) (wider-frame (λ own s m t. took-it (frame-runs x) t) x)
+every-response w v r f found x busy = frame-round (Took (a-round r busy)) f found busy (notes r busy) (wider-frame (λ own y t. took-it (frame-runs x) t) x)
 
 pub every-call : FramesCalled
 every-call T f found w x call = in-frame-called call x
@@ -145,7 +155,7 @@ fits-count f-placed = omega arith
 fits-count f-holds = omega arith
 fits-count f-waits = omega arith
 
-delivered : (T : Moment) {c : Command} {d : List ℕ} {i : ℕ} {sender : Sender} (st : Station) → Part (Promised (T (st .unit .own)) c d) c d i sender st → Delivered T c d i st
+delivered : (T : Moment) {c : Command} {d : List ℕ} {i : ℕ} {sender : Sender} (st : Station) → Part (Promised T (st .unit .own) c d) c d i sender st → Delivered T c d i st
 delivered T {i = i} st (listens ear t f h a q) = let n : t ≤ 1 = fits-count f in listening ear (i + t) (omega arith) (omega arith) a h
 delivered T st (answers ear r f l a e p q) = whole ear r a l e p
 delivered T st (sits now a e k q) = sitting now a e
@@ -251,8 +261,7 @@ every-step w v q r busy =
   where
     unit-step : ltb 15 (levels v .nibble) ≡ false → (st : Station) → Sound st → (u : Unit) × (unitStepping (st .unit) (levels v) busy (st .buffer) (st .input) ≡ gives u)
     unit-step fine st s =
-        let room : ltb (length (st .buffer)) 256 ≡ false = le-ltb (length (st .buffer)) 256 (s .room) in
-        let e : unitStepping (st .unit) (levels v) busy (st .buffer) (st .input) ≡ gives (unitStep (st .unit) (levels v) busy (st .buffer) (st .input)) = rw (fine, room) in
+        let e : unitStepping (st .unit) (levels v) busy (st .buffer) (st .input) ≡ gives (unitStep (st .unit) (levels v) busy (st .buffer) (st .input)) = rw (fine, s .room) in
         (unitStep (st .unit) (levels v) busy (st .buffer) (st .input), e)
 
 -- Frames end: the rounds that are left are at most the longest, and each round with no host busy takes one away.
@@ -269,7 +278,7 @@ all-left (call ∷ calls) y = all-left calls (in-frame-called call y) ∙ left-c
 
 -- Where nothing is asked of the moments.
 abbrev Any : Moment
-Any own s m = own ≡ own
+Any own x = own ≡ own
 
 ends-in : (n : ℕ) (f : Frame) (found : List ℕ) (w : World) → left w < n → InFrame Any f found w → Ends n w
 ends-in zero f found w h x = absurd (not-suc-le-zero h)
@@ -288,7 +297,7 @@ at-most f found w (hears ear taken quiet {timeout = timeout} {units = units} fra
 at-most f found w (waits quiet {timeout = timeout} framed d a why) = let k = sits-left (levels w .hsk) (timeout - quiet) a in omega arith
 
 pub frames-end : FramesEnd
-frames-end T f found w x = ends-in (longest f (w .controller .timeout)) f found w (at-most f found w x) (wider-frame (λ own s m t. refl) x)
+frames-end T f found w x = ends-in (longest f (w .controller .timeout)) f found w (at-most f found w x) (wider-frame (λ own y t. refl) x)
 
 -- What a round of a frame makes of its units.
 talk-addressed : {T : Moment} {c : Command} {d : List ℕ} {stores : Bool} {found : List ℕ} {ear : Listener} {taken : Response} {quiet : ℕ} {buffer : List ℕ} (st : Station) → Talk T c d stores found ear taken quiet buffer st → addressed c (st .unit .own) ≡ true
@@ -308,7 +317,7 @@ pub changes-by : (T : Moment) (f : Frame) (found : List ℕ) (w : World) (host :
 changes-by T f found w host (begins {lent = lent} framed d a) step = all-map (λ st p. fresh-changes (f .command) (dataOf f lent) (step st (p .1)) (begin-high a) (p .0)) a
 changes-by T f found w host (sends i sender {units = units} {lent = lent} framed d s l a) step =
     all-map (λ st p.
-    part-changes (Promised (T (st .unit .own)) (f .command) (dataOf f lent)) (f .command) (dataOf f lent) (framed .sent) i sender st (stationStep st (levels w) host) (levels w) host (step st (p .0 .1))
+    part-changes (Promised T (st .unit .own) (f .command) (dataOf f lent)) (f .command) (dataOf f lent) (framed .sent) i sender st (stationStep st (levels w) host) (levels w) host (step st (p .0 .1))
     (shows sender units (nibble-below (bytesFor (f .command) (dataOf f lent)) i) s a) (p .1) l (p .0 .0)) (all-zip a (hsk-own (sending sender) units))
 changes-by T f found w host (hears ear taken quiet {lent = lent} framed d l o) step =
     one-all (λ st p. talk-changes (f .command) (dataOf f lent) (step st (p .1)) (talk-addressed st (p .0)) (p .0)) (λ st p. sits-changes (f .command) (dataOf f lent) (step st (p .1)) (p .0 .0)) o
@@ -323,7 +332,7 @@ nobody-else T f found w x host = all-map (λ st y e. by e y) (changes T f found 
     by : {c : Command} {d : List ℕ} {st after : Station} → addressed c (st .unit .own) ≡ false → Changed c d st after → Untouched st after
     by e (unchanged same as-before) = same
     by e (fixed-now a old new) = absurd (true≢false (sym a ∙ e))
-    by e (done-now a r j sender p phase serial input output) = absurd (true≢false (sym a ∙ e))
+    by e (done-now a r j sender p phase inside) = absurd (true≢false (sym a ∙ e))
 
 -- A unit that has taken the last nibble takes no other in that frame.
 data Past : Phase → Type 0 where
@@ -408,7 +417,7 @@ past-round {T} {v} own busy o e a =
 
 past-called : (own i : ℕ) (call : HostCall) {ss : List Station} → All Sound ss → All (PastAt own) ss → All (PastAt own) (calledAt i call ss)
 past-called own i call none none = none
-past-called own zero call (also {x = st} s b) (also p a) = let k = unit-called call st s in also (λ e. subst Past (sym (k .phase)) (p (sym (k .own) ∙ e))) a
+past-called own zero call (also {x = st} s b) (also p a) = let k = unit-called call st in also (λ e. subst Past (sym (k .phase)) (p (sym (k .own) ∙ e))) a
 past-called own (suc i) call (also s b) (also p a) = also p (past-called own i call b a)
 
 past-call : {T : Moment} {v : World} (own : ℕ) (call : Call) → On T v → All (PastAt own) (v .units) → All (PastAt own) (called v call .units)
@@ -416,32 +425,31 @@ past-call own (at-unit i call) o a = past-called own i call (on-sound o) a
 past-call own (submits k d response r b) o a = a
 past-call own (acknowledges code h) o a = a
 
-took-past : (w v : World) → QuietStart w → (r : Run w v) (own : ℕ) (s : Serial) (m : List ℕ) → Took r own s m → All (PastAt own) (v .units)
-took-past w v q start own s m t = absurd t
-took-past w _ q (a-round {v = v} r busy) own s m (takes-it st after b e now o x y) =
+took-past : (w v : World) → QuietStart w → (r : Run w v) (own : ℕ) (x : Inside) → Took r own x → All (PastAt own) (v .units)
+took-past w v q start own x t = absurd t
+took-past w _ q (a-round {v = v} r busy) own x (takes-it st after b e now o y) =
     all-becomes (levels v) (busy .there) (λ st′ host b′ d g.
     let mine = same-unit (on-different (every-run w v q r)) b b′ (o ∙ sym g ∙ own-kept st′ (levels v) host) in
     subst (λ (z : Station). Past (z .unit .phase)) (mine .1) (answered-past (after .unit .phase) now)) (on-sound (every-run w v q r))
-took-past w _ q (a-round {v = v} r busy) own s m (took-it e t) = past-round own busy (every-run w v q r) e (took-past w v q r own s m t)
-took-past w _ q (a-call {v = v} r call) own s m t = past-call own call (every-run w v q r) (took-past w v q r own s m t)
+took-past w _ q (a-round {v = v} r busy) own x (took-it e t) = past-round own busy (every-run w v q r) e (took-past w v q r own x t)
+took-past w _ q (a-call {v = v} r call) own x t = past-call own call (every-run w v q r) (took-past w v q r own x t)
 
-not-again : (w v : World) → QuietStart w → (r : Run w v) (busy : Busy) (own : ℕ) (s : Serial) (m : List ℕ) → inFrame (v .controller .stage) ≡ true → Took r own s m
+not-again : (w v : World) → QuietStart w → (r : Run w v) (busy : Busy) (own : ℕ) (x : Inside) → inFrame (v .controller .stage) ≡ true → Took r own x
     → (st after : Station) → Becomes (levels v) (busy .there) (v .units) st after → isAnswered (st .unit .phase) ≡ false → isAnswered (after .unit .phase) ≡ true → st .unit .own ≡ own → ⊥
-not-again w v q r busy own s m i t st after b e now o =
-    let p = becomes-all (took-past w v q r own s m t) b o in
+not-again w v q r busy own x i t st after b e now o =
+    let p = becomes-all (took-past w v q r own x t) b o in
     let k = becomes-step b in
     let step = on-step (every-run w v q r) i st (k .0) (becomes-all (on-sound (every-run w v q r)) b) in
     true≢false (sym now ∙ ap (λ (x : Station). isAnswered (x .unit .phase)) (k .1) ∙ ap isAnswered (step .phase) ∙ past-answered (st .unit .own) (st .unit .serial) (levels v) (k .0) (st .buffer) (st .input) p e)
 
 pub taken-once : TakenOnce
-taken-once w v q start own s t m n u u′ = absurd u
-taken-once w _ q (a-round {v = v} r busy) own s t m n (takes-it st after b e now o x y) (takes-it st′ after′ b′ e′ now′ o′ x′ y′) =
-    let same = same-unit (on-different (every-run w v q r)) b b′ (o ∙ sym o′) in
-    (sym x ∙ ap (λ (z : Station). z .unit .serial) (same .0) ∙ x′, sym y ∙ ap (λ (z : Station). z .input) (same .0) ∙ y′)
-taken-once w _ q (a-round {v = v} r busy) own s t m n (takes-it st after b e now o x y) (took-it i u) = absurd (not-again w v q r busy own t n i u st after b e now o)
-taken-once w _ q (a-round {v = v} r busy) own s t m n (took-it i u) (takes-it st after b e now o x y) = absurd (not-again w v q r busy own s m i u st after b e now o)
-taken-once w _ q (a-round {v = v} r busy) own s t m n (took-it i u) (took-it i′ u′) = taken-once w v q r own s t m n u u′
-taken-once w _ q (a-call {v = v} r call) own s t m n u u′ = taken-once w v q r own s t m n u u′
+taken-once w v q start own x y u u′ = absurd u
+taken-once w _ q (a-round {v = v} r busy) own x y (takes-it st after b e now o i) (takes-it st′ after′ b′ e′ now′ o′ i′) =
+    sym i ∙ ap insideOf (same-unit (on-different (every-run w v q r)) b b′ (o ∙ sym o′) .0) ∙ i′
+taken-once w _ q (a-round {v = v} r busy) own x y (takes-it st after b e now o i) (took-it f u) = absurd (not-again w v q r busy own y f u st after b e now o)
+taken-once w _ q (a-round {v = v} r busy) own x y (took-it f u) (takes-it st after b e now o i) = absurd (not-again w v q r busy own x f u st after b e now o)
+taken-once w _ q (a-round {v = v} r busy) own x y (took-it f u) (took-it f′ u′) = taken-once w v q r own x y u u′
+taken-once w _ q (a-call {v = v} r call) own x y u u′ = taken-once w v q r own x y u u′
 
 -- What a listening stage says.
 abbrev takenIn : Response → Stage → Response

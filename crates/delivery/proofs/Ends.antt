@@ -6,6 +6,7 @@ use mathlib.Core.List.{List}
 use Rattle.bus.specs.Bus.{stationStep, unitsAfter}
 use Rattle.bus.specs.declared.Station.{Station}
 use Rattle.header.specs.declared.Command.{Command}
+use Rattle.inside.specs.Inside.{Inside, insideOf}
 use Rattle.line.specs.Line.{hearOf, takenOf, isReady, listenerHsk}
 use Rattle.line.specs.declared.Lines.{Lines}
 use Rattle.line.specs.declared.Listener.{Listener}
@@ -16,7 +17,6 @@ use Rattle.phase.specs.declared.Phase.the-variants.{Receiving, Responding, Sitt
 use Rattle.phase.specs.declared.Progress.the-variants.{Answered}
 use Rattle.reply.specs.Reply.{isSilent}
 use Rattle.serial.specs.declared.Reply.{Reply}
-use Rattle.serial.specs.declared.Serial.{Serial}
 use Rattle.unit.specs.Unit.{pullsHsk}
 use Rattle.whole.specs.Whole.{bytesFor}
 use Rattle.delivery.specs.Heard.{Fits, f-holds, f-waits}
@@ -41,10 +41,10 @@ answered-free true true ear r e = refl
 answered-free true false ear r e = refl
 answered-free false u ear r e = e
 
-pub part-lets-go : {P : Reply → Serial → List ℕ → Type 0} {c : Command} {d : List ℕ} {i m : ℕ} {st st′ : Station} {seen : Lines} → Stepped st seen false st′ → Part P c d i (Kept m) st → pullsHsk (st′ .unit .phase) ≡ false
-part-lets-go {c = c} {d = d} {i = i} {st = st} {st′ = st′} {seen = seen} s (listens ear t f h a q) = by (heard-waits (st .unit .own) (st .unit .serial) seen false (st .input) (st .output) h (free-ear (seen .hsk) f .0))
+pub part-lets-go : {P : Reply → Inside → Type 0} {c : Command} {d : List ℕ} {i m : ℕ} {st st′ : Station} {seen : Lines} → Stepped st seen false st′ → Part P c d i (Kept m) st → pullsHsk (st′ .unit .phase) ≡ false
+part-lets-go {c = c} {d = d} {i = i} {st = st} {st′ = st′} {seen = seen} s (listens ear t f h a q) = by (heard-waits (st .unit .own) (insideOf st) seen false h (free-ear (seen .hsk) f .0))
   where
-    by : Waits (bytesFor c d) (i + t) (hearOf ear (seen .hsk) false) (st .unit .phase) (st .unit .own) (st .unit .serial) seen false (st .buffer) (st .input) (st .output) → pullsHsk (st′ .unit .phase) ≡ false
+    by : Waits (bytesFor c d) (i + t) (hearOf ear (seen .hsk) false) (st .unit .phase) (st .unit .own) (insideOf st) seen false (st .buffer) → pullsHsk (st′ .unit .phase) ≡ false
     by (waits after h′ r) = ap pullsHsk (s .phase ∙ r .phase) ∙ heard-hsk h′ ∙ free-ear (seen .hsk) f .1
 part-lets-go {st = st} {seen = seen} s (answers ear r f l a e k q) =
     ap pullsHsk (s .phase ∙ ap (λ (x : Phase). phaseStep x (st .unit .own) (st .unit .serial) seen false (st .buffer) (st .input) .phase) e)

@@ -25,6 +25,9 @@ use Rattle.frame.specs.declared.Moved.{Moved}
 use Rattle.frame.specs.declared.Stage.{Stage}
 use Rattle.frame.specs.declared.Stage.the-variants.{Sending, Listening}
 use Rattle.header.specs.declared.Command.{Command}
+use Rattle.inside.specs.Inside.{Inside, replyFor}
+use Rattle.kind.specs.Kinds.{kindOf, isShort}
+use Rattle.kind.proofs.Laws.{roomy}
 use Rattle.line.specs.Line.{takenOf, sendOf, sentOf, listenerHsk, senderHsk}
 use Rattle.line.specs.declared.Lines.{Lines}
 use Rattle.line.specs.declared.Listener.{Listener}
@@ -38,7 +41,6 @@ use Rattle.phase.specs.declared.Phase.{Phase}
 use Rattle.phase.specs.declared.Phase.the-variants.{Selecting}
 use Rattle.ring.specs.declared.Ring.{Ring}
 use Rattle.serial.specs.declared.Reply.{Reply}
-use Rattle.serial.specs.declared.Serial.{Serial}
 use Rattle.unit.specs.Unit.{pullsHsk, pullsNibble, lowStep, highStep}
 use Rattle.whole.specs.Whole.{bytesFor}
 use Rattle.whole.proofs.Whole.{length-bytes}
@@ -51,8 +53,9 @@ use Rattle.delivery.specs.World.{World, Busy, levels, round, Becomes, in
 use Rattle.delivery.proofs.Lines.{hsk-high, bav-kept, nibble-kept}
 use Rattle.delivery.proofs.Lists.{all-map, all-step}
 use Rattle.delivery.proofs.Ends.{free-step, part-lets-go}
-use Rattle.delivery.proofs.Talk.{talkLeft, talk-left, last-is as last-of, place-kept, place-some, place-most}
-use Rattle.reply.specs.Reply.{lastNibble as lastOf}
+use Rattle.delivery.proofs.Talk.{talkLeft, talk-left, place-kept, place-some, place-most}
+use Rattle.reply.specs.Reply.{isSilent, lastNibble as lastOf}
+use Rattle.delivery.proofs.Promise.{last-is as last-of, answer-fits}
 use Rattle.delivery.proofs.Listening.{sits-step, one-less, Heard′, goes-on, comes-to-its-end, heard-nibble, units-heard, still-nibble, still-hsk, units-sit, hearing}
 use Rattle.delivery.proofs.Part.{Stepped, low-step}
 use Rattle.delivery.proofs.Stage.{cond-length, sound-low, sends-on, sending, sent-nibble, units-rest, units-sent, units-over}
@@ -91,7 +94,7 @@ control-buffer c seen host lent response n e = let a : ltb 15 (seen .nibble) ≡
 
 -- A unit keeps its code.
 pub own-kept : (st : Station) (seen : Lines) (busy : Bool) → stationStep st seen busy .unit .own ≡ st .unit .own
-own-kept st seen busy = by (ltb 15 (seen .nibble)) (ltb (length (st .buffer)) 256) (seen .bav)
+own-kept st seen busy = by (ltb 15 (seen .nibble)) (isShort (kindOf (st .unit .own)) (length (st .buffer))) (seen .bav)
   where
     by : (a b c : Bool) → unitAfter (cond a (refused 5) (cond b (refused 11) (gives (cond c (lowStep (st .unit) (seen .hsk) (phaseStep (st .unit .phase) (st .unit .own) (st .unit .serial) seen busy (st .buffer) (st .input))) (highStep (st .unit) (seen .hsk)))))) (st .unit) .own ≡ st .unit .own
     by true b c = refl
@@ -112,7 +115,7 @@ hushed-kept {T} {c} {d} seen hosts a = all-step seen (λ st busy p. by st busy p
   where
     by : (st : Station) (busy : Bool) → Hushed T c d st → Hushed T c d (stationStep st seen busy)
     by st busy (not-its-own e) = not-its-own (ap (addressed c) (own-kept st seen busy) ∙ e)
-    by st busy (by-the-rule given memory t e) = by-the-rule given memory (subst (λ (own : ℕ). T own given memory) (sym (own-kept st seen busy)) t) e
+    by st busy (by-the-rule given t e) = by-the-rule given (subst (λ (own : ℕ). T own given) (sym (own-kept st seen busy)) t) (ap (λ (own : ℕ). isSilent (replyFor own given c d)) (own-kept st seen busy) ∙ e)
 
 -- Who responds in a round.
 pub fresh-quiet : {st : Station} → Fresh st → isResponding (st .unit .phase) ≡ false
@@ -125,7 +128,7 @@ heard-quiet (h-first room) = refl
 heard-quiet (h-byte j buffer room g h) = refl
 heard-quiet (h-half j buffer room g h) = refl
 
-pub part-quiet : {P : Reply → Serial → List ℕ → Type 0} {c : Command} {d : List ℕ} {i : ℕ} {sender : Sender} {st : Station} → Part P c d i sender st → isResponding (st .unit .phase) ≡ false
+pub part-quiet : {P : Reply → Inside → Type 0} {c : Command} {d : List ℕ} {i : ℕ} {sender : Sender} {st : Station} → Part P c d i sender st → isResponding (st .unit .phase) ≡ false
 part-quiet (listens ear t f h a q) = heard-quiet h
 part-quiet (answers ear r f l a e k q) = ap isResponding e
 part-quiet (sits now a e k q) = ap isResponding e
@@ -177,7 +180,7 @@ sits-left low rest (also {x = st} {xs = ss} p a) = ap (λ (x : Phase). phaseLeft
 talk-bound : {T : Moment} {c : Command} {d : List ℕ} {stores : Bool} {found : List ℕ} {ear : Listener} {taken : Response} {quiet : ℕ} {buffer : List ℕ} (st : Station) → Talk T c d stores found ear taken quiet buffer st → talkLeft ear st ≤ 4 * (2 * (3 + c .«buffer_length»)) + 1
 talk-bound {c} {ear = ear} st (talks r j t sender wait e p fits g b l w z q own) =
     let last = last-of p in
-    let short = p .fits .fits in
+    let short = answer-fits p .fits in
     let n : talkLeft ear st ≡ 4 * (lastOf (st .unit .serial .input) r - j) + place sender (listenerHsk ear || senderHsk sender) + cond wait 1 0 = talk-left ear st e in
     let four : place sender (listenerHsk ear || senderHsk sender) ≤ 4 = place-most sender (listenerHsk ear || senderHsk sender) in
     let one : cond wait 1 0 ≤ 1 = flag wait in
@@ -245,7 +248,7 @@ module _ (T : Moment) (f : Frame) (found : List ℕ) (timeout : ℕ) (ring : Rin
       (all-step seen (λ st host p.
       let step = low-step st seen host small (p .1 .room) low in
       let ok = sound-low step (p .1) in (
-        listens Ready 0 f-next (subst (λ (x : Phase). Heard (bytesFor c d) Ready 0 x (stationStep st seen host .buffer)) (sym (fresh-selects step high (p .0))) (h-none (ok .room))) (λ l. absurd (omega arith)) (λ l. absurd (omega arith)),
+        listens Ready 0 f-next (subst (λ (x : Phase). Heard (bytesFor c d) Ready 0 x (stationStep st seen host .buffer)) (sym (fresh-selects step high (p .0))) (h-none (roomy (kindOf (stationStep st seen host .unit .own)) (length (stationStep st seen host .buffer)) (ok .room)))) (λ l. absurd (omega arith)) (λ l. absurd (omega arith)),
         ok,
       )) (busy .there) a)) (nobody-speaks (all-map (λ st p. fresh-quiet (p .0)) a)) (λ q. begin-less (lastNibble f) (listening f timeout))
 
@@ -262,7 +265,7 @@ module _ (T : Moment) (f : Frame) (found : List ℕ) (timeout : ℕ) (ring : Rin
   free-one e (that q o) = that q (free-one e o)
 
   -- A round while the command is sent.
-  module _ (i : ℕ) (sender : Sender) (s : Sends (nibbleIn (bytesFor c d) i) sender) (less : i < total) (a : All (λ (st : Station). Part (Promised (T (st .unit .own)) c d) c d i sender st × Sound st) units) (noted : Noted T (world timeout (Sending f i sender false) ring units lent found) busy) where
+  module _ (i : ℕ) (sender : Sender) (s : Sends (nibbleIn (bytesFor c d) i) sender) (less : i < total) (a : All (λ (st : Station). Part (Promised T (st .unit .own) c d) c d i sender st × Sound st) units) (noted : Noted T (world timeout (Sending f i sender false) ring units lent found) busy) where
     abbrev w : World
     w = world timeout (Sending f i sender false) ring units lent found
 
@@ -283,7 +286,7 @@ module _ (T : Moment) (f : Frame) (found : List ℕ) (timeout : ℕ) (ring : Rin
     all-let-go m e z =
         hsk-high (sending (Kept m)) refl
         (subst (λ (k : ℕ). All (λ (st : Station). pullsHsk (st .unit .phase) ≡ false) (unitsAfter seen k units)) (sym z)
-        (free-step seen (λ st p. part-lets-go (low-step st seen false small (p .1 .room) (bav-kept (sending sender) units refl)) (subst (λ (k : Sender). Part (Promised (T (st .unit .own)) c d) c d i k st) e (p .0))) a))
+        (free-step seen (λ st p. part-lets-go (low-step st seen false small (p .1 .room) (bav-kept (sending sender) units refl)) (subst (λ (k : Sender). Part (Promised T (st .unit .own) c d) c d i k st) e (p .0))) a))
 
     send-less : sentOf sender (seen .hsk) ≡ false → busy .there ≡ 0
         → 4 * (lastNibble f - i) + place (sendOf sender (seen .hsk) (nibbleIn (bytesFor c d) i)) (levelsWith (sending (sendOf sender (seen .hsk) (nibbleIn (bytesFor c d) i))) (unitsAfter seen (busy .there) units) .hsk) + 0 + listening f timeout

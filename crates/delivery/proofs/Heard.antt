@@ -8,6 +8,9 @@ use mathlib.Core.List.{List}
 use lib.Dec.{eqb}
 use lib.ListN.{length}
 use Rattle.field.specs.Field.{byteFrom}
+use Rattle.inside.specs.Inside.{Inside, replyOf, taken, replyFor, takenFor}
+use Rattle.inside.proofs.Round.{insideAfter}
+use Rattle.kind.specs.Kinds.{kindOf}
 use Rattle.line.specs.Line.{sendOf, sentOf, hearOf, takenOf}
 use Rattle.line.specs.declared.Lines.{Lines}
 use Rattle.line.specs.declared.Listener.{Listener}
@@ -20,11 +23,11 @@ use Rattle.serial.specs.declared.Serial.{Serial}
 use Rattle.header.specs.declared.Command.{Command}
 use Rattle.header.specs.declared.Header.{Header}
 use Rattle.message.specs.Nibbles.{nibbleIn}
-use Rattle.phase.specs.Phase.{partial, withByte, answered, stored, selected, isLast, bufferWith, moves}
+use Rattle.phase.specs.Phase.{partial, withByte, answered, stored, storedData, selected, isLast, bufferWith, moves}
 use Rattle.phase.specs.declared.Moved.{Moved}
-use Rattle.phase.specs.declared.Progress.the-variants.{Taking}
-use Rattle.whole.specs.Whole.{bytesFor, byteAt, headAt, bufferAt, headerFor, withData, Sent}
-use Rattle.whole.proofs.Whole.{bytes-below, next-header, length-bytes, not-last, last, whole-header, whole-buffer}
+use Rattle.phase.specs.declared.Progress.the-variants.{Taking, Answered}
+use Rattle.whole.specs.Whole.{bytesFor, byteAt, headAt, bufferAt, headerFor, withData, storedOf, Sent}
+use Rattle.whole.proofs.Whole.{bytes-below, next-header, length-bytes, not-last, last, whole-header, whole-buffer, whole-data}
 use Rattle.whole.proofs.Back.{low-nibble, high-nibble, byte-own}
 use Rattle.delivery.specs.Heard.{Fits, f-next, f-placed, f-holds, f-waits, Sees, Heard, h-none, h-first, h-byte, h-half}
 
@@ -45,39 +48,42 @@ pair false seen busy f-holds e = absurd (false≢true e)
 pair true seen busy f-waits e = rests refl refl f-waits
 pair false seen busy f-waits e = sends refl refl refl refl refl
 
--- What a unit's round does to its phase, its state, the lent buffer and the output queue's bytes.
-pub record Round (p : Phase) (own : ℕ) (s : Serial) (seen : Lines) (busy : Bool) (b input o : List ℕ) (p′ : Phase) (t : Serial) (b′ o′ : List ℕ) : Type 0 where
-  pub phase : phaseStep p own s seen busy b input .phase ≡ p′
-  pub serial : phaseStep p own s seen busy b input .serial ≡ t
+-- What a unit's round does to its phase, to what is inside it, and to the lent buffer.
+pub record Round (p : Phase) (own : ℕ) (x : Inside) (seen : Lines) (busy : Bool) (b : List ℕ) (p′ : Phase) (y : Inside) (b′ : List ℕ) : Type 0 where
+  pub phase : phaseStep p own (x .state) seen busy b (x .input) .phase ≡ p′
+  pub inside : insideAfter p own x seen busy b ≡ y
   pub buffer : phaseBuffer p seen b ≡ b′
-  pub output : phaseOutput p s seen b o ≡ o′
 
 -- A unit that does not take a nibble keeps what it has, and its listener goes on.
-pub data Waits (bytes : List ℕ) (k : ℕ) (ear : Listener) (phase : Phase) (own : ℕ) (s : Serial) (seen : Lines) (busy : Bool) (buffer input output : List ℕ) : Type 0 where
-  waits : (after : Phase) → Heard bytes ear k after buffer → Round phase own s seen busy buffer input output after s buffer output → Waits bytes k ear phase own s seen busy buffer input output
+pub data Waits (bytes : List ℕ) (k : ℕ) (ear : Listener) (phase : Phase) (own : ℕ) (x : Inside) (seen : Lines) (busy : Bool) (buffer : List ℕ) : Type 0 where
+  waits : (after : Phase) → Heard bytes ear k after buffer → Round phase own x seen busy buffer after x buffer → Waits bytes k ear phase own x seen busy buffer
 
 pub heard-waits :
-    {bytes : List ℕ} {ear : Listener} {k : ℕ} {phase : Phase} {buffer : List ℕ} (own : ℕ) (s : Serial) (seen : Lines) (busy : Bool) (input output : List ℕ)
+    {bytes : List ℕ} {ear : Listener} {k : ℕ} {phase : Phase} {buffer : List ℕ} (own : ℕ) (x : Inside) (seen : Lines) (busy : Bool)
     → Heard bytes ear k phase buffer → takenOf ear (seen .hsk) ≡ false
-    → Waits bytes k (hearOf ear (seen .hsk) busy) phase own s seen busy buffer input output
-heard-waits own s seen busy input output (h-none room) e = waits _ (h-none room) (record { phase = rw e; serial = refl; buffer = refl; output = refl })
-heard-waits own s seen busy input output (h-first room) e = waits _ (h-first room) (record { phase = rw e; serial = refl; buffer = refl; output = refl })
-heard-waits own s seen busy input output (h-byte j buffer room g h) e = waits _ (h-byte j buffer room g h) (record { phase = rw e; serial = rw e; buffer = rw e; output = rw e })
-heard-waits own s seen busy input output (h-half j buffer room g h) e = waits _ (h-half j buffer room g h) (record { phase = rw e; serial = rw e; buffer = rw e; output = rw e })
+    → Waits bytes k (hearOf ear (seen .hsk) busy) phase own x seen busy buffer
+heard-waits own x seen busy (h-none room) e = waits _ (h-none room) (record { phase = rw e; inside = refl; buffer = refl })
+heard-waits own x seen busy (h-first room) e = waits _ (h-first room) (record { phase = rw e; inside = refl; buffer = refl })
+heard-waits own x seen busy (h-byte j buffer room g h) e = waits _ (h-byte j buffer room g h) (record { phase = rw e; inside = rw e; buffer = rw e })
+heard-waits own x seen busy (h-half j buffer room g h) e = waits _ (h-half j buffer room g h) (record { phase = rw e; inside = rw e; buffer = rw e })
 
 -- A unit that takes the nibble that is next.
-pub data Takes (bytes : List ℕ) (k : ℕ) (phase : Phase) (own : ℕ) (s : Serial) (seen : Lines) (busy : Bool) (buffer input output : List ℕ) : Type 0 where
+pub data Takes (bytes : List ℕ) (k : ℕ) (phase : Phase) (own : ℕ) (x : Inside) (seen : Lines) (busy : Bool) (buffer : List ℕ) : Type 0 where
   takes-it :
-      (after : Phase) (buffer′ : List ℕ) → Heard bytes Holding (suc k) after buffer′ → Round phase own s seen busy buffer input output after s buffer′ output
-      → Takes bytes k phase own s seen busy buffer input output
+      (after : Phase) (buffer′ : List ℕ) → Heard bytes Holding (suc k) after buffer′ → Round phase own x seen busy buffer after x buffer′
+      → Takes bytes k phase own x seen busy buffer
 
 -- The last nibble: the answer is fixed, and effects happen.
-pub record Fixed (h : Header) (b : List ℕ) (p : Phase) (own : ℕ) (s : Serial) (seen : Lines) (busy : Bool) (buffer input output : List ℕ) : Type 0 where
-  pub round : Round p own s seen busy buffer input output (answered s h b .phase) (answered s h b .serial) b (stored s h b output)
+pub record Fixed (c : Command) (d : List ℕ) (p : Phase) (own : ℕ) (x : Inside) (seen : Lines) (busy : Bool) (buffer : List ℕ) : Type 0 where
+  pub phase : phaseStep p own (x .state) seen busy buffer (x .input) .phase ≡ Receiving Holding (Answered (replyFor own x c d))
+  pub inside : insideAfter p own x seen busy buffer ≡ takenFor own x c d
 
-module _ (c : Command) (d : List ℕ) (ok : Sent c d) (own : ℕ) (s : Serial) (seen : Lines) (busy : Bool) (input output : List ℕ) (low : seen .hsk ≡ true) where
+module _ (c : Command) (d : List ℕ) (ok : Sent c d) (own : ℕ) (x : Inside) (seen : Lines) (busy : Bool) (low : seen .hsk ≡ true) where
   abbrev bytes : List ℕ
   bytes = bytesFor c d
+
+  abbrev s : Serial
+  s = x .state
 
   -- A byte from its two nibbles.
   byte-from : (j n : ℕ) → n ≡ byteAt bytes j / 16 % 16 → byteFrom (byteAt bytes j % 16) n ≡ byteAt bytes j
@@ -91,47 +97,60 @@ module _ (c : Command) (d : List ℕ) (ok : Sent c d) (own : ℕ) (s : Serial) (
   byteOf j = byteFrom (byteAt bytes j % 16) (seen .nibble)
 
   abbrev movedBy : ℕ → Header → ℕ → List ℕ → Moved
-  movedBy j x b buffer = cond (isLast (x .«data_length») j) (answered s x (bufferWith (x .«data_length») j b buffer)) (moves (Receiving Holding (Taking (partial x (j + 1)))) s)
+  movedBy j h b buffer = cond (isLast (h .«data_length») j) (answered own s h (bufferWith (h .«data_length») j b buffer)) (moves (Receiving Holding (Taking (partial h (j + 1)))) s)
 
   abbrev outputBy : ℕ → Header → ℕ → List ℕ → List ℕ
-  outputBy j x b buffer = cond (isLast (x .«data_length») j) (stored s x (bufferWith (x .«data_length») j b buffer) output) output
+  outputBy j h b buffer = cond (isLast (h .«data_length») j) (stored own s h (bufferWith (h .«data_length») j b buffer) (x .output)) (x .output)
 
   module _ (j : ℕ) (buffer : List ℕ) (seen-high : seen .nibble ≡ byteAt bytes j / 16 % 16) where
-    byte-moved : phaseStep (halfAt j) own s seen busy buffer input ≡ movedBy j (headAt bytes (suc j)) (byteAt bytes j) buffer
+    byte-moved : phaseStep (halfAt j) own s seen busy buffer (x .input) ≡ movedBy j (headAt bytes (suc j)) (byteAt bytes j) buffer
     byte-moved =
         ap (λ (t : Bool). cond t (movedBy j (withByte (headAt bytes j) j (byteOf j)) (byteOf j) buffer) (moves (Receiving (hearOf Ready (seen .hsk) busy) (Taking (record { header = headAt bytes j; place = j; half = true; low = byteAt bytes j % 16 }))) s)) low
         ∙ ap (λ (n : ℕ). movedBy j (withByte (headAt bytes j) j n) n buffer) (byte-from j (seen .nibble) seen-high)
-        ∙ ap (λ (x : Header). movedBy j x (byteAt bytes j) buffer) (next-header c d j ok)
+        ∙ ap (λ (h : Header). movedBy j h (byteAt bytes j) buffer) (next-header c d j ok)
 
     byte-buffer : phaseBuffer (halfAt j) seen buffer ≡ bufferWith (headAt bytes (suc j) .«data_length») j (byteAt bytes j) buffer
     byte-buffer =
         ap (λ (t : Bool). cond t (bufferWith (withByte (headAt bytes j) j (byteOf j) .«data_length») j (byteOf j) buffer) buffer) low
         ∙ ap (λ (n : ℕ). bufferWith (withByte (headAt bytes j) j n .«data_length») j n buffer) (byte-from j (seen .nibble) seen-high)
-        ∙ ap (λ (x : Header). bufferWith (x .«data_length») j (byteAt bytes j) buffer) (next-header c d j ok)
+        ∙ ap (λ (h : Header). bufferWith (h .«data_length») j (byteAt bytes j) buffer) (next-header c d j ok)
 
-    byte-output : phaseOutput (halfAt j) s seen buffer output ≡ outputBy j (headAt bytes (suc j)) (byteAt bytes j) buffer
+    byte-output : phaseOutput (halfAt j) own s seen buffer (x .output) ≡ outputBy j (headAt bytes (suc j)) (byteAt bytes j) buffer
     byte-output =
-        ap (λ (t : Bool). cond t (outputBy j (withByte (headAt bytes j) j (byteOf j)) (byteOf j) buffer) output) low
+        ap (λ (t : Bool). cond t (outputBy j (withByte (headAt bytes j) j (byteOf j)) (byteOf j) buffer) (x .output)) low
         ∙ ap (λ (n : ℕ). outputBy j (withByte (headAt bytes j) j n) n buffer) (byte-from j (seen .nibble) seen-high)
-        ∙ ap (λ (x : Header). outputBy j x (byteAt bytes j) buffer) (next-header c d j ok)
+        ∙ ap (λ (h : Header). outputBy j h (byteAt bytes j) buffer) (next-header c d j ok)
+
+    -- What it leaves inside, from the phase's round and the output.
+    inside-by : {m : Moved} {o : List ℕ} → phaseStep (halfAt j) own s seen busy buffer (x .input) ≡ m → phaseOutput (halfAt j) own s seen buffer (x .output) ≡ o
+        → insideAfter (halfAt j) own x seen busy buffer ≡ record { state = m .serial; input = x .input; output = o }
+    inside-by m o = λ k. record { state = m k .serial; input = x .input; output = o k }
 
     -- It is not the last byte.
     byte-goes-on : isLast (headAt bytes (suc j) .«data_length») j ≡ false
-        → Round (halfAt j) own s seen busy buffer input output (Receiving Holding (Taking (partial (headAt bytes (suc j)) (suc j)))) s (bufferWith (headAt bytes (suc j) .«data_length») j (byteAt bytes j) buffer) output
+        → Round (halfAt j) own x seen busy buffer (Receiving Holding (Taking (partial (headAt bytes (suc j)) (suc j)))) x (bufferWith (headAt bytes (suc j) .«data_length») j (byteAt bytes j) buffer)
     byte-goes-on e =
         let next : j + 1 ≡ suc j = omega arith in
-        let m : phaseStep (halfAt j) own s seen busy buffer input ≡ moves (Receiving Holding (Taking (partial (headAt bytes (suc j)) (suc j)))) s =
+        let m : phaseStep (halfAt j) own s seen busy buffer (x .input) ≡ moves (Receiving Holding (Taking (partial (headAt bytes (suc j)) (suc j)))) s =
         byte-moved ∙ rw (e, next) in
-        record { phase = ap (λ (x : Moved). x .phase) m; serial = ap (λ (x : Moved). x .serial) m; buffer = byte-buffer; output = byte-output ∙ rw e }
+        let o : phaseOutput (halfAt j) own s seen buffer (x .output) ≡ x .output = byte-output ∙ rw e in
+        record { phase = ap (λ (y : Moved). y .phase) m; inside = inside-by m o; buffer = byte-buffer }
 
     -- It is the last.
-    byte-ends : isLast (headAt bytes (suc j) .«data_length») j ≡ true
-        → Fixed (headAt bytes (suc j)) (bufferWith (headAt bytes (suc j) .«data_length») j (byteAt bytes j) buffer) (halfAt j) own s seen busy buffer input output
-    byte-ends e =
-        let x = headAt bytes (suc j) in
-        let b = bufferWith (x .«data_length») j (byteAt bytes j) buffer in
-        let m : phaseStep (halfAt j) own s seen busy buffer input ≡ answered s x b = byte-moved ∙ rw e in
-        record { round = record { phase = ap (λ (y : Moved). y .phase) m; serial = ap (λ (y : Moved). y .serial) m; buffer = byte-buffer; output = byte-output ∙ rw e } }
+    byte-ends : (b : List ℕ) → isLast (headAt bytes (suc j) .«data_length») j ≡ true → headAt bytes (suc j) ≡ headerFor c d → bufferWith (headAt bytes (suc j) .«data_length») j (byteAt bytes j) buffer ≡ withData d b
+        → Fixed c d (halfAt j) own x seen busy buffer
+    byte-ends b e whole full =
+        let h = headAt bytes (suc j) in
+        let l = bufferWith (h .«data_length») j (byteAt bytes j) buffer in
+        let z : storedData (length d) (withData d b) ≡ storedOf d = whole-data d b in
+        let last-moved : movedBy j h (byteAt bytes j) buffer ≡ answered own s h l = rw e in
+        let last-output : outputBy j h (byteAt bytes j) buffer ≡ stored own s h l (x .output) = rw e in
+        let m : phaseStep (halfAt j) own s seen busy buffer (x .input) ≡ answered own s (headerFor c d) (withData d b) = byte-moved ∙ last-moved ∙ (λ k. answered own s (whole k) (full k)) in
+        let o : phaseOutput (halfAt j) own s seen buffer (x .output) ≡ stored own s (headerFor c d) (withData d b) (x .output) = byte-output ∙ last-output ∙ (λ k. stored own s (whole k) (full k) (x .output)) in
+        record {
+          phase = ap (λ (y : Moved). y .phase) m ∙ ap (λ (e : List ℕ). Receiving Holding (Answered (replyOf (kindOf own) x c (length d) e))) z;
+          inside = inside-by m o ∙ ap (taken (kindOf own) x c (length d)) z;
+        }
 
   -- The device code is the unit's own or 0.
   chosen : (b : ℕ) → (eqb b own || eqb b 0) ≡ true → selected own b ≡ Receiving Holding (Taking (partial (withByte (headAt bytes 0) 0 b) 1))
@@ -143,13 +162,12 @@ module _ (c : Command) (d : List ℕ) (ok : Sent c d) (own : ℕ) (s : Serial) (
   pub heard-takes :
       {k : ℕ} {phase : Phase} {buffer : List ℕ} → Heard bytes Ready k phase buffer → seen .nibble ≡ nibbleIn bytes k → suc k < 2 * length bytes
       → (k ≡ 1 → (eqb (c .device) own || eqb (c .device) 0) ≡ true)
-      → Takes bytes k phase own s seen busy buffer input output
+      → Takes bytes k phase own x seen busy buffer
   heard-takes (h-none room) q l a =
       takes-it _ _ (h-first room) (record {
         phase = ap (λ (t : Bool). cond t (Selecting Holding true (seen .nibble)) (Selecting (hearOf Ready (seen .hsk) busy) false 0)) low ∙ ap (Selecting Holding true) (q ∙ low-nibble bytes 0);
-        serial = refl;
+        inside = refl;
         buffer = refl;
-        output = refl;
       })
   heard-takes (h-first {buffer = buffer} room) q l a =
       takes-it _ _ (h-byte 1 buffer room (omega arith) (omega arith)) (record {
@@ -157,20 +175,18 @@ module _ (c : Command) (d : List ℕ) (ok : Sent c d) (own : ℕ) (s : Serial) (
             ap (λ (t : Bool). cond t (selected own (byteOf 0)) (Selecting (hearOf Ready (seen .hsk) busy) true (byteAt bytes 0 % 16))) low
             ∙ ap (selected own) (byte-from 0 (seen .nibble) (q ∙ high-nibble bytes 0))
             ∙ chosen (byteAt bytes 0) (ap (λ (x : ℕ). eqb x own || eqb x 0) device-own ∙ a refl)
-            ∙ ap (λ (x : Header). Receiving Holding (Taking (partial x 1))) (next-header c d 0 ok);
-        serial = refl;
+            ∙ ap (λ (h : Header). Receiving Holding (Taking (partial h 1))) (next-header c d 0 ok);
+        inside = refl;
         buffer = refl;
-        output = refl;
       })
   heard-takes (h-byte j buffer room g h) q l a =
-      let m : phaseStep (Receiving Ready (Taking (partial (headAt bytes j) j))) own s seen busy (bufferAt bytes j buffer) input ≡ moves (Receiving Holding (Taking (record { header = headAt bytes j; place = j; half = true; low = byteAt bytes j % 16 }))) s =
+      let m : phaseStep (Receiving Ready (Taking (partial (headAt bytes j) j))) own s seen busy (bufferAt bytes j buffer) (x .input) ≡ moves (Receiving Holding (Taking (record { header = headAt bytes j; place = j; half = true; low = byteAt bytes j % 16 }))) s =
       ap (λ (t : Bool). cond t (moves (Receiving Holding (Taking (record { header = headAt bytes j; place = j; half = true; low = seen .nibble }))) s) (moves (Receiving (hearOf Ready (seen .hsk) busy) (Taking (partial (headAt bytes j) j))) s)) low
       ∙ ap (λ (n : ℕ). moves (Receiving Holding (Taking (record { header = headAt bytes j; place = j; half = true; low = n }))) s) (q ∙ low-nibble bytes j) in
       takes-it _ _ (h-half j buffer room g h) (record {
-        phase = ap (λ (x : Moved). x .phase) m;
-        serial = ap (λ (x : Moved). x .serial) m;
+        phase = ap (λ (y : Moved). y .phase) m;
+        inside = rw low;
         buffer = rw low;
-        output = rw low;
       })
   heard-takes (h-half j buffer room g h) q l a =
       let more : suc j < length bytes = omega arith in
@@ -182,22 +198,20 @@ module _ (c : Command) (d : List ℕ) (ok : Sent c d) (own : ℕ) (s : Serial) (
   -- The last nibble of the command.
   pub heard-last :
       {k : ℕ} {phase : Phase} {buffer : List ℕ} → Heard bytes Ready k phase buffer → seen .nibble ≡ nibbleIn bytes k → suc k ≡ 2 * length bytes
-      → (b : List ℕ) × (256 ≤ length b) × Fixed (headerFor c d) (withData d b) phase own s seen busy buffer input output
+      → Fixed c d phase own x seen busy buffer
   heard-last (h-none room) q l = let n : length bytes ≡ 9 + length d = length-bytes c d in absurd (omega arith)
   heard-last (h-first room) q l = let n : length bytes ≡ 9 + length d = length-bytes c d in absurd (omega arith)
   heard-last (h-byte j buffer room g h) q l = absurd (omega arith)
   heard-last (h-half j buffer room g h) q l =
       let n : length bytes ≡ 9 + length d = length-bytes c d in
       let all : suc j ≡ 9 + length d = omega arith in
-      let old = bufferAt bytes j buffer in
-      let full : bufferAt bytes (suc j) buffer ≡ withData d buffer = ap (λ (x : ℕ). bufferAt bytes x buffer) all ∙ whole-buffer c d buffer ok room in
-      let fixed = byte-ends j old (q ∙ high-nibble bytes j) (last c d j ok all) in
-      (buffer, room, subst (λ (b : List ℕ). Fixed (headerFor c d) b (halfAt j) own s seen busy old input output) full (subst (λ (x : Header). Fixed x (bufferAt bytes (suc j) buffer) (halfAt j) own s seen busy old input output) (whole-header c d (suc j) ok (omega arith)) fixed))
+      let full : bufferAt bytes (suc j) buffer ≡ withData d buffer = ap (λ (k : ℕ). bufferAt bytes k buffer) all ∙ whole-buffer c d buffer ok room in
+      byte-ends j (bufferAt bytes j buffer) (q ∙ high-nibble bytes j) buffer (last c d j ok all) (whole-header c d (suc j) ok (omega arith)) full
 
   -- The device code is another's: the unit sits out.
   pub heard-other :
       {k : ℕ} {phase : Phase} {buffer : List ℕ} → Heard bytes Ready k phase buffer → k ≡ 1 → seen .nibble ≡ nibbleIn bytes 1 → (eqb (c .device) own || eqb (c .device) 0) ≡ false
-      → Round phase own s seen busy buffer input output (SittingOut true) s buffer output
+      → Round phase own x seen busy buffer (SittingOut true) x buffer
   heard-other (h-none room) e q a = absurd (omega arith)
   heard-other (h-first room) e q a =
       let z : (eqb (byteAt bytes 0) own || eqb (byteAt bytes 0) 0) ≡ false = ap (λ (x : ℕ). eqb x own || eqb x 0) device-own ∙ a in
@@ -206,9 +220,8 @@ module _ (c : Command) (d : List ℕ) (ok : Sent c d) (own : ℕ) (s : Serial) (
             ap (λ (t : Bool). cond t (selected own (byteOf 0)) (Selecting (hearOf Ready (seen .hsk) busy) true (byteAt bytes 0 % 16))) low
             ∙ ap (selected own) (byte-from 0 (seen .nibble) (q ∙ high-nibble bytes 0))
             ∙ rw z;
-        serial = refl;
+        inside = refl;
         buffer = refl;
-        output = refl;
       }
   heard-other (h-byte j buffer room g h) e q a = absurd (omega arith)
   heard-other (h-half j buffer room g h) e q a = absurd (omega arith)

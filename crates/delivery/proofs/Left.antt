@@ -9,6 +9,8 @@ use Rattle.bus.specs.declared.Station.{Station}
 use Rattle.frame.specs.Frame.{pullsOf as framePulls}
 use Rattle.frame.specs.declared.Frame.{Frame}
 use Rattle.header.specs.declared.Command.{Command}
+use Rattle.inside.specs.Calls.{HostCall}
+use Rattle.inside.proofs.Calls.{Called, unit-called}
 use Rattle.line.specs.Line.{wired}
 use Rattle.line.specs.declared.Lines.{Lines}
 use Rattle.line.specs.declared.Listener.{Listener}
@@ -17,48 +19,47 @@ use Rattle.answer.specs.declared.Response.{Response}
 use Rattle.phase.specs.declared.Phase.{Phase}
 use Rattle.reply.specs.Reply.{lastNibble}
 use Rattle.unit.specs.Unit.{pullsOf, pullsHsk, pullsNibble}
-use Rattle.delivery.specs.Calls.{HostCall, Call, host, submits, acknowledges, calledAt, called}
+use Rattle.delivery.specs.Calls.{Call, host, submits, acknowledges, calledAt, called}
 use Rattle.delivery.specs.Ends.{left, place, phaseLeft, unitsLeft, stageLeft}
 use Rattle.delivery.specs.Promised.{Moment}
 use Rattle.delivery.specs.Lists.{All, none, also, One, this, that}
 use Rattle.delivery.specs.Stages.{Sound, Sits, Talk, talks, InFrame, begins, sends, hears, waits}
 use Rattle.delivery.specs.World.{World, levels}
-use Rattle.delivery.proofs.Calls.{Called, called as unit-called, stands-longer}
+use Rattle.delivery.proofs.Promise.{last-is, promise-called}
 use Rattle.delivery.proofs.Lists.{all-map, one-all}
 use Rattle.delivery.proofs.Run.{not-idle, frame-busy}
 
 -- What a unit pulls is not its host's.
-pulls-called : {st after : Station} → Called st after → pullsOf (after .unit) ≡ pullsOf (st .unit)
+pulls-called : {call : HostCall} {st after : Station} → Called call st after → pullsOf (after .unit) ≡ pullsOf (st .unit)
 pulls-called k = λ i. record { bav = k .asking i; hsk = pullsHsk (k .phase i); nibble = pullsNibble (k .phase i) }
 
 levels-called : (l : Lines) (i : ℕ) (call : HostCall) {ss : List Station} → All Sound ss → levelsWith l (calledAt i call ss) ≡ levelsWith l ss
 levels-called l i call none = refl
-levels-called l zero call (also {x = st} {xs = ss} s a) = ap (λ (x : Lines). levelsWith (wired l x) ss) (pulls-called (unit-called call st s))
+levels-called l zero call (also {x = st} {xs = ss} s a) = ap (λ (x : Lines). levelsWith (wired l x) ss) (pulls-called (unit-called call st))
 levels-called l (suc i) call (also {x = st} s a) = levels-called (wired l (pullsOf (st .unit))) i call a
 
 -- How long the unit that responds still takes is not either.
-talk-same : {T : Moment} {c : Command} {d : List ℕ} {stores : Bool} {found : List ℕ} {ear : Listener} {taken : Response} {quiet : ℕ} {buffer : List ℕ} {st after : Station} (low : Bool) (rest rest′ : ℕ) → Called st after → Talk T c d stores found ear taken quiet buffer st
+talk-same : {T : Moment} {c : Command} {d : List ℕ} {stores : Bool} {found : List ℕ} {ear : Listener} {taken : Response} {quiet : ℕ} {buffer : List ℕ} {call : HostCall} {st after : Station} (low : Bool) (rest rest′ : ℕ) → Called call st after → Talk T c d stores found ear taken quiet buffer st
     → phaseLeft (after .unit .phase) (after .unit .serial .input) low rest ≡ phaseLeft (st .unit .phase) (st .unit .serial .input) low rest′
-talk-same {st = st} {after = after} low rest rest′ k (talks r j t sender wait e p fits g b l w c q own) =
-    let same : lastNibble (after .unit .serial .input) r ≡ lastNibble (st .unit .serial .input) r =
-    ap (λ (x : ℕ). 5 + 2 * x) (stands-longer r (st .unit .serial .input) (after .unit .serial .input) (st .input) (after .input) (k .fed) (p .enough) (k .grown) (k .count) .1 .0) in
+talk-same {T} {st = st} {after = after} low rest rest′ k (talks r j t sender wait e p fits g b l w c q own) =
+    let same : lastNibble (after .unit .serial .input) r ≡ lastNibble (st .unit .serial .input) r = last-is (promise-called T k p) ∙ sym (last-is p) in
     ap (λ (x : Phase). phaseLeft x (after .unit .serial .input) low rest) (k .phase ∙ e)
     ∙ ap (λ (x : ℕ). 4 * (x - j) + place sender low + cond wait 1 0) same
     ∙ sym (ap (λ (x : Phase). phaseLeft x (st .unit .serial .input) low rest′) e)
 
-sits-same : {st after : Station} (low : Bool) (rest : ℕ) → Called st after → Sits st → phaseLeft (after .unit .phase) (after .unit .serial .input) low rest ≡ phaseLeft (st .unit .phase) (st .unit .serial .input) low rest
-sits-same {st} {after} low rest k s = ap (λ (x : Phase). phaseLeft x (after .unit .serial .input) low rest) (k .phase ∙ s .0) ∙ sym (ap (λ (x : Phase). phaseLeft x (st .unit .serial .input) low rest) (s .0))
+sits-same : {call : HostCall} {st after : Station} (low : Bool) (rest : ℕ) → Called call st after → Sits st → phaseLeft (after .unit .phase) (after .unit .serial .input) low rest ≡ phaseLeft (st .unit .phase) (st .unit .serial .input) low rest
+sits-same {st = st} {after = after} low rest k s = ap (λ (x : Phase). phaseLeft x (after .unit .serial .input) low rest) (k .phase ∙ s .0) ∙ sym (ap (λ (x : Phase). phaseLeft x (st .unit .serial .input) low rest) (s .0))
 
 sits-units : (low : Bool) (rest : ℕ) (i : ℕ) (call : HostCall) {ss : List Station} → All (λ (st : Station). Sits st × Sound st) ss → unitsLeft (calledAt i call ss) low rest ≡ unitsLeft ss low rest
 sits-units low rest i call none = refl
-sits-units low rest zero call (also {x = st} {xs = ss} p a) = sits-same low (unitsLeft ss low rest) (unit-called call st (p .1)) (p .0)
+sits-units low rest zero call (also {x = st} {xs = ss} p a) = sits-same low (unitsLeft ss low rest) (unit-called call st) (p .0)
 sits-units low rest (suc i) call (also {x = st} p a) = ap (phaseLeft (st .unit .phase) (st .unit .serial .input) low) (sits-units low rest i call a)
 
 one-units : {T : Moment} {c : Command} {d : List ℕ} {stores : Bool} {found : List ℕ} {ear : Listener} {taken : Response} {quiet : ℕ} {buffer : List ℕ} (low : Bool) (rest : ℕ) (i : ℕ) (call : HostCall) {ss : List Station}
     → One (λ (st : Station). Talk T c d stores found ear taken quiet buffer st × Sound st) (λ (st : Station). Sits st × Sound st) ss → unitsLeft (calledAt i call ss) low rest ≡ unitsLeft ss low rest
-one-units low rest zero call (this {x = st} {xs = ss} p a) = talk-same low (unitsLeft ss low rest) (unitsLeft ss low rest) (unit-called call st (p .1)) (p .0)
+one-units low rest zero call (this {x = st} {xs = ss} p a) = talk-same low (unitsLeft ss low rest) (unitsLeft ss low rest) (unit-called call st) (p .0)
 one-units low rest (suc i) call (this {x = st} p a) = ap (phaseLeft (st .unit .phase) (st .unit .serial .input) low) (sits-units low rest i call a)
-one-units low rest zero call (that {x = st} {xs = ss} q o) = sits-same low (unitsLeft ss low rest) (unit-called call st (q .1)) (q .0)
+one-units low rest zero call (that {x = st} {xs = ss} q o) = sits-same low (unitsLeft ss low rest) (unit-called call st) (q .0)
 one-units low rest (suc i) call (that {x = st} q o) = ap (phaseLeft (st .unit .phase) (st .unit .serial .input) low) (one-units low rest i call o)
 
 host-left : {T : Moment} {f : Frame} {found : List ℕ} {w : World} (i : ℕ) (call : HostCall) → InFrame T f found w → left (called w (host i call)) ≡ left w

@@ -4,8 +4,7 @@ pub mod Heard
 pub mod Lines
 pub mod Part
 pub mod Talk
-pub mod Verdicts
-pub mod Fits
+pub mod Promise
 pub mod Stage
 pub mod Turned
 pub mod Listening

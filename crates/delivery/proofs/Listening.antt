@@ -114,7 +114,7 @@ pub data Heard′ (T : Moment) (f : Frame) (d found : List ℕ) (m : Moved) (buf
 
 parted : {T : Moment} {f : Frame} {d found : List ℕ} {m : Moved} {buffer : List ℕ} {host : Bool} {most : ℕ} {old ss : List Station} → One (λ (st : Station). ((before : Station) × (Has before old × Talked T f d found m buffer host most before st)) × Sound st) (λ (st : Station). Sits st × Sound st) ss → Heard′ T f d found m buffer host most old ss
 parted (this ((before, (has, still ear taken quiet e t n)), s) a) = goes-on ear taken quiet e (this ((t, n), s) a)
-parted (this ((before, (has, done r j sender k p e b phase serial q own input a)), x) all) = comes-to-its-end (this (spoke r j sender before has k own a p e b serial input (phase, q), x) all)
+parted (this ((before, (has, done r j sender k p e b phase inside q own a)), x) all) = comes-to-its-end (this (spoke r j sender before has k own a p e b inside (phase, q), x) all)
 parted (that q o) = behind q (parted o)
   where
     behind : {T : Moment} {f : Frame} {d found : List ℕ} {m : Moved} {buffer : List ℕ} {host : Bool} {most : ℕ} {old : List Station} {st : Station} {ss : List Station} → Sits st × Sound st → Heard′ T f d found m buffer host most old ss → Heard′ T f d found m buffer host most old (st ∷ ss)

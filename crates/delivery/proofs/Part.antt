@@ -10,6 +10,9 @@ use lib.ListN.{length}
 use Rattle.bus.specs.Bus.{stationStep}
 use Rattle.bus.specs.declared.Station.{Station}
 use Rattle.header.specs.declared.Command.{Command}
+use Rattle.inside.specs.Inside.{Inside, insideOf, replyFor, takenFor}
+use Rattle.inside.proofs.Round.{insideAfter}
+use Rattle.kind.specs.Kinds.{kindOf, isShort}
 use Rattle.line.specs.Line.{sendOf, sentOf, hearOf, isReady, listenerHsk}
 use Rattle.line.specs.declared.Lines.{Lines}
 use Rattle.line.specs.declared.Listener.{Listener}
@@ -17,15 +20,14 @@ use Rattle.line.specs.declared.Listener.the-variants.{Ready, Holding, Waiting}
 use Rattle.line.specs.declared.Sender.{Sender}
 use Rattle.line.specs.declared.Sender.the-variants.{Next, Placed, Kept}
 use Rattle.message.specs.Nibbles.{nibbleIn}
-use Rattle.phase.specs.Phase.{phaseStep, phaseBuffer, phaseOutput, answered, verdictOn}
+use Rattle.phase.specs.Phase.{phaseStep, phaseBuffer}
 use Rattle.phase.specs.declared.Phase.{Phase}
 use Rattle.phase.specs.declared.Phase.the-variants.{Receiving, Responding, SittingOut}
 use Rattle.phase.specs.declared.Progress.the-variants.{Answered}
 use Rattle.reply.specs.Reply.{isSilent}
 use Rattle.serial.specs.declared.Reply.{Reply}
-use Rattle.serial.specs.declared.Serial.{Serial}
 use Rattle.unit.specs.Unit.{pullsHsk, pullsNibble}
-use Rattle.whole.specs.Whole.{bytesFor, headerFor, withData, Sent}
+use Rattle.whole.specs.Whole.{bytesFor, Sent}
 use Rattle.whole.proofs.Whole.{length-bytes}
 use Rattle.delivery.specs.Stages.{isAnswered, Part, addressed, answers, listens, sits}
 use Rattle.delivery.specs.Heard.{Fits, f-next, f-holds, f-waits, Sees, Heard, h-none, h-first, h-byte, h-half}
@@ -36,28 +38,13 @@ pub record Stepped (st : Station) (seen : Lines) (busy : Bool) (after : Station)
   pub own : after .unit .own ≡ st .unit .own
   pub asking : after .unit .asking ≡ (st .unit .asking && not (seen .hsk))
   pub phase : after .unit .phase ≡ phaseStep (st .unit .phase) (st .unit .own) (st .unit .serial) seen busy (st .buffer) (st .input) .phase
-  pub serial : after .unit .serial ≡ phaseStep (st .unit .phase) (st .unit .own) (st .unit .serial) seen busy (st .buffer) (st .input) .serial
   pub buffer : after .buffer ≡ phaseBuffer (st .unit .phase) seen (st .buffer)
-  pub input : after .input ≡ st .input
-  pub output : after .output ≡ phaseOutput (st .unit .phase) (st .unit .serial) seen (st .buffer) (st .output)
+  pub inside : insideOf after ≡ insideAfter (st .unit .phase) (st .unit .own) (insideOf st) seen busy (st .buffer)
 
-pub low-step : (st : Station) (seen : Lines) (busy : Bool) → seen .nibble < 16 → 256 ≤ length (st .buffer) → seen .bav ≡ true → Stepped st seen busy (stationStep st seen busy)
+pub low-step : (st : Station) (seen : Lines) (busy : Bool) → seen .nibble < 16 → isShort (kindOf (st .unit .own)) (length (st .buffer)) ≡ false → seen .bav ≡ true → Stepped st seen busy (stationStep st seen busy)
 low-step st seen busy n room low =
     let a : ltb 15 (seen .nibble) ≡ false = le-ltb 15 (seen .nibble) (omega arith) in
-    let b : ltb (length (st .buffer)) 256 ≡ false = le-ltb (length (st .buffer)) 256 room in
-    record {
-      own = rw (a, b, low);
-      asking = rw (a, b, low);
-      phase = rw (a, b, low);
-      serial = rw (a, b, low);
-      buffer = rw (a, b, low);
-      input = refl;
-      output = rw (a, b, low);
-    }
-
--- The reply that is fixed with the last nibble, where the lent buffer was b.
-abbrev pub replyTo : Serial → Command → List ℕ → List ℕ → Reply
-replyTo s c d b = verdictOn s (headerFor c d) (withData d b) .reply
+    record { own = rw (a, room, low); asking = rw (a, room, low); phase = rw (a, room, low); buffer = rw (a, room, low); inside = rw (a, room, low) }
 
 -- What HSK and the data lines show beside a sender.
 abbrev pub Shows : Sender → Lines → Type 0
@@ -85,7 +72,7 @@ sees (Kept n) Ready seen e own = tt
 sees (Kept n) Holding seen e own = own refl
 sees (Kept n) Waiting seen e own = tt
 
-pub part-free : {P : Reply → Serial → List ℕ → Type 0} {c : Command} {d : List ℕ} {i : ℕ} {sender : Sender} {st : Station} → Part P c d i sender st → pullsNibble (st .unit .phase) ≡ 15
+pub part-free : {P : Reply → Inside → Type 0} {c : Command} {d : List ℕ} {i : ℕ} {sender : Sender} {st : Station} → Part P c d i sender st → pullsNibble (st .unit .phase) ≡ 15
 part-free (listens ear t f h a q) = heard-free h
 part-free (answers ear r f l a e k q) = ap pullsNibble e
 part-free (sits now a e k q) = ap pullsNibble e
@@ -102,7 +89,7 @@ kept-next : {n : ℕ} → Next ≡ Kept n → ⊥
 kept-next e = true≢false (ap isNext e)
 
 -- Between two nibbles no unit pulls HSK.
-pub part-high : {P : Reply → Serial → List ℕ → Type 0} {c : Command} {d : List ℕ} {i : ℕ} {st : Station} → Part P c d i Next st → pullsHsk (st .unit .phase) ≡ false
+pub part-high : {P : Reply → Inside → Type 0} {c : Command} {d : List ℕ} {i : ℕ} {st : Station} → Part P c d i Next st → pullsHsk (st .unit .phase) ≡ false
 part-high (listens ear t f h a q) = heard-hsk h ∙ fits-next f
 part-high (answers ear r f l a e k q) = ap pullsHsk e ∙ fits-next f
 part-high (sits true a e k q) = absurd (kept-next (k refl .1))
@@ -126,18 +113,18 @@ heard-short l (h-byte j buffer room g h) = omega arith
 heard-short l (h-half j buffer room g h) = omega arith
 
 -- Why a unit sits out.
-pub data Hush (P : Reply → Serial → List ℕ → Type 0) (c : Command) (st : Station) : Type 0 where
+pub data Hush (P : Reply → Inside → Type 0) (c : Command) (st : Station) : Type 0 where
   not-mine : addressed c (st .unit .own) ≡ false → Hush P c st
-  ruled : (r : Reply) → isSilent r ≡ true → P r (st .unit .serial) (st .input) → Hush P c st
+  ruled : (r : Reply) → isSilent r ≡ true → P r (insideOf st) → Hush P c st
 
 -- A unit after its last command nibble is done: it responds, or sits out.
-pub data Turned (P : Reply → Serial → List ℕ → Type 0) (c : Command) (st : Station) : Type 0 where
+pub data Turned (P : Reply → Inside → Type 0) (c : Command) (st : Station) : Type 0 where
   speaks :
-      (r : Reply) → isSilent r ≡ false → addressed c (st .unit .own) ≡ true → st .unit .phase ≡ Responding r 0 Next true → P r (st .unit .serial) (st .input)
+      (r : Reply) → isSilent r ≡ false → addressed c (st .unit .own) ≡ true → st .unit .phase ≡ Responding r 0 Next true → P r (insideOf st)
       → st .unit .asking ≡ false → Turned P c st
   silent : st .unit .phase ≡ SittingOut false → st .unit .asking ≡ false → Hush P c st → Turned P c st
 
-module _ (P : Reply → Serial → List ℕ → Type 0) (c : Command) (d : List ℕ) (i : ℕ) (sender : Sender) (st st′ : Station) (seen : Lines) (busy : Bool) (step : Stepped st seen busy st′) where
+module _ (P : Reply → Inside → Type 0) (c : Command) (d : List ℕ) (i : ℕ) (sender : Sender) (st st′ : Station) (seen : Lines) (busy : Bool) (step : Stepped st seen busy st′) where
   abbrev n : ℕ
   n = nibbleIn (bytesFor c d) i
 
@@ -159,17 +146,17 @@ module _ (P : Reply → Serial → List ℕ → Type 0) (c : Command) (d : List 
     phase-is : st′ .unit .phase ≡ phaseStep phase (st .unit .own) (st .unit .serial) seen busy (st .buffer) (st .input) .phase
     phase-is = step .phase ∙ ap (λ (x : Phase). phaseStep x (st .unit .own) (st .unit .serial) seen busy (st .buffer) (st .input) .phase) e
 
-    serial-is : st′ .unit .serial ≡ phaseStep phase (st .unit .own) (st .unit .serial) seen busy (st .buffer) (st .input) .serial
-    serial-is = step .serial ∙ ap (λ (x : Phase). phaseStep x (st .unit .own) (st .unit .serial) seen busy (st .buffer) (st .input) .serial) e
+    inside-is : insideOf st′ ≡ insideAfter phase (st .unit .own) (insideOf st) seen busy (st .buffer)
+    inside-is = step .inside ∙ ap (λ (x : Phase). insideAfter x (st .unit .own) (insideOf st) seen busy (st .buffer)) e
 
   still-sits : {now : Bool} → st .unit .phase ≡ SittingOut now → st′ .unit .phase ≡ SittingOut false
   still-sits e = phase-is e
 
   -- What was heard, carried to the unit after the round.
-  moved-heard : {ear : Listener} {k : ℕ} {after : Phase} {t : Serial} {b o : List ℕ}
-      → Round (st .unit .phase) (st .unit .own) (st .unit .serial) seen busy (st .buffer) (st .input) (st .output) after t b o
+  moved-heard : {ear : Listener} {k : ℕ} {after : Phase} {y : Inside} {b : List ℕ}
+      → Round (st .unit .phase) (st .unit .own) (insideOf st) seen busy (st .buffer) after y b
       → Heard (bytesFor c d) ear k after b → Heard (bytesFor c d) ear k (st′ .unit .phase) (st′ .buffer)
-  moved-heard {ear} {k} {after} {t} {b} {o} r h =
+  moved-heard {ear} {k} {after} {y} {b} r h =
       subst (λ (x : Phase). Heard (bytesFor c d) ear k x (st′ .buffer)) (sym (step .phase ∙ r .phase))
       (subst (λ (x : List ℕ). Heard (bytesFor c d) ear k after x) (sym (step .buffer ∙ r .buffer)) h)
 
@@ -182,9 +169,9 @@ module _ (P : Reply → Serial → List ℕ → Type 0) (c : Command) (d : List 
       sent-by : Pair n sender ear t (seen .hsk) (seen .nibble) busy → Part P c d (suc i) Next st′
       sent-by (rests e1 e2 g) = absurd (true≢false (sym sent ∙ e2))
       sent-by (takes e1 e2 e3 e4 e5 g) = absurd (true≢false (sym sent ∙ e5))
-      sent-by (sends e1 e2 e3 e4 e5) = goes (heard-waits (st .unit .own) (st .unit .serial) seen busy (st .input) (st .output) h e1)
+      sent-by (sends e1 e2 e3 e4 e5) = goes (heard-waits (st .unit .own) (insideOf st) seen busy h e1)
         where
-          goes : Waits (bytesFor c d) (i + t) (hearOf ear (seen .hsk) busy) (st .unit .phase) (st .unit .own) (st .unit .serial) seen busy (st .buffer) (st .input) (st .output) → Part P c d (suc i) Next st′
+          goes : Waits (bytesFor c d) (i + t) (hearOf ear (seen .hsk) busy) (st .unit .phase) (st .unit .own) (insideOf st) seen busy (st .buffer) → Part P c d (suc i) Next st′
           goes (waits after h′ r) =
               let k : i + t ≡ suc i + 0 = omega arith in
               listens Ready 0 f-next
@@ -195,11 +182,11 @@ module _ (P : Reply → Serial → List ℕ → Type 0) (c : Command) (d : List 
 
   -- The last nibble counts as sent: the unit responds two rounds later, or sits out.
   answered-by : (t : Bool) (ear : Listener) (r : Reply) → isSilent r ≡ t → hearOf ear (seen .hsk) busy ≡ Ready → st .unit .phase ≡ Receiving ear (Answered r) → addressed c (st .unit .own) ≡ true
-      → P r (st .unit .serial) (st .input) → st .unit .asking ≡ false → Turned P c st′
+      → P r (insideOf st) → st .unit .asking ≡ false → Turned P c st′
   answered-by true ear r z e4 e a k q =
-      silent (phase-is e ∙ rw (e4, z)) (not-asking q) (ruled r z (subst (λ (x : Serial). P r x (st′ .input)) (sym (serial-is e)) (subst (P r (st .unit .serial)) (sym (step .input)) k)))
+      silent (phase-is e ∙ rw (e4, z)) (not-asking q) (ruled r z (subst (P r) (sym (inside-is e)) k))
   answered-by false ear r z e4 e a k q =
-      speaks r z (same-own a) (phase-is e ∙ rw (e4, z)) (subst (λ (x : Serial). P r x (st′ .input)) (sym (serial-is e)) (subst (P r (st .unit .serial)) (sym (step .input)) k)) (not-asking q)
+      speaks r z (same-own a) (phase-is e ∙ rw (e4, z)) (subst (P r) (sym (inside-is e)) k) (not-asking q)
 
   pub part-over : Shows sender seen → (pullsHsk (st .unit .phase) ≡ true → seen .hsk ≡ true) → sentOf sender (seen .hsk) ≡ true → suc i ≡ 2 * length (bytesFor c d) → 9 ≤ length (bytesFor c d)
       → Part P c d i sender st → Turned P c st′
@@ -218,9 +205,9 @@ module _ (P : Reply → Serial → List ℕ → Type 0) (c : Command) (d : List 
   part-over shows own sent all nine (sits now a e k q) = silent (still-sits e) (not-asking q) (not-mine (same-own a))
 
   -- A nibble that does not count as sent yet.
-  module _ (ok : Sent c d) (fixes : (b : List ℕ) → isAnswered (st .unit .phase) ≡ false → isAnswered (st′ .unit .phase) ≡ true → st′ .unit .serial ≡ answered (st .unit .serial) (headerFor c d) (withData d b) .serial → P (replyTo (st .unit .serial) c d b) (st′ .unit .serial) (st′ .input)) where
+  module _ (ok : Sent c d) (fixes : isAnswered (st .unit .phase) ≡ false → isAnswered (st′ .unit .phase) ≡ true → insideOf st′ ≡ takenFor (st .unit .own) (insideOf st) c d → P (replyFor (st .unit .own) (insideOf st) c d) (insideOf st′)) where
     takes-more : Fits n (sendOf sender (seen .hsk) n) Holding 1 → seen .hsk ≡ true
-        → Takes (bytesFor c d) i (st .unit .phase) (st .unit .own) (st .unit .serial) seen busy (st .buffer) (st .input) (st .output)
+        → Takes (bytesFor c d) i (st .unit .phase) (st .unit .own) (insideOf st) seen busy (st .buffer)
         → (2 ≤ suc i → addressed c (st .unit .own) ≡ true)
         → Part P c d i (sendOf sender (seen .hsk) n) st′
     takes-more g low (takes-it after b h r) a =
@@ -229,19 +216,19 @@ module _ (P : Reply → Serial → List ℕ → Type 0) (c : Command) (d : List 
 
     takes-last : Fits n (sendOf sender (seen .hsk) n) Holding 1 → seen .hsk ≡ true → suc i ≡ 2 * length (bytesFor c d) → addressed c (st .unit .own) ≡ true
         → isAnswered (st .unit .phase) ≡ false
-        → (b : List ℕ) × (256 ≤ length b) × Fixed (headerFor c d) (withData d b) (st .unit .phase) (st .unit .own) (st .unit .serial) seen busy (st .buffer) (st .input) (st .output)
+        → Fixed c d (st .unit .phase) (st .unit .own) (insideOf st) seen busy (st .buffer)
         → Part P c d i (sendOf sender (seen .hsk) n) st′
     takes-last g low all a before x =
-        answers Holding (replyTo (st .unit .serial) c d (x .0)) g all (same-own a) (step .phase ∙ x .2 .round .phase) (fixes (x .0) before (ap isAnswered (step .phase ∙ x .2 .round .phase)) (step .serial ∙ x .2 .round .serial)) (asked-low low)
+        answers Holding (replyFor (st .unit .own) (insideOf st) c d) g all (same-own a) (step .phase ∙ x .phase) (fixes before (ap isAnswered (step .phase ∙ x .phase)) (step .inside ∙ x .inside)) (asked-low low)
 
     takes-by : (b t : Bool) → addressed c (st .unit .own) ≡ b → ltb (suc i) (2 * length (bytesFor c d)) ≡ t → i < 2 * length (bytesFor c d)
         → (2 ≤ i → addressed c (st .unit .own) ≡ true) → Fits n (sendOf sender (seen .hsk) n) Holding 1 → (m : ℕ) → sendOf sender (seen .hsk) n ≡ Kept m → seen .hsk ≡ true → seen .nibble ≡ n
         → Heard (bytesFor c d) Ready i (st .unit .phase) (st .buffer) → Part P c d i (sendOf sender (seen .hsk) n) st′
     takes-by true true a l h z g m keeps low q x =
-        takes-more g low (heard-takes c d ok (st .unit .own) (st .unit .serial) seen busy (st .input) (st .output) low x q (ltb-true (suc i) (2 * length (bytesFor c d)) l) (λ e. a)) (λ e. a)
+        takes-more g low (heard-takes c d ok (st .unit .own) (insideOf st) seen busy low x q (ltb-true (suc i) (2 * length (bytesFor c d)) l) (λ e. a)) (λ e. a)
     takes-by true false a l h z g m keeps low q x =
         let all : 2 * length (bytesFor c d) ≤ suc i = ltb-false (suc i) (2 * length (bytesFor c d)) l in
-        takes-last g low (omega arith) a (heard-open x) (heard-last c d ok (st .unit .own) (st .unit .serial) seen busy (st .input) (st .output) low x q (omega arith))
+        takes-last g low (omega arith) a (heard-open x) (heard-last c d ok (st .unit .own) (insideOf st) seen busy low x q (omega arith))
     takes-by false t a l h z g m keeps low q x = other i refl
       where
         nine : length (bytesFor c d) ≡ 9 + length d
@@ -249,9 +236,9 @@ module _ (P : Reply → Serial → List ℕ → Type 0) (c : Command) (d : List 
 
         other : (k : ℕ) → k ≡ i → Part P c d i (sendOf sender (seen .hsk) n) st′
         other zero e =
-            takes-more g low (heard-takes c d ok (st .unit .own) (st .unit .serial) seen busy (st .input) (st .output) low x q (omega arith) (λ e′. absurd (omega arith))) (λ e′. absurd (omega arith))
+            takes-more g low (heard-takes c d ok (st .unit .own) (insideOf st) seen busy low x q (omega arith) (λ e′. absurd (omega arith))) (λ e′. absurd (omega arith))
         other (suc zero) e =
-            let r = heard-other c d ok (st .unit .own) (st .unit .serial) seen busy (st .input) (st .output) low x (sym e) (q ∙ ap (nibbleIn (bytesFor c d)) (sym e)) a in
+            let r = heard-other c d ok (st .unit .own) (insideOf st) seen busy low x (sym e) (q ∙ ap (nibbleIn (bytesFor c d)) (sym e)) a in
             sits true (same-own a) (step .phase ∙ r .phase) (λ _. (m, keeps)) (asked-low low)
         other (suc (suc k)) e = absurd (true≢false (sym (z (omega arith)) ∙ a))
 
@@ -263,12 +250,12 @@ module _ (P : Reply → Serial → List ℕ → Type 0) (c : Command) (d : List 
     part-rests shows own sent less (listens ear t f h a q) = rests-by (pair (seen .hsk) (seen .nibble) busy f (sees sender ear seen shows (λ e. own (heard-hsk h ∙ e))))
       where
         goes : Fits n (sendOf sender (seen .hsk) n) (hearOf ear (seen .hsk) busy) t
-            → Waits (bytesFor c d) (i + t) (hearOf ear (seen .hsk) busy) (st .unit .phase) (st .unit .own) (st .unit .serial) seen busy (st .buffer) (st .input) (st .output)
+            → Waits (bytesFor c d) (i + t) (hearOf ear (seen .hsk) busy) (st .unit .phase) (st .unit .own) (insideOf st) seen busy (st .buffer)
             → Part P c d i (sendOf sender (seen .hsk) n) st′
         goes g (waits after h′ r) = listens (hearOf ear (seen .hsk) busy) t g (moved-heard r h′) (λ l. same-own (a l)) (λ l. not-asking (q l))
 
         rests-by : Pair n sender ear t (seen .hsk) (seen .nibble) busy → Part P c d i (sendOf sender (seen .hsk) n) st′
-        rests-by (rests e1 e2 g) = goes g (heard-waits (st .unit .own) (st .unit .serial) seen busy (st .input) (st .output) h e1)
+        rests-by (rests e1 e2 g) = goes g (heard-waits (st .unit .own) (insideOf st) seen busy h e1)
         rests-by (takes e1 e2 e3 e4 e5 g) =
             let k : i + t ≡ i = omega arith in
             takes-by (addressed c (st .unit .own)) (ltb (suc i) (2 * length (bytesFor c d))) refl refl less (λ l. a (omega arith)) g n (placed-kept g) e2 e3
@@ -278,7 +265,7 @@ module _ (P : Reply → Serial → List ℕ → Type 0) (c : Command) (d : List 
       where
         rests-by : Pair n sender ear 1 (seen .hsk) (seen .nibble) busy → Part P c d i (sendOf sender (seen .hsk) n) st′
         rests-by (rests e1 e2 g) =
-            answers (hearOf ear (seen .hsk) busy) r g l (same-own a) (phase-is e ∙ rw (fits-one g)) (subst (λ (x : Serial). P r x (st′ .input)) (sym (serial-is e)) (subst (P r (st .unit .serial)) (sym (step .input)) k)) (not-asking q)
+            answers (hearOf ear (seen .hsk) busy) r g l (same-own a) (phase-is e ∙ rw (fits-one g)) (subst (P r) (sym (inside-is e)) k) (not-asking q)
         rests-by (takes e1 e2 e3 e4 e5 g) = absurd (omega arith)
         rests-by (sends e1 e2 e3 e4 e5) = absurd (true≢false (sym e2 ∙ sent))
     part-rests shows own sent less (sits now a e k q) = sits false (same-own a) (still-sits e) (λ x. absurd (false≢true x)) (not-asking q)

@@ -15,7 +15,9 @@ use Rattle.bus.specs.Bus.{levelsWith, stationStep, unitsAfter}
 use Rattle.bus.specs.declared.Station.{Station}
 use Rattle.controller.specs.Controller.{controllerOf, ringAfter}
 use Rattle.controller.specs.Calls.{controllerStepped, bufferAfter}
-use Rattle.field.specs.Field.{Below}
+use Rattle.inside.specs.Inside.{insideOf}
+use Rattle.inside.specs.Lawful.{Fit}
+use Rattle.kind.specs.Kinds.{kindOf, isShort}
 use Rattle.frame.specs.Frame.{begun, pollOf, nullFrame, over}
 use Rattle.frame.specs.declared.Frame.{Frame}
 use Rattle.frame.specs.declared.Kind.{Kind}
@@ -43,7 +45,7 @@ use Rattle.delivery.proofs.Lists.{all-map, all-step, one-all}
 use Rattle.delivery.proofs.Lines.{hsk-high, bav-high, nibble-kept}
 use Rattle.delivery.proofs.Part.{low-step}
 use Rattle.delivery.proofs.Stage.{sound-low}
-use Rattle.delivery.proofs.Frame.{fresh-hsk, fresh-nibble, fresh-selects, frame-round, different-kept}
+use Rattle.delivery.proofs.Frame.{fresh-hsk, fresh-nibble, fresh-selects, frame-round, different-kept, own-kept}
 
 codes-of : (l : List Entry) → length l ≤ 16 → All (λ (e : Entry). e .code < 256) l → Codes (ringOf l)
 codes-of l h a = subst (All (λ (e : Entry). e .code < 256)) (sym (live-ring l h)) a
@@ -127,18 +129,20 @@ module _ (ring : Ring) (a : Codes ring) where
   codes-ended f status h = codes-cond (eqb status 0x00) (ringBy (f .kind) ring (f .command)) ring (codes-by (f .kind) (f .command) h) a
 
 -- A unit that no frame has reached stays so while HSK is high.
-high-step : (st : Station) (seen : Lines) (busy : Bool) → seen .nibble < 16 → 256 ≤ length (st .buffer) → seen .bav ≡ false
-    → (stationStep st seen busy .unit .phase ≡ Idle) × ((stationStep st seen busy .buffer ≡ st .buffer) × (stationStep st seen busy .input ≡ st .input))
+high-step : (st : Station) (seen : Lines) (busy : Bool) → seen .nibble < 16 → isShort (kindOf (st .unit .own)) (length (st .buffer)) ≡ false → seen .bav ≡ false
+    → (stationStep st seen busy .unit .phase ≡ Idle) × ((stationStep st seen busy .buffer ≡ st .buffer) × (insideOf (stationStep st seen busy) ≡ insideOf st))
 high-step st seen busy n room high =
     let a : ltb 15 (seen .nibble) ≡ false = le-ltb 15 (seen .nibble) (omega arith) in
-    let b : ltb (length (st .buffer)) 256 ≡ false = le-ltb (length (st .buffer)) 256 room in
-    (rw (a, b, high), (rw (a, b, high), refl))
+    (rw (a, room, high), (rw (a, room, high), rw (a, room, high)))
 
-sound-high : {st after : Station} → after .buffer ≡ st .buffer → after .input ≡ st .input → Sound st → Sound after
-sound-high b i s = record { room = subst (λ (x : List ℕ). 256 ≤ length x) (sym b) (s .room); memory = ap length i ∙ s .memory; bytes = subst (Below 256) (sym i) (s .bytes) }
+sound-high : {st after : Station} → after .unit .own ≡ st .unit .own → after .buffer ≡ st .buffer → insideOf after ≡ insideOf st → Sound st → Sound after
+sound-high {st} {after} o b i s = record {
+  room = (λ k. isShort (kindOf (o k)) (length (b k))) ∙ s .room;
+  fit = subst (λ (own : ℕ). Fit (kindOf own) (insideOf after)) (sym o) (subst (Fit (kindOf (st .unit .own))) (sym i) (s .fit));
+}
 
 idle-step : (seen : Lines) → seen .nibble < 16 → seen .bav ≡ false → (st : Station) (busy : Bool) → Sound st → Fresh (stationStep st seen busy) × Sound (stationStep st seen busy)
-idle-step seen n high st busy s = let h = high-step st seen busy n (s .room) high in (idles (h .0), sound-high (h .1 .0) (h .1 .1) s)
+idle-step seen n high st busy s = let h = high-step st seen busy n (s .room) high in (idles (h .0), sound-high (own-kept st seen busy) (h .1 .0) (h .1 .1) s)
 
 fresh-by : (t : Bool) (seen : Lines) → seen .bav ≡ t → seen .nibble < 16 → seen .hsk ≡ false → (st : Station) (busy : Bool) → Fresh st × Sound st → Fresh (stationStep st seen busy) × Sound (stationStep st seen busy)
 fresh-by true seen low n high st busy p = let s = low-step st seen busy n (p .1 .room) low in (selects (fresh-selects s high (p .0)), sound-low s (p .1))
@@ -235,11 +239,11 @@ frame-device (hears ear taken quiet framed d l o) = framed .sent .fields .device
 frame-device (waits quiet framed d a why) = framed .sent .fields .device
 
 pub spoke-moved : {T : Moment} {f : Frame} {d found : List ℕ} {m : Moved} {buffer : List ℕ} {old ss : List Station} → One (λ (st : Station). Spoke T f d found m buffer old st × Sound st) (λ (st : Station). Sits st × Sound st) ss → (r : Response) × (m ≡ over f r)
-spoke-moved (this (spoke r j sender before has k own a p e b serial input x, y) all) = (Complete (replyStatus r) (length (answerData p)), e)
+spoke-moved (this (spoke r j sender before has k own a p e b inside x, y) all) = (Complete (replyStatus r) (length (answerData p)), e)
 spoke-moved (that q o) = spoke-moved o
 
 spoke-sits : {T : Moment} {f : Frame} {d found : List ℕ} {m : Moved} {buffer : List ℕ} {old : List Station} (st : Station) → Spoke T f d found m buffer old st × Sound st → Sits st × Sound st
-spoke-sits st (spoke r j sender before has k own a p e b serial input x, y) = (x, y)
+spoke-sits st (spoke r j sender before has k own a p e b inside x, y) = (x, y)
 
 finish : {T : Moment} (f : Frame) (found : List ℕ) (w : World) (busy : Busy) (r : Response) → InFrame T f found w → Codes (w .controller .ring) → Finishes w busy → movedIn w busy ≡ over f r → Different (round w busy .units) → All (λ (st : Station). Sits st × Sound st) (round w busy .units) → On T (round w busy)
 finish {T} f found w busy r x codes fin m d a =

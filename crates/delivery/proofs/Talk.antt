@@ -16,6 +16,8 @@ use Rattle.frame.specs.declared.Frame.{Frame}
 use Rattle.frame.specs.declared.Moved.{Moved}
 use Rattle.frame.specs.declared.Stage.the-variants.{Listening}
 use Rattle.header.specs.declared.Command.{Command}
+use Rattle.inside.specs.Inside.{Inside, insideOf, responded}
+use Rattle.inside.proofs.Round.{insideAfter}
 use Rattle.line.specs.Line.{sendOf, sentOf, hearOf, takenOf, isReady, listenerHsk, senderHsk, senderNibble}
 use Rattle.line.specs.declared.Lines.{Lines}
 use Rattle.line.specs.declared.Listener.{Listener}
@@ -28,40 +30,20 @@ use Rattle.phase.specs.declared.Moved.{Moved as Step}
 use Rattle.phase.specs.declared.Phase.{Phase}
 use Rattle.phase.specs.declared.Phase.the-variants.{Responding, SittingOut}
 use Rattle.queue.specs.Queue.{contents}
-use Rattle.reply.specs.Reply.{replyStatus, responseBytes, lastNibble, replyLength}
+use Rattle.reply.specs.Reply.{replyStatus, responseBytes, lastNibble}
 use Rattle.serial.specs.Serial.{finished}
 use Rattle.serial.specs.declared.Reply.{Reply}
 use Rattle.serial.specs.declared.Serial.{Serial}
 use Rattle.unit.specs.Unit.{pullsHsk, pullsNibble}
-use Rattle.whole.specs.Back.{responseFor, takenAt, storedAt, lengthOf, received}
+use Rattle.whole.specs.Back.{takenAt, storedAt, lengthOf, received}
 use Rattle.whole.proofs.Back.{response-completes, not-over-before, data-received}
 use Rattle.delivery.specs.Stages.{addressed, Quiet, Talk, answerBytes, answerData, talks}
 use Rattle.delivery.specs.Ends.{place, phaseLeft}
 use Rattle.delivery.specs.Heard.{Fits, f-next, f-placed, f-holds, f-waits, Sees}
-use Rattle.delivery.specs.Promised.{Moment, Promised, dataFor, Enough}
+use Rattle.delivery.specs.Promised.{Moment, Promised}
 use Rattle.delivery.proofs.Heard.{Pair, rests, takes, sends, pair}
 use Rattle.delivery.proofs.Part.{Stepped}
-
--- A promise to a unit whose code, state and input are the same.
-abbrev pub carried : (T : Moment) {c : Command} {d : List ℕ} {r : Reply} {own own′ : ℕ} {s s′ : Serial} {input input′ : List ℕ} → own′ ≡ own → s′ ≡ s → input′ ≡ input → Promised (T own) c d r s input → Promised (T own′) c d r s′ input′
-carried T {r = r} o e i p = record {
-  given = p .given;
-  memory = p .memory;
-  took = subst (λ (x : ℕ). T x (p .given) (p .memory)) (sym o) (p .took);
-  said = p .said;
-  stands = (λ k. dataFor (e k) (i k) r) ∙ p .stands;
-  long = ap (λ (x : Serial). replyLength (x .input) r) e ∙ p .long;
-  enough = subst (λ (x : Serial). Enough r (x .input)) (sym e) (p .enough);
-  fits = p .fits;
-}
-
--- The number of the last nibble, and each nibble, by the promise.
-module _ {T : Serial → List ℕ → Type 0} {c : Command} {d : List ℕ} {r : Reply} {s : Serial} {input : List ℕ} (p : Promised T c d r s input) where
-  pub last-is : lastNibble (s .input) r ≡ lengthOf (answerData p) - 1
-  last-is = let l : lastNibble (s .input) r ≡ 5 + 2 * length (answerData p) = ap (λ (x : ℕ). 5 + 2 * x) (p .long) in omega arith
-
-  pub bytes-are : responseBytes (contents input (s .input)) r ≡ answerBytes p
-  bytes-are = ap (λ (x : List ℕ). responseFor x (replyStatus r)) (p .stands)
+use Rattle.delivery.proofs.Promise.{last-is, bytes-are, answer-fits, carried}
 
 sees : {n t : ℕ} {sender : Sender} {ear : Listener} (seen : Lines) → Fits n sender ear t → seen .hsk ≡ (listenerHsk ear || senderHsk sender) → seen .nibble ≡ senderNibble sender → Sees sender ear (seen .hsk) (seen .nibble)
 sees seen f-next h q = h
@@ -147,9 +129,9 @@ pub data Talked (T : Moment) (f : Frame) (d : List ℕ) (found : List ℕ) (m : 
       (ear : Listener) (taken : Response) (quiet : ℕ) → m ≡ stays (Listening f ear taken quiet) → Talk T (f .command) d (isSubmitted (f .kind)) found ear taken quiet buffer st → (host ≡ false → talkLeft ear st < most)
       → Talked T f d found m buffer host most before st
   done :
-      (r : Reply) (j : ℕ) (sender : Sender) → before .unit .phase ≡ Responding r j sender false → (p : Promised (T (before .unit .own)) (f .command) d r (before .unit .serial) (before .input)) → m ≡ over f (Complete (replyStatus r) (length (answerData p)))
-      → buffer ≡ received (isSubmitted (f .kind)) (answerData p) found → st .unit .phase ≡ SittingOut false → st .unit .serial ≡ finished (before .unit .serial) r → st .unit .asking ≡ false
-      → st .unit .own ≡ before .unit .own → st .input ≡ before .input → addressed (f .command) (before .unit .own) ≡ true
+      (r : Reply) (j : ℕ) (sender : Sender) → before .unit .phase ≡ Responding r j sender false → (p : Promised T (before .unit .own) (f .command) d r (insideOf before)) → m ≡ over f (Complete (replyStatus r) (length (answerData p)))
+      → buffer ≡ received (isSubmitted (f .kind)) (answerData p) found → st .unit .phase ≡ SittingOut false → insideOf st ≡ responded (insideOf before) r → st .unit .asking ≡ false
+      → st .unit .own ≡ before .unit .own → addressed (f .command) (before .unit .own) ≡ true
       → Talked T f d found m buffer host most before st
 
 module _ (T : Moment) (f : Frame) (d found : List ℕ) (timeout : ℕ) (eight : 8 ≤ timeout) (room : f .command .«buffer_length» ≤ length found) (st st′ : Station) (seen : Lines) (host busy : Bool) (step : Stepped st seen busy st′) where
@@ -173,18 +155,22 @@ module _ (T : Moment) (f : Frame) (d found : List ℕ) (timeout : ℕ) (eight : 
   not-asking : st .unit .asking ≡ false → st′ .unit .asking ≡ false
   not-asking e = step .asking ∙ ap (λ (b : Bool). b && not (seen .hsk)) e
 
+  -- What is inside the unit, with another state.
+  abbrev withState : Serial → Inside
+  withState s = record { state = s; input = st .input; output = st .output }
+
   same-own : addressed (f .command) (st .unit .own) ≡ true → addressed (f .command) (st′ .unit .own) ≡ true
   same-own e = ap (addressed (f .command)) (step .own) ∙ e
 
   module _ (r : Reply) (j : ℕ) (sender : Sender) (wait : Bool) (e : st .unit .phase ≡ Responding r j sender wait) where
-    abbrev responded : Step
-    responded = respondingStep (st .unit .serial) r j sender wait (seen .hsk) (st .input)
+    abbrev stepped : Step
+    stepped = respondingStep (st .unit .serial) r j sender wait (seen .hsk) (st .input)
 
-    phase-is : st′ .unit .phase ≡ responded .phase
+    phase-is : st′ .unit .phase ≡ stepped .phase
     phase-is = step .phase ∙ ap (λ (x : Phase). phaseStep x (st .unit .own) (st .unit .serial) seen busy (st .buffer) (st .input) .phase) e
 
-    serial-is : st′ .unit .serial ≡ responded .serial
-    serial-is = step .serial ∙ ap (λ (x : Phase). phaseStep x (st .unit .own) (st .unit .serial) seen busy (st .buffer) (st .input) .serial) e
+    inside-is : insideOf st′ ≡ withState (stepped .serial)
+    inside-is = step .inside ∙ ap (λ (x : Phase). insideAfter x (st .unit .own) (insideOf st) seen busy (st .buffer)) e
 
   abbrev after : Listener → Response → ℕ → Moved
   after ear taken quiet = listeningStep f ear taken quiet timeout seen host
@@ -193,27 +179,27 @@ module _ (T : Moment) (f : Frame) (d found : List ℕ) (timeout : ℕ) (eight : 
   buffer-after ear taken buffer = listeningBuffer f ear taken seen buffer
 
   -- The round before the first nibble.
-  begins : (r : Reply) (j t : ℕ) (ear : Listener) (taken : Response) (quiet : ℕ) (buffer : List ℕ) (e : st .unit .phase ≡ Responding r j Next true) (p : Promised (T (st .unit .own)) (f .command) d r (st .unit .serial) (st .input))
+  begins : (r : Reply) (j t : ℕ) (ear : Listener) (taken : Response) (quiet : ℕ) (buffer : List ℕ) (e : st .unit .phase ≡ Responding r j Next true) (p : Promised T (st .unit .own) (f .command) d r (insideOf st))
       → Fits (nibbleIn (answerBytes p) j) Next ear t → taken ≡ takenAt (answerBytes p) limit (j + t) → buffer ≡ storedAt (answerBytes p) limit stores (j + t) found → j < lengthOf (answerData p)
       → quiet ≡ 0 → st .unit .asking ≡ false → addressed (f .command) (st .unit .own) ≡ true → seen .hsk ≡ (listenerHsk ear || senderHsk Next)
       → Talked T f d found (after ear taken quiet) (buffer-after ear taken buffer) host (talkLeft ear st) st st′
   begins r j t ear taken quiet buffer e p f-next g b l z q own h =
-      let serial : st′ .unit .serial ≡ st .unit .serial = serial-is r j Next true e in
+      let same : insideOf st′ ≡ insideOf st = inside-is r j Next true e in
       let k : j + 0 < lengthOf (answerData p) = omega arith in
       let one : quietAfter quiet (seen .hsk) ≡ 1 = ap (λ (x : ℕ). quietAfter x (seen .hsk)) z ∙ ap (quietAfter 0) h in
       let ready : hearOf Ready (seen .hsk) host ≡ Ready = ap (λ (x : Bool). hearOf Ready x host) h in
-      let going : isOver taken ≡ false = ap isOver g ∙ not-over-before (answerData p) (replyStatus r) limit (j + 0) (p .fits) k in
+      let going : isOver taken ≡ false = ap isOver g ∙ not-over-before (answerData p) (replyStatus r) limit (j + 0) (answer-fits p) k in
       still Ready taken 1
       (not-taken Ready taken quiet h ∙ (λ i. waited f (ready i) taken timeout (one i)) ∙ waits-on Ready taken 1 (omega arith) (ap (λ (x : Bool). x && true) going))
-      (talks r j 0 Next false (phase-is r j Next true e) (carried T (step .own) serial (step .input) p) f-next g (buffer-kept Ready taken buffer h ∙ b) l (λ x. absurd (false≢true x)) (omega arith) (not-asking q) (same-own own))
+      (talks r j 0 Next false (phase-is r j Next true e) (carried T (step .own) same p) f-next g (buffer-kept Ready taken buffer h ∙ b) l (λ x. absurd (false≢true x)) (omega arith) (not-asking q) (same-own own))
       (λ free.
       let old : talkLeft Ready st ≡ 4 * (lastNibble (st .unit .serial .input) r - j) + 4 + 1 = talk-left Ready st e in
       let new : talkLeft Ready st′ ≡ 4 * (lastNibble (st′ .unit .serial .input) r - j) + 4 + 0 = talk-left Ready st′ (phase-is r j Next true e) in
-      let same : lastNibble (st′ .unit .serial .input) r ≡ lastNibble (st .unit .serial .input) r = ap (λ (x : Serial). lastNibble (x .input) r) serial in
+      let last : lastNibble (st′ .unit .serial .input) r ≡ lastNibble (st .unit .serial .input) r = ap (λ (x : Inside). lastNibble (x .state .input) r) same in
       omega arith)
 
   -- A nibble that does not count as sent yet, not taken in this round.
-  module _ (r : Reply) (j t : ℕ) (sender : Sender) (ear : Listener) (taken : Response) (quiet : ℕ) (buffer : List ℕ) (e : st .unit .phase ≡ Responding r j sender false) (p : Promised (T (st .unit .own)) (f .command) d r (st .unit .serial) (st .input)) (fits : Fits (nibbleIn (answerBytes p) j) sender ear t) (g : taken ≡ takenAt (answerBytes p) limit (j + t)) (b : buffer ≡ storedAt (answerBytes p) limit stores (j + t) found) (l : j < lengthOf (answerData p)) (c : Quiet sender quiet) (q : st .unit .asking ≡ false) (own : addressed (f .command) (st .unit .own) ≡ true) (view : Sees sender ear (seen .hsk) (seen .nibble)) (h : seen .hsk ≡ (listenerHsk ear || senderHsk sender)) where
+  module _ (r : Reply) (j t : ℕ) (sender : Sender) (ear : Listener) (taken : Response) (quiet : ℕ) (buffer : List ℕ) (e : st .unit .phase ≡ Responding r j sender false) (p : Promised T (st .unit .own) (f .command) d r (insideOf st)) (fits : Fits (nibbleIn (answerBytes p) j) sender ear t) (g : taken ≡ takenAt (answerBytes p) limit (j + t)) (b : buffer ≡ storedAt (answerBytes p) limit stores (j + t) found) (l : j < lengthOf (answerData p)) (c : Quiet sender quiet) (q : st .unit .asking ≡ false) (own : addressed (f .command) (st .unit .own) ≡ true) (view : Sees sender ear (seen .hsk) (seen .nibble)) (h : seen .hsk ≡ (listenerHsk ear || senderHsk sender)) where
     abbrev n : ℕ
     n = nibbleIn (answerBytes p) j
 
@@ -223,8 +209,8 @@ module _ (T : Moment) (f : Frame) (d found : List ℕ) (timeout : ℕ) (eight : 
     left-is : talkLeft ear st ≡ 4 * (lastNibble (st .unit .serial .input) r - j) + place sender (listenerHsk ear || senderHsk sender) + 0
     left-is = talk-left ear st e
 
-    last-same : st′ .unit .serial ≡ st .unit .serial → lastNibble (st′ .unit .serial .input) r ≡ lastNibble (st .unit .serial .input) r
-    last-same x = ap (λ (y : Serial). lastNibble (y .input) r) x
+    last-same : insideOf st′ ≡ insideOf st → lastNibble (st′ .unit .serial .input) r ≡ lastNibble (st .unit .serial .input) r
+    last-same x = ap (λ (y : Inside). lastNibble (y .state .input) r) x
 
     -- The unit's round, where the nibble counts as sent and where not.
     abbrev whenSent : Step
@@ -233,10 +219,10 @@ module _ (T : Moment) (f : Frame) (d found : List ℕ) (timeout : ℕ) (eight : 
     abbrev whenNot : Step
     whenNot = moves (Responding r j (sendOf sender (seen .hsk) (nibbleIn (responseBytes (contents (st .input) (st .unit .serial .input)) r) j)) false) (st .unit .serial)
 
-    not-sent : sentOf sender (seen .hsk) ≡ false → (st′ .unit .phase ≡ Responding r j (sendOf sender (seen .hsk) n) false) × (st′ .unit .serial ≡ st .unit .serial)
+    not-sent : sentOf sender (seen .hsk) ≡ false → (st′ .unit .phase ≡ Responding r j (sendOf sender (seen .hsk) n) false) × (insideOf st′ ≡ insideOf st)
     not-sent s = (
       phase-is r j sender false e ∙ ap (λ (t : Bool). cond t whenSent whenNot .phase) s ∙ ap (λ (x : ℕ). Responding r j (sendOf sender (seen .hsk) x) false) own-nibble,
-      serial-is r j sender false e ∙ ap (λ (t : Bool). cond t whenSent whenNot .serial) s,
+      inside-is r j sender false e ∙ ap (λ (t : Bool). withState (cond t whenSent whenNot .serial)) s,
     )
 
     rests-on : takenOf ear (seen .hsk) ≡ false → sentOf sender (seen .hsk) ≡ false → Fits n (sendOf sender (seen .hsk) n) (hearOf ear (seen .hsk) host) t
@@ -246,7 +232,7 @@ module _ (T : Moment) (f : Frame) (d found : List ℕ) (timeout : ℕ) (eight : 
         let u = not-sent s in
         still (hearOf ear (seen .hsk) host) taken (quietAfter quiet (seen .hsk))
         (not-taken ear taken quiet a ∙ waits-on (hearOf ear (seen .hsk) host) taken (quietAfter quiet (seen .hsk)) (quiet-bound (sendOf sender (seen .hsk) n) (quietAfter quiet (seen .hsk)) q′) (not-yet t fits′ g))
-        (talks r j t (sendOf sender (seen .hsk) n) false (u .0) (carried T (step .own) (u .1) (step .input) p) fits′ g (buffer-kept ear taken buffer a ∙ b) l (λ x. absurd (false≢true x)) q′ (not-asking q) (same-own own))
+        (talks r j t (sendOf sender (seen .hsk) n) false (u .0) (carried T (step .own) (u .1) p) fits′ g (buffer-kept ear taken buffer a ∙ b) l (λ x. absurd (false≢true x)) q′ (not-asking q) (same-own own))
         (λ free.
         let k = sendOf sender (seen .hsk) n in
         let held : hearOf ear (seen .hsk) host ≡ hearOf ear (seen .hsk) false = ap (hearOf ear (seen .hsk)) free in
@@ -260,7 +246,7 @@ module _ (T : Moment) (f : Frame) (d found : List ℕ) (timeout : ℕ) (eight : 
         not-yet : (t : ℕ) {k : Sender} {x : Listener} → Fits n k x t → taken ≡ takenAt (answerBytes p) limit (j + t) → (isOver taken && isReady x) ≡ false
         not-yet zero {k} {x} v w =
             let m : j + 0 < lengthOf (answerData p) = omega arith in
-            ap (λ (y : Bool). y && isReady x) (ap isOver w ∙ not-over-before (answerData p) (replyStatus r) limit (j + 0) (p .fits) m)
+            ap (λ (y : Bool). y && isReady x) (ap isOver w ∙ not-over-before (answerData p) (replyStatus r) limit (j + 0) (answer-fits p) m)
         not-yet (suc t) {k} {x} v w = ap (λ (y : Bool). isOver taken && y) (fits-ready v) ∙ and-false (isOver taken)
 
     takes-it : ear ≡ Ready → seen .hsk ≡ true → seen .nibble ≡ n → t ≡ 0 → sentOf sender (seen .hsk) ≡ false → Fits n (sendOf sender (seen .hsk) n) Holding 1
@@ -280,7 +266,7 @@ module _ (T : Moment) (f : Frame) (d found : List ℕ) (timeout : ℕ) (eight : 
         first ∙ (λ i. bufferWith (old i) (nib i) stores ((b ∙ ap (λ (x : ℕ). storedAt (answerBytes p) limit stores x found) k) i)) ∙ ap (λ (x : ℕ). storedAt (answerBytes p) limit stores x found) k′ in
         still Holding (takenWith taken (seen .nibble) limit) 0
         (one ∙ ap (λ (x : Listener). stays (Listening f x (takenWith taken (seen .nibble) limit) 0)) held)
-        (talks r j 1 (sendOf sender (seen .hsk) n) false (u .0) (carried T (step .own) (u .1) (step .input) p) fits′ more kept l (λ x. absurd (false≢true x)) (quiet-zero (sendOf sender (seen .hsk) n)) (not-asking q) (same-own own))
+        (talks r j 1 (sendOf sender (seen .hsk) n) false (u .0) (carried T (step .own) (u .1) p) fits′ more kept l (λ x. absurd (false≢true x)) (quiet-zero (sendOf sender (seen .hsk) n)) (not-asking q) (same-own own))
         (λ free.
         let k′′ = sendOf sender (seen .hsk) n in
         let less : place k′′ (listenerHsk Holding || senderHsk k′′) < place sender (listenerHsk ear || senderHsk sender) = place-takes (seen .hsk) (listenerHsk Holding || senderHsk k′′) fits h gone in
@@ -307,37 +293,37 @@ module _ (T : Moment) (f : Frame) (d found : List ℕ) (timeout : ℕ) (eight : 
           let k : j + t ≡ suc j + 0 = omega arith in
           let k′ : j + 1 ≡ suc j = omega arith in
           let next : suc j + 0 < lengthOf (answerData p) = omega arith in
-          let on : isOver taken ≡ false = ap isOver g ∙ ap (λ (x : ℕ). isOver (takenAt (answerBytes p) limit x)) k ∙ not-over-before (answerData p) (replyStatus r) limit (suc j + 0) (p .fits) next in
+          let on : isOver taken ≡ false = ap isOver g ∙ ap (λ (x : ℕ). isOver (takenAt (answerBytes p) limit x)) k ∙ not-over-before (answerData p) (replyStatus r) limit (suc j + 0) (answer-fits p) next in
           let phase : st′ .unit .phase ≡ Responding r (suc j) Next false =
           phase-is r j sender false e ∙ ap (λ (x : Bool). cond x whenSent whenNot .phase) s
           ∙ ap (λ (x : Bool). cond x (moves (Responding r (j + 1) Next false) (st .unit .serial)) (moves (SittingOut false) (finished (st .unit .serial) r)) .phase) m
           ∙ ap (λ (x : ℕ). Responding r x Next false) k′ in
-          let serial : st′ .unit .serial ≡ st .unit .serial =
-          serial-is r j sender false e ∙ ap (λ (x : Bool). cond x whenSent whenNot .serial) s
-          ∙ ap (λ (x : Bool). cond x (moves (Responding r (j + 1) Next false) (st .unit .serial)) (moves (SittingOut false) (finished (st .unit .serial) r)) .serial) m in
+          let inside : insideOf st′ ≡ insideOf st =
+          inside-is r j sender false e ∙ ap (λ (x : Bool). withState (cond x whenSent whenNot .serial)) s
+          ∙ ap (λ (x : Bool). withState (cond x (moves (Responding r (j + 1) Next false) (st .unit .serial)) (moves (SittingOut false) (finished (st .unit .serial) r)) .serial)) m in
           still Ready taken 1 (listened ∙ waits-on Ready taken 1 (omega arith) (ap (λ (x : Bool). x && true) on))
-          (talks r (suc j) 0 Next false phase (carried T (step .own) serial (step .input) p) f-next (g ∙ ap (takenAt (answerBytes p) limit) k) (buffer-kept ear taken buffer a ∙ b ∙ ap (λ (x : ℕ). storedAt (answerBytes p) limit stores x found) k) (omega arith) (λ x. absurd (false≢true x)) (omega arith) (not-asking q) (same-own own))
+          (talks r (suc j) 0 Next false phase (carried T (step .own) inside p) f-next (g ∙ ap (takenAt (answerBytes p) limit) k) (buffer-kept ear taken buffer a ∙ b ∙ ap (λ (x : ℕ). storedAt (answerBytes p) limit stores x found) k) (omega arith) (λ x. absurd (false≢true x)) (omega arith) (not-asking q) (same-own own))
           (λ free.
           let some : 1 ≤ place sender (listenerHsk ear || senderHsk sender) = place-some sender (listenerHsk ear || senderHsk sender) in
           let new : talkLeft Ready st′ ≡ 4 * (lastNibble (st′ .unit .serial .input) r - suc j) + 4 + 0 = talk-left Ready st′ phase in
           let old = left-is in
-          let same = last-same serial in
+          let same = last-same inside in
           omega arith)
       sends-by false m =
           let last : lastNibble (st .unit .serial .input) r ≡ lengthOf (answerData p) - 1 = last-is p in
           let least : lastNibble (st .unit .serial .input) r ≤ j = ltb-false j (lastNibble (st .unit .serial .input) r) m in
           let k : j + t ≡ lengthOf (answerData p) = omega arith in
-          let all : taken ≡ Complete (replyStatus r) (length (answerData p)) = g ∙ ap (takenAt (answerBytes p) limit) k ∙ response-completes (answerData p) (replyStatus r) limit (p .fits) in
+          let all : taken ≡ Complete (replyStatus r) (length (answerData p)) = g ∙ ap (takenAt (answerBytes p) limit) k ∙ response-completes (answerData p) (replyStatus r) limit (answer-fits p) in
           let phase : st′ .unit .phase ≡ SittingOut false =
           phase-is r j sender false e ∙ ap (λ (x : Bool). cond x whenSent whenNot .phase) s
           ∙ ap (λ (x : Bool). cond x (moves (Responding r (j + 1) Next false) (st .unit .serial)) (moves (SittingOut false) (finished (st .unit .serial) r)) .phase) m in
-          let serial : st′ .unit .serial ≡ finished (st .unit .serial) r =
-          serial-is r j sender false e ∙ ap (λ (x : Bool). cond x whenSent whenNot .serial) s
-          ∙ ap (λ (x : Bool). cond x (moves (Responding r (j + 1) Next false) (st .unit .serial)) (moves (SittingOut false) (finished (st .unit .serial) r)) .serial) m in
+          let inside : insideOf st′ ≡ responded (insideOf st) r =
+          inside-is r j sender false e ∙ ap (λ (x : Bool). withState (cond x whenSent whenNot .serial)) s
+          ∙ ap (λ (x : Bool). withState (cond x (moves (Responding r (j + 1) Next false) (st .unit .serial)) (moves (SittingOut false) (finished (st .unit .serial) r)) .serial)) m in
           let full : waited f Ready (Complete (replyStatus r) (length (answerData p))) timeout 1 ≡ over f (Complete (replyStatus r) (length (answerData p))) =
           ap (λ (x : Bool). cond (x || true) (over f (Complete (replyStatus r) (length (answerData p)))) (stays (Listening f Ready (Complete (replyStatus r) (length (answerData p))) 1))) (lt-leb timeout 1 (omega arith)) in
           done r j sender e p (listened ∙ ap (λ (x : Response). waited f Ready x timeout 1) all ∙ full)
-          (buffer-kept ear taken buffer a ∙ b ∙ ap (λ (x : ℕ). storedAt (answerBytes p) limit stores x found) k ∙ data-received (answerData p) (replyStatus r) limit stores found (p .fits) room) phase serial (not-asking q) (step .own) (step .input) own
+          (buffer-kept ear taken buffer a ∙ b ∙ ap (λ (x : ℕ). storedAt (answerBytes p) limit stores x found) k ∙ data-received (answerData p) (replyStatus r) limit stores found (answer-fits p) room) phase inside (not-asking q) (step .own) own
 
     talks-on : Talked T f d found (after ear taken quiet) (buffer-after ear taken buffer) host (talkLeft ear st) st st′
     talks-on = by (pair (seen .hsk) (seen .nibble) host fits view)

@@ -4,32 +4,13 @@ use Prim.Native.Nat.{ℕ, zero, suc, _<_}
 use mathlib.Core.List.{List, [], _∷_}
 use lib.ListN.{length}
 use Rattle.application.specs.Calls.{submitting, controllerSubmitted, controllerAcknowledged}
-use Rattle.bus.specs.Bus.{unitAfter}
 use Rattle.bus.specs.declared.Station.{Station}
 use Rattle.field.specs.Field.{Below}
 use Rattle.header.specs.Header.{InRange}
 use Rattle.header.specs.declared.Command.{Command}
-use Rattle.host.specs.Calls.{feeding, inputAfter, taking, raising}
-use Rattle.host.specs.declared.Taken.{Taken}
-use Rattle.host.specs.declared.Taken.the-variants.{Byte, Nothing}
+use Rattle.inside.specs.Calls.{HostCall, calledBy}
 use Rattle.message.specs.Answer.{kept}
-use Rattle.unit.specs.declared.Unit.{Unit}
 use Rattle.delivery.specs.World.{World}
-
--- A call of a unit's host.
-pub data HostCall : Type 0 where
-  feeds : (b : ℕ) → b < 256 → HostCall
-  takes : HostCall
-  raises : HostCall
-
-abbrev pub unitTaken : Taken → Unit → Unit
-unitTaken (Byte b after) before = after
-unitTaken Nothing before = before
-
-abbrev pub calledBy : HostCall → Station → Station
-calledBy (feeds b h) st = record { unit = unitAfter (feeding (st .unit) b) (st .unit); buffer = st .buffer; input = inputAfter (st .unit) b (st .input); output = st .output }
-calledBy takes st = record { unit = unitTaken (taking (st .unit) (st .output)) (st .unit); buffer = st .buffer; input = st .input; output = st .output }
-calledBy raises st = record { unit = unitAfter (raising (st .unit)) (st .unit); buffer = st .buffer; input = st .input; output = st .output }
 
 -- At the unit at place i; past the last nothing happens.
 abbrev pub calledAt : ℕ → HostCall → List Station → List Station

@@ -21,25 +21,24 @@ use Rattle.frame.specs.declared.Frame.{Frame}
 use Rattle.frame.specs.declared.Stage.{Stage}
 use Rattle.frame.specs.declared.Stage.the-variants.{Free, Resting, Waiting, Sending, Listening}
 use Rattle.header.specs.declared.Command.{Command}
+use Rattle.inside.specs.Inside.{Inside, insideOf, replyFor, takenFor, responded}
+use Rattle.inside.specs.Lawful.{Lent}
+use Rattle.kind.specs.Kinds.{kindOf, isShort}
 use Rattle.line.specs.declared.Listener.{Listener}
 use Rattle.line.specs.declared.Sender.{Sender}
 use Rattle.phase.specs.declared.Phase.the-variants.{Receiving, Responding, SittingOut}
-use Rattle.serial.specs.Serial.{applied, finished, outputAfter}
-use Rattle.serial.specs.declared.Serial.{Serial}
-use Rattle.verdict.specs.Verdict.{verdictOf}
-use Rattle.verdict.specs.declared.Verdict.{Verdict}
 use Rattle.phase.specs.declared.Progress.the-variants.{Answered}
 use Rattle.serial.specs.declared.Reply.{Reply}
 use Rattle.unit.specs.Calls.{stepping as unitStepping}
 use Rattle.unit.specs.Unit.{newUnit}
 use Rattle.unit.specs.declared.Unit.{Unit}
-use Rattle.whole.specs.Whole.{bytesFor, storedOf}
+use Rattle.whole.specs.Whole.{bytesFor}
 use Rattle.delivery.specs.Calls.{Call, called}
 use Rattle.delivery.specs.Ends.{listening as listeningTime, quietly}
 use Rattle.delivery.specs.Heard.{Heard}
 use Rattle.delivery.specs.Lists.{All, One}
 use Rattle.delivery.specs.Promised.{Moment, Promised}
-use Rattle.delivery.specs.Stages.{Sound, addressed, isAnswered, Noted, InFrame, Goes, On, answerBytes, Sits}
+use Rattle.delivery.specs.Stages.{addressed, isAnswered, Noted, InFrame, Goes, On, answerBytes, Sits}
 use Rattle.delivery.specs.World.{World, Busy, levels, round, Becomes, Different}
 
 -- A quiet start: every party is new, and each unit is lent its memory. The time-out is the controller's own setting. Own code 0 is
@@ -49,7 +48,8 @@ pub record New (st : Station) : Type 0 where
   pub retry : ℕ
   pub coded : own ≡ 0 → ⊥
   pub is-new : st .unit ≡ newUnit own retry
-  pub lent : Sound st
+  pub room : isShort (kindOf own) (length (st .buffer)) ≡ false
+  pub lent : Lent (kindOf own) (insideOf st)
 
 pub record QuietStart (w : World) : Type 0 where
   pub timeout : ℕ
@@ -64,8 +64,8 @@ pub data Run (w : World) : World → Type 0 where
   a-round : {v : World} → Run w v → (busy : Busy) → Run w (round v busy)
   a-call : {v : World} → Run w v → (call : Call) → Run w (called v call)
 
--- Behind a round the unit with this code has taken the last nibble, in the state s, its input memory being m: in this round, or, as was
--- known before, in an earlier one of the same frame.
+-- Behind a round the unit with this code has taken the last nibble, with x inside it: in this round, or, as was known before, in an
+-- earlier one of the same frame.
 abbrev pub inFrame : Stage → Bool
 inFrame Free = false
 inFrame (Resting again) = false
@@ -73,15 +73,15 @@ inFrame (Waiting f) = false
 inFrame (Sending f i sender wait) = true
 inFrame (Listening f ear taken quiet) = true
 
-pub data TookBy (v : World) (busy : Busy) (before : Moment) (own : ℕ) (s : Serial) (m : List ℕ) : Type 0 where
+pub data TookBy (v : World) (busy : Busy) (before : Moment) (own : ℕ) (x : Inside) : Type 0 where
   takes-it :
       (st after : Station) → Becomes (levels v) (busy .there) (v .units) st after → isAnswered (st .unit .phase) ≡ false → isAnswered (after .unit .phase) ≡ true
-      → st .unit .own ≡ own → st .unit .serial ≡ s → st .input ≡ m → TookBy v busy before own s m
-  took-it : inFrame (v .controller .stage) ≡ true → before own s m → TookBy v busy before own s m
+      → st .unit .own ≡ own → insideOf st ≡ x → TookBy v busy before own x
+  took-it : inFrame (v .controller .stage) ≡ true → before own x → TookBy v busy before own x
 
 -- So on a run: in the frame that runs, or has just ended.
 abbrev pub Took : {w v : World} → Run w v → Moment
-Took start = λ own s m. ⊥
+Took start = λ own x. ⊥
 Took (a-round {v = v} r busy) = TookBy v busy (Took r)
 Took (a-call r call) = Took r
 
@@ -100,18 +100,18 @@ Steps =
     × All (λ (st : Station). (u : Unit) × (unitStepping (st .unit) (levels v) busy (st .buffer) (st .input) ≡ gives u)) (v .units)
 
 -- Each round of a frame leads on in it, or ends it: with the status, the data and the count that the whole-message definition gives for
--- the addressed unit's state when the last nibble was taken, at the front of the response buffer that the frame found, and what waited
+-- what was inside the addressed unit when the last nibble was taken, at the front of the response buffer that the frame found, and what waited
 -- done; or with nothing taken (FF), where no response is defined. T is whatever is known of the moments in which last nibbles are taken:
 abbrev pub Frames : Type 1
 Frames = (T : Moment) (f : Frame) (found : List ℕ) (w : World) → (busy : Busy) → Noted T w busy → InFrame T f found w → Goes T f found w busy
 
--- so on a run those are the states in which the units took it, in this very frame.
+-- so on a run those are the moments in which the units took it, in this very frame.
 abbrev pub Responses : Type 0
 Responses = (w v : World) (r : Run w v) (f : Frame) (found : List ℕ) → InFrame (Took r) f found v → (busy : Busy) → Goes (Took (a-round r busy)) f found v busy
 
--- And a unit takes the last nibble of a frame once: there is one such state.
+-- And a unit takes the last nibble of a frame once: there is one such moment.
 abbrev pub TakenOnce : Type 0
-TakenOnce = (w v : World) → QuietStart w → (r : Run w v) (own : ℕ) (s t : Serial) (m n : List ℕ) → Took r own s m → Took r own t n → (s ≡ t) × (m ≡ n)
+TakenOnce = (w v : World) → QuietStart w → (r : Run w v) (own : ℕ) (x y : Inside) → Took r own x → Took r own y → x ≡ y
 
 -- A call in mid-frame leaves the frame as it is.
 abbrev pub FramesCalled : Type 1
@@ -123,7 +123,7 @@ pub data Delivered (T : Moment) (c : Command) (d : List ℕ) (i : ℕ) (st : Sta
   listening : (ear : Listener) (k : ℕ) → i ≤ k → k ≤ suc i → (2 ≤ k → addressed c (st .unit .own) ≡ true) → Heard (bytesFor c d) ear k (st .unit .phase) (st .buffer) → Delivered T c d i st
   whole :
       (ear : Listener) (r : Reply) → addressed c (st .unit .own) ≡ true → suc i ≡ 2 * length (bytesFor c d) → st .unit .phase ≡ Receiving ear (Answered r)
-      → Promised (T (st .unit .own)) c d r (st .unit .serial) (st .input) → Delivered T c d i st
+      → Promised T (st .unit .own) c d r (insideOf st) → Delivered T c d i st
   sitting : (now : Bool) → addressed c (st .unit .own) ≡ false → st .unit .phase ≡ SittingOut now → Delivered T c d i st
 
 abbrev pub Delivery : Type 0
@@ -138,7 +138,7 @@ Delivery =
 -- response, which count as sent, or one more: each once and in order. Or nobody does, and nothing was taken.
 pub data Returned (T : Moment) (c : Command) (d : List ℕ) (taken : Response) (st : Station) : Type 0 where
   returned :
-      (r : Reply) (j k : ℕ) (sender : Sender) (wait : Bool) → st .unit .phase ≡ Responding r j sender wait → (p : Promised (T (st .unit .own)) c d r (st .unit .serial) (st .input)) → j ≤ k → k ≤ suc j
+      (r : Reply) (j k : ℕ) (sender : Sender) (wait : Bool) → st .unit .phase ≡ Responding r j sender wait → (p : Promised T (st .unit .own) c d r (insideOf st)) → j ≤ k → k ≤ suc j
       → taken ≡ takenAt (answerBytes p) (c .«buffer_length») k → Returned T c d taken st
 
 pub data Back (T : Moment) (c : Command) (d : List ℕ) (taken : Response) (ss : List Station) : Type 0 where
@@ -153,28 +153,23 @@ DeliveryBack =
     → v .controller .stage ≡ Listening f ear taken quiet
     → Back (Took r) (f .command) (dataOf f (v .lent)) taken (v .units)
 
--- What a round of a frame makes of a unit. Its state, its queues' bytes and its input stay; or it takes the last nibble: its reply is
--- fixed, by the whole-message definition in the state that it is in, and the effects happen; or the last nibble of its response is done,
--- and what waited for that happens.
+-- What a round of a frame makes of a unit. Nothing of what is inside it changes; or it takes the last nibble: its reply is fixed, by the
+-- whole-message definition for what is inside it, and the effects happen; or the last nibble of its response is done, and what waited for
+-- that happens.
 abbrev pub Untouched : Station → Station → Type 0
-Untouched st after = (after .unit .serial ≡ st .unit .serial) × ((after .input ≡ st .input) × (after .output ≡ st .output))
-
-abbrev pub verdictFor : Serial → Command → List ℕ → Verdict
-verdictFor s c d = verdictOf s c (length d) (storedOf d)
+Untouched st after = insideOf after ≡ insideOf st
 
 pub record FixedBy (c : Command) (d : List ℕ) (st after : Station) : Type 0 where
   pub ear : Listener
-  pub reply : after .unit .phase ≡ Receiving ear (Answered (verdictFor (st .unit .serial) c d .reply))
-  pub state : after .unit .serial ≡ applied (st .unit .serial) (verdictFor (st .unit .serial) c d .effect) (storedOf d)
-  pub input : after .input ≡ st .input
-  pub output : after .output ≡ outputAfter (st .unit .serial) (verdictFor (st .unit .serial) c d .effect) (storedOf d) (st .output)
+  pub reply : after .unit .phase ≡ Receiving ear (Answered (replyFor (st .unit .own) (insideOf st) c d))
+  pub inside : insideOf after ≡ takenFor (st .unit .own) (insideOf st) c d
 
 pub data Changed (c : Command) (d : List ℕ) (st after : Station) : Type 0 where
   unchanged : Untouched st after → (isAnswered (after .unit .phase) ≡ true → isAnswered (st .unit .phase) ≡ true) → Changed c d st after
   fixed-now : addressed c (st .unit .own) ≡ true → isAnswered (st .unit .phase) ≡ false → FixedBy c d st after → Changed c d st after
   done-now :
       addressed c (st .unit .own) ≡ true → (r : Reply) (j : ℕ) (sender : Sender) → st .unit .phase ≡ Responding r j sender false → after .unit .phase ≡ SittingOut false
-      → after .unit .serial ≡ finished (st .unit .serial) r → after .input ≡ st .input → after .output ≡ st .output → Changed c d st after
+      → insideOf after ≡ responded (insideOf st) r → Changed c d st after
 
 abbrev pub Changes : Type 1
 Changes =
@@ -183,8 +178,8 @@ Changes =
     → (host : Bool)
     → All (λ (st : Station). Changed (f .command) (dataOf f (w .lent)) st (stationStep st (levels w) host)) (w .units)
 
--- Nobody else: in no round of a frame does the opening, the queues, the enabling or the request of a unit change that the command does
--- not address.
+-- Nobody else: in no round of a frame does anything change inside a unit that the command does not address: opening, queues, enabling or
+-- request.
 abbrev pub NobodyElse : Type 1
 NobodyElse =
     (T : Moment) (f : Frame) (found : List ℕ) (w : World)

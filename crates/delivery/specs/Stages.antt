@@ -11,7 +11,6 @@ use Rattle.answer.specs.declared.Response.{Response}
 use Rattle.answer.specs.declared.Response.the-variants.{Complete}
 use Rattle.bus.specs.declared.Station.{Station}
 use Rattle.controller.specs.Controller.{controllerOf, ringAfter, frameOf}
-use Rattle.field.specs.Field.{Below}
 use Rattle.frame.specs.Frame.{begun, dataOf, isSubmitted, lentTo, over}
 use Rattle.frame.specs.declared.Frame.{Frame}
 use Rattle.frame.specs.declared.Lent.the-variants.{Fits as AsLent}
@@ -19,6 +18,9 @@ use Rattle.frame.specs.declared.Moved.{Moved}
 use Rattle.frame.specs.declared.Stage.{Stage}
 use Rattle.frame.specs.declared.Stage.the-variants.{Free, Resting, Waiting, Sending, Listening}
 use Rattle.header.specs.declared.Command.{Command}
+use Rattle.inside.specs.Inside.{Inside, insideOf, replyFor, responded, dataIn}
+use Rattle.inside.specs.Lawful.{Fit}
+use Rattle.kind.specs.Kinds.{kindOf, isShort}
 use Rattle.line.specs.declared.Listener.{Listener}
 use Rattle.line.specs.declared.Listener.the-variants.{Ready}
 use Rattle.line.specs.declared.Sender.{Sender}
@@ -31,22 +33,19 @@ use Rattle.reply.specs.Reply.{replyStatus, isSilent}
 use Rattle.ring.specs.Ring.{live}
 use Rattle.ring.specs.declared.Entry.{Entry}
 use Rattle.ring.specs.declared.Ring.{Ring}
-use Rattle.serial.specs.Serial.{finished}
 use Rattle.serial.specs.declared.Reply.{Reply}
-use Rattle.serial.specs.declared.Serial.{Serial}
 use Rattle.whole.specs.Back.{responseFor, takenAt, storedAt, lengthOf, received}
 use Rattle.whole.specs.Whole.{bytesFor, Sent}
 use Rattle.delivery.specs.Ends.{left, quietly}
 use Rattle.delivery.specs.Heard.{Fits, Heard}
 use Rattle.delivery.specs.Lists.{All, One, Has}
-use Rattle.delivery.specs.Promised.{Moment, Promised, dataFor, replyFor}
+use Rattle.delivery.specs.Promised.{Moment, Promised}
 use Rattle.delivery.specs.World.{World, Busy, levels, round, Becomes, Different}
 
--- The memory that a unit's calls are lent: room for a command, and 256 bytes for its input.
+-- A unit whose lent memory is long enough, and inside which all is as its kind has it.
 pub record Sound (st : Station) : Type 0 where
-  pub room : 256 ≤ length (st .buffer)
-  pub memory : length (st .input) ≡ 256
-  pub bytes : Below 256 (st .input)
+  pub room : isShort (kindOf (st .unit .own)) (length (st .buffer)) ≡ false
+  pub fit : Fit (kindOf (st .unit .own)) (insideOf st)
 
 -- Own code or code 0.
 abbrev pub addressed : Command → ℕ → Bool
@@ -63,15 +62,15 @@ pub data Sends (n : ℕ) : Sender → Type 0 where
   s-placed : Sends n (Placed n)
   s-kept : Sends n (Kept n)
 
--- A unit listens, has answered the whole command, or sits out. P is what is to be known of a reply, of the unit's state and input.
-pub data Part (P : Reply → Serial → List ℕ → Type 0) (c : Command) (d : List ℕ) (i : ℕ) (sender : Sender) (st : Station) : Type 0 where
+-- A unit listens, has answered the whole command, or sits out. P is what is to be known of a reply, and of what is inside the unit.
+pub data Part (P : Reply → Inside → Type 0) (c : Command) (d : List ℕ) (i : ℕ) (sender : Sender) (st : Station) : Type 0 where
   listens :
       (ear : Listener) (t : ℕ) → Fits (nibbleIn (bytesFor c d) i) sender ear t → Heard (bytesFor c d) ear (i + t) (st .unit .phase) (st .buffer)
       → (2 ≤ i + t → addressed c (st .unit .own) ≡ true) → (1 ≤ i + t → st .unit .asking ≡ false)
       → Part P c d i sender st
   answers :
       (ear : Listener) (r : Reply) → Fits (nibbleIn (bytesFor c d) i) sender ear 1 → suc i ≡ 2 * length (bytesFor c d) → addressed c (st .unit .own) ≡ true
-      → st .unit .phase ≡ Receiving ear (Answered r) → P r (st .unit .serial) (st .input) → st .unit .asking ≡ false
+      → st .unit .phase ≡ Receiving ear (Answered r) → P r (insideOf st) → st .unit .asking ≡ false
       → Part P c d i sender st
   sits :
       (now : Bool) → addressed c (st .unit .own) ≡ false → st .unit .phase ≡ SittingOut now → (now ≡ true → (n : ℕ) × (sender ≡ Kept n)) → st .unit .asking ≡ false
@@ -81,11 +80,11 @@ pub data Part (P : Reply → Serial → List ℕ → Type 0) (c : Command) (d : 
 abbrev pub Sits : Station → Type 0
 Sits st = (st .unit .phase ≡ SittingOut false) × (st .unit .asking ≡ false)
 
--- A unit that has no response to give: the command does not address it, or silence is defined for the state in which it took the last
--- nibble.
+-- A unit that has no response to give: the command does not address it, or silence is defined for what was inside it when it took the
+-- last nibble.
 pub data Hushed (T : Moment) (c : Command) (d : List ℕ) (st : Station) : Type 0 where
   not-its-own : addressed c (st .unit .own) ≡ false → Hushed T c d st
-  by-the-rule : (given : Serial) (memory : List ℕ) → T (st .unit .own) given memory → isSilent (replyFor given c d) ≡ true → Hushed T c d st
+  by-the-rule : (given : Inside) → T (st .unit .own) given → isSilent (replyFor (st .unit .own) given c d) ≡ true → Hushed T c d st
 
 -- How long HSK may have been seen high, by where the sender is.
 abbrev pub Quiet : Sender → ℕ → Type 0
@@ -94,30 +93,30 @@ Quiet (Placed n) q = q ≤ 2
 Quiet (Kept n) q = q ≡ 0
 
 -- The data and the bytes of a promised response.
-abbrev pub answerData : {T : Serial → List ℕ → Type 0} {c : Command} {d : List ℕ} {r : Reply} {s : Serial} {input : List ℕ} → Promised T c d r s input → List ℕ
-answerData {r = r} p = dataFor (p .given) (p .memory) r
+abbrev pub answerData : {T : Moment} {own : ℕ} {c : Command} {d : List ℕ} {r : Reply} {x : Inside} → Promised T own c d r x → List ℕ
+answerData {r = r} p = dataIn (p .given) r
 
-abbrev pub answerBytes : {T : Serial → List ℕ → Type 0} {c : Command} {d : List ℕ} {r : Reply} {s : Serial} {input : List ℕ} → Promised T c d r s input → List ℕ
+abbrev pub answerBytes : {T : Moment} {own : ℕ} {c : Command} {d : List ℕ} {r : Reply} {x : Inside} → Promised T own c d r x → List ℕ
 answerBytes {r = r} p = responseFor (answerData p) (replyStatus r)
 
 -- A unit that responds to a command c while the controller's listener, what it has taken and how long it has seen HSK high are these,
 -- and the response buffer is what the frame found, with what was taken stored.
 pub data Talk (T : Moment) (c : Command) (d : List ℕ) (stores : Bool) (found : List ℕ) (ear : Listener) (taken : Response) (quiet : ℕ) (buffer : List ℕ) (st : Station) : Type 0 where
   talks :
-      (r : Reply) (j t : ℕ) (sender : Sender) (wait : Bool) → st .unit .phase ≡ Responding r j sender wait → (p : Promised (T (st .unit .own)) c d r (st .unit .serial) (st .input))
+      (r : Reply) (j t : ℕ) (sender : Sender) (wait : Bool) → st .unit .phase ≡ Responding r j sender wait → (p : Promised T (st .unit .own) c d r (insideOf st))
       → Fits (nibbleIn (answerBytes p) j) sender ear t → taken ≡ takenAt (answerBytes p) (c .«buffer_length») (j + t) → buffer ≡ storedAt (answerBytes p) (c .«buffer_length») stores (j + t) found
       → j < lengthOf (answerData p) → (wait ≡ true → (sender ≡ Next) × (quiet ≡ 0)) → Quiet sender quiet → st .unit .asking ≡ false
       → addressed c (st .unit .own) ≡ true
       → Talk T c d stores found ear taken quiet buffer st
 
 -- A unit whose response has arrived whole in a round that comes to m: `before` is that unit among those which the round found. What
--- waited for the last nibble is done to the state that it was in.
+-- waited for the last nibble is done to what was inside it.
 pub data Spoke (T : Moment) (f : Frame) (d found : List ℕ) (m : Moved) (buffer : List ℕ) (ss : List Station) (st : Station) : Type 0 where
   spoke :
       (r : Reply) (j : ℕ) (sender : Sender) (before : Station) → Has before ss → before .unit .phase ≡ Responding r j sender false → st .unit .own ≡ before .unit .own → addressed (f .command) (before .unit .own) ≡ true
-      → (p : Promised (T (before .unit .own)) (f .command) d r (before .unit .serial) (before .input))
+      → (p : Promised T (before .unit .own) (f .command) d r (insideOf before))
       → m ≡ over f (Complete (replyStatus r) (length (answerData p))) → buffer ≡ received (isSubmitted (f .kind)) (answerData p) found
-      → st .unit .serial ≡ finished (before .unit .serial) r → st .input ≡ before .input → Sits st → Spoke T f d found m buffer ss st
+      → insideOf st ≡ responded (insideOf before) r → Sits st → Spoke T f d found m buffer ss st
 
 -- What the types and the calls say of a frame: its command and data, and that what is lent is long enough.
 pub record Framed (f : Frame) (lent found : List ℕ) (timeout : ℕ) : Type 0 where
@@ -152,7 +151,7 @@ Speaking w busy = (st after : Station) → Becomes (levels w) (busy .there) (w .
 
 -- T is known of each unit that takes the last nibble in this round.
 abbrev pub Noted : Moment → World → Busy → Type 0
-Noted T w busy = (st after : Station) → Becomes (levels w) (busy .there) (w .units) st after → isAnswered (st .unit .phase) ≡ false → isAnswered (after .unit .phase) ≡ true → T (st .unit .own) (st .unit .serial) (st .input)
+Noted T w busy = (st after : Station) → Becomes (levels w) (busy .there) (w .units) st after → isAnswered (st .unit .phase) ≡ false → isAnswered (after .unit .phase) ≡ true → T (st .unit .own) (insideOf st)
 
 -- The stages of a frame f that has found the response buffer `found`; T is known of the moments in which units have taken its last
 -- nibble.
@@ -163,7 +162,7 @@ pub data InFrame (T : Moment) (f : Frame) (found : List ℕ) : World → Type 0 
   sends :
       (i : ℕ) (sender : Sender) {timeout : ℕ} {ring : Ring} {units : List Station} {lent : List ℕ} → Framed f lent found timeout → Different units
       → Sends (nibbleIn (bytesFor (f .command) (dataOf f lent)) i) sender → i < 2 * length (bytesFor (f .command) (dataOf f lent))
-      → All (λ (st : Station). Part (Promised (T (st .unit .own)) (f .command) (dataOf f lent)) (f .command) (dataOf f lent) i sender st × Sound st) units
+      → All (λ (st : Station). Part (Promised T (st .unit .own) (f .command) (dataOf f lent)) (f .command) (dataOf f lent) i sender st × Sound st) units
       → InFrame T f found (world timeout (Sending f i sender false) ring units lent found)
   hears :
       (ear : Listener) (taken : Response) (quiet : ℕ) {timeout : ℕ} {ring : Ring} {units : List Station} {lent response : List ℕ} → Framed f lent found timeout → Different units → length response ≡ length found

@@ -3,3 +3,4 @@ pub mod Calls
 pub mod Each
 pub mod SerialUnit
 pub mod Lawful
+pub mod Round

@@ -5,7 +5,7 @@ use mathlib.Core.Bool.{true, false, true≢false, false≢true}
 use Rattle.reply.specs.Reply.{isSilent, replyStatus}
 use Rattle.serial.specs.declared.Reply.{Reply}
 use Rattle.serial.specs.declared.Reply.the-variants.{Silent, Status, Opened, Bytes, Polled}
-use Rattle.inside.specs.Inside.{Inside, hasRequest, ended, clears}
+use Rattle.inside.specs.Inside.{Inside, hasRequest, responded, clears}
 
 pub silent-status : (r : Reply) → isSilent r ≡ true → replyStatus r ≡ 0xFF
 silent-status Silent e = refl
@@ -30,7 +30,7 @@ clears-says (Bytes n) e = absurd (false≢true e)
 clears-says Polled e = refl
 
 -- The end of any other leaves a request.
-pub request-ended : (x : Inside) (r : Reply) → clears r ≡ false → hasRequest (ended x r) ≡ hasRequest x
+pub request-ended : (x : Inside) (r : Reply) → clears r ≡ false → hasRequest (responded x r) ≡ hasRequest x
 request-ended x Silent e = refl
 request-ended x (Status number) e = refl
 request-ended x (Opened accepted) e = refl

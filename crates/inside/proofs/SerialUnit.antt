@@ -37,7 +37,7 @@ use Rattle.serial.specs.declared.Serial.{Serial}
 use Rattle.serial.specs.declared.Verdict.{Verdict}
 use Rattle.whole.specs.Back.{Answered}
 use Rattle.inside.specs.Calls.{HostCall, feeds, takes, raises, called, calledAll, stateAfter}
-use Rattle.inside.specs.Inside.{Inside, isServed, hasRequest, replyOf, taken, ended, dataIn, clears}
+use Rattle.inside.specs.Inside.{Inside, isServed, hasRequest, replyOf, taken, responded, dataIn, clears}
 use Rattle.inside.specs.Lawful.{Lent, Fit, isEnding, Lawful}
 use Rattle.inside.proofs.Each.{verdict-is}
 
@@ -244,7 +244,7 @@ served-called x raises s = by (x .state .enabled) refl
 fit-called : (x : Inside) (call : HostCall) → Fit SerialUnit x → Fit SerialUnit (called SerialUnit call x)
 fit-called x call f = let g = call-grown x call (f .0 .0) in ((g .memory ∙ f .0 .0, g .bytes (f .0 .1)), served-called x call (f .1))
 
-fit-ended : (x : Inside) (r : Reply) → Fit SerialUnit x → Fit SerialUnit (ended x r)
+fit-ended : (x : Inside) (r : Reply) → Fit SerialUnit x → Fit SerialUnit (responded x r)
 fit-ended x Silent f = f
 fit-ended x (Status number) f = f
 fit-ended x (Opened accepted) f = f

@@ -47,8 +47,8 @@ taken kind x c n d = record {
 }
 
 -- What waits until the last response nibble is done.
-abbrev pub ended : Inside → Reply → Inside
-ended x r = record { state = finished (x .state) r; input = x .input; output = x .output }
+abbrev pub responded : Inside → Reply → Inside
+responded x r = record { state = finished (x .state) r; input = x .input; output = x .output }
 
 -- The data of the response.
 abbrev pub dataIn : Inside → Reply → List ℕ

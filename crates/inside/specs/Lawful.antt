@@ -16,7 +16,7 @@ use Rattle.serial.specs.Serial.{newSerial}
 use Rattle.serial.specs.declared.Reply.{Reply}
 use Rattle.whole.specs.Back.{Answered}
 use Rattle.inside.specs.Calls.{HostCall, called, calledAll}
-use Rattle.inside.specs.Inside.{Inside, isServed, hasRequest, replyOf, taken, ended, dataIn, clears}
+use Rattle.inside.specs.Inside.{Inside, isServed, hasRequest, replyOf, taken, responded, dataIn, clears}
 
 -- The memory that a unit of a kind is lent: 256 bytes for the input of a serial unit.
 abbrev pub Lent : Kind → Inside → Type 0
@@ -34,7 +34,7 @@ pub record Lawful (kind : Kind) : Type 0 where
   -- What fits goes on to, whatever comes.
   pub fit-new : (x : Inside) → x .state ≡ newSerial → Lent kind x → Fit kind x
   pub fit-taken : (x : Inside) (c : Command) (n : ℕ) (d : List ℕ) → Fit kind x → Fit kind (taken kind x c n d)
-  pub fit-ended : (x : Inside) (r : Reply) → Fit kind x → Fit kind (ended x r)
+  pub fit-ended : (x : Inside) (r : Reply) → Fit kind x → Fit kind (responded x r)
   pub fit-called : (x : Inside) (call : HostCall) → Fit kind x → Fit kind (called kind call x)
   -- The response is one, and its data fits the buffer length field.
   pub answers : (x : Inside) (c : Command) (n : ℕ) (d : List ℕ) → Fit kind x → Answered (dataIn x (replyOf kind x c n d)) (replyStatus (replyOf kind x c n d)) (c .«buffer_length»)
