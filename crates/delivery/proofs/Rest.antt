@@ -129,7 +129,7 @@ module _ (ring : Ring) (a : Codes ring) where
   codes-ended f status h = codes-cond (eqb status 0x00) (ringBy (f .kind) ring (f .command)) ring (codes-by (f .kind) (f .command) h) a
 
 -- A unit that no frame has reached stays so while HSK is high.
-high-step : (st : Station) (seen : Lines) (busy : Bool) → seen .nibble < 16 → isShort (kindOf (st .unit .own)) (length (st .buffer)) ≡ false → seen .bav ≡ false
+pub high-step : (st : Station) (seen : Lines) (busy : Bool) → seen .nibble < 16 → isShort (kindOf (st .unit .own)) (length (st .buffer)) ≡ false → seen .bav ≡ false
     → (stationStep st seen busy .unit .phase ≡ Idle) × ((stationStep st seen busy .buffer ≡ st .buffer) × (insideOf (stationStep st seen busy) ≡ insideOf st))
 high-step st seen busy n room high =
     let a : ltb 15 (seen .nibble) ≡ false = le-ltb 15 (seen .nibble) (omega arith) in

@@ -18,6 +18,9 @@ use Rattle.delivery.specs.World.{World, Busy, levels, round}
 use Rattle.delivery.proofs.Lists.{has-all}
 use Rattle.delivery.proofs.Demand2.{every-run, on-nibble, on-sound}
 use Rattle.frame.specs.Frame.{pullsOf as framePulls}
+use Rattle.inside.specs.Inside.{insideOf, isServed, hasRequest}
+use Rattle.inside.proofs.Lawful.{every-lawful}
+use Rattle.kind.specs.Kinds.{kindOf, isShort}
 use Rattle.line.specs.declared.Lines.{Lines}
 use Rattle.message.specs.Answer.{Answer, gives, kept}
 use Rattle.ring.specs.Ring.{counted}
@@ -28,7 +31,7 @@ use Rattle.polling.specs.Beginning.{BeginsWithin, in-this, in-a-later, B
 use Rattle.polling.specs.Handing.{moveOf}
 use Rattle.polling.specs.Moves.{begins}
 use Rattle.polling.proofs.Handing.{starts, free}
-use Rattle.polling.proofs.OnTheBus.{asking-low, every-served}
+use Rattle.polling.proofs.OnTheBus.{asking-low}
 
 -- A unit behind a round.
 has-after : (seen : Lines) (hosts : ℕ) {ss : List Station} {st : Station} → Has st ss → (host : Bool) × Has (stationStep st seen host) (unitsAfter seen hosts ss)
@@ -36,11 +39,10 @@ has-after seen hosts here = (isOdd hosts, here)
 has-after seen hosts (there h) = let n = has-after seen (hosts / 2) h in (n .0, there (n .1))
 
 -- A round with BAV high.
-high-unit : (st : Station) (seen : Lines) (host : Bool) → seen .nibble < 16 → 256 ≤ length (st .buffer) → seen .bav ≡ false → stationStep st seen host .unit ≡ highStep (st .unit) (seen .hsk)
+high-unit : (st : Station) (seen : Lines) (host : Bool) → seen .nibble < 16 → isShort (kindOf (st .unit .own)) (length (st .buffer)) ≡ false → seen .bav ≡ false → stationStep st seen host .unit ≡ highStep (st .unit) (seen .hsk)
 high-unit st seen host n room high =
     let a : ltb 15 (seen .nibble) ≡ false = le-ltb 15 (seen .nibble) (omega arith) in
-    let b : ltb (length (st .buffer)) 256 ≡ false = le-ltb (length (st .buffer)) 256 room in
-    rw (a, b, high)
+    rw (a, room, high)
 
 idle-stays : (v : World) (busy : Busy) → levels v .nibble < 16 → isIdle (v .controller .stage) ≡ true → levels v .bav ≡ false → round v busy .controller ≡ v .controller
 idle-stays v busy n i high =
@@ -49,7 +51,7 @@ idle-stays v busy n i high =
     let goes : stepping (v .controller) (levels v) (busy .here) (v .lent) (v .response) ≡ gives (eventIn (v .controller) (levels v) (busy .here) (v .lent)) = rw (a, at) in
     ap (λ (x : Answer Event). kept x (controllerStep (v .controller) (levels v) (busy .here) (v .lent)) (v .controller)) goes ∙ rw (i, high)
 
-begin-by : (n : ℕ) (w v : World) (st : Station) → QuietStart w → (r : Run w v) → Has st (v .units) → st .unit .serial .requesting ≡ true → isIdle (v .controller .stage) ≡ true → 0 < counted (v .controller .ring)
+begin-by : (n : ℕ) (w v : World) (st : Station) → QuietStart w → (r : Run w v) → Has st (v .units) → hasRequest (insideOf st) ≡ true → isIdle (v .controller .stage) ≡ true → 0 < counted (v .controller .ring)
     → 2 + (st .unit .retry - st .unit .quiet) ≤ n → BeginsWithin n v
 begin-by zero w v st q r has request idle some h = absurd (omega arith)
 begin-by (suc n) w v st q r has request idle some h = by (levels v .bav) refl (λ busy st′ has′ request′ idle′ some′ h′. begin-by n w (round v busy) st′ q (a-round r busy) has′ request′ idle′ some′ h′)
@@ -61,7 +63,7 @@ begin-by (suc n) w v st q r has request idle some h = by (levels v .bav) refl (�
     now low busy = let s = small in starts (v .controller) (levels v) (busy .here) (v .lent) (v .response) idle (le-ltb 15 (levels v .nibble) (omega arith)) low some .0
 
     by : (t : Bool) → levels v .bav ≡ t
-        → ((busy : Busy) (st′ : Station) → Has st′ (round v busy .units) → st′ .unit .serial .requesting ≡ true → isIdle (round v busy .controller .stage) ≡ true → 0 < counted (round v busy .controller .ring) → 2 + (st′ .unit .retry - st′ .unit .quiet) ≤ n → BeginsWithin n (round v busy))
+        → ((busy : Busy) (st′ : Station) → Has st′ (round v busy .units) → hasRequest (insideOf st′) ≡ true → isIdle (round v busy .controller .stage) ≡ true → 0 < counted (round v busy .controller .ring) → 2 + (st′ .unit .retry - st′ .unit .quiet) ≤ n → BeginsWithin n (round v busy))
         → BeginsWithin (suc n) v
     by true low go = in-this (now low)
     by false high go = in-a-later (λ busy. next busy (st .unit .asking) refl (leb (st .unit .retry) (quietAfter (st .unit))) refl)
@@ -79,7 +81,7 @@ begin-by (suc n) w v st q r has request idle some h = by (levels v .bav) refl (�
             unit-is : new .unit ≡ highStep (st .unit) (levels v .hsk)
             unit-is = high-unit st (levels v) (found .0) small (has-all (on-sound (every-run w v q r)) has .room) high
 
-            request′ : new .unit .serial .requesting ≡ true
+            request′ : hasRequest (insideOf new) ≡ true
             request′ = ap (λ (u : Unit). u .serial .requesting) unit-is ∙ request
 
             same : round v busy .controller ≡ v .controller
@@ -91,13 +93,13 @@ begin-by (suc n) w v st q r has request idle some h = by (levels v .bav) refl (�
             some′ : 0 < counted (round v busy .controller .ring)
             some′ = subst (λ (c : Controller). 0 < counted (c .ring)) (sym same) some
 
-            served : st .unit .serial .enabled ≡ true
-            served = has-all (every-served w v q r) has request
+            served : isServed (insideOf st) ≡ true
+            served = every-lawful (kindOf (st .unit .own)) .served (insideOf st) (has-all (on-sound (every-run w v q r)) has .fit) request
 
             step : (t : Bool) → leb (st .unit .retry) (quietAfter (st .unit)) ≡ t → BeginsWithin n (round v busy)
             step true z =
                 let asks-now : new .unit .asking ≡ true =
-                ap (λ (u : Unit). u .asking) unit-is ∙ ap (λ (a : Bool). asks a (st .unit .serial) (st .unit .retry) (quietAfter (st .unit)) (levels v .hsk)) e
+                ap (λ (u : Unit). u .asking) unit-is ∙ ap (λ (a : Bool). asks a (st .unit .serial .enabled) (st .unit .serial .requesting) (st .unit .retry) (quietAfter (st .unit)) (levels v .hsk)) e
                 ∙ (λ i. served i && (request i && z i)) in
                 pulled n (omega arith) asks-now
               where

@@ -1,5 +1,5 @@
 -- The whole chain on demand 2's bus.
-use Prim.Native.Nat.{ℕ, zero, suc, _+_, _≤_}
+use Prim.Native.Nat.{ℕ, zero, suc, _+_, _<_, _≤_}
 use native.Mathlib.Omega.{arith}
 use mathlib.Core.Path.{_≡_, refl, sym, _∙_, ap, subst}
 use mathlib.Core.Bool.{Bool, true, false, cond, _&&_, _||_, true≢false, false≢true}
@@ -7,64 +7,60 @@ use mathlib.Core.List.{List, [], _∷_}
 use borrow.Author.Tests.{eqb-true, eq-eqb, ltb-true, lt-ltb}
 use lib.Dec.{ltb, eqb}
 use lib.ListN.{length, getD}
-use Rattle.bus.specs.Bus.{stationStep, unitAfter}
+use Rattle.bus.specs.Bus.{stationStep}
 use Rattle.bus.specs.declared.Station.{Station}
 use Rattle.controller.specs.Controller.{isIdle}
 use Rattle.controller.specs.declared.Controller.{Controller}
-use Rattle.delivery.specs.Calls.{Call, HostCall, host, feeds, takes, raises, submits as submitsTo, acknowledges as acknowledgesTo, called, calledAt, calledBy, unitTaken}
-use Rattle.delivery.specs.Demand2.{QuietStart, Run, start, a-round, a-call, Took, takes-it, took-it, inFrame, Changed, unchanged, fixed-now, done-now, verdictFor}
+use Rattle.delivery.specs.Calls.{Call, host, submits as submitsTo, acknowledges as acknowledgesTo, called, calledAt}
+use Rattle.delivery.specs.Demand2.{QuietStart, Run, start, a-round, a-call, Took, takes-it, took-it, inFrame, Changed, unchanged, fixed-now, done-now}
 use Rattle.delivery.specs.Lists.{All, none, also, One, this, that, Has, here, there}
-use Rattle.delivery.specs.Promised.{Moment, replyFor}
+use Rattle.delivery.specs.Promised.{Moment}
 use Rattle.delivery.specs.Stages.{On, rests, submitted, ended, runs, InFrame, begins, sends, hears, waits, Goes, on, answered, unanswered, Spoke, spoke, addressed, movedIn, Sound, Sits, Fresh, idles, selects, Talk, talks, isResponding, answerData}
 use Rattle.delivery.specs.World.{World, Busy, levels, round, Becomes, in-front as first-one, behind, Different, another}
-use Rattle.delivery.proofs.Calls.{called as unit-called}
-use Rattle.delivery.proofs.Demand2.{every-run, every-response, changes, on-sound, on-different}
+use Rattle.delivery.proofs.Demand2.{every-run, every-response, changes, on-sound, on-different, on-nibble}
 use Rattle.delivery.proofs.Frame.{becomes-all, own-kept, fresh-quiet, part-quiet}
 use Rattle.line.specs.declared.Listener.{Listener}
 use Rattle.answer.specs.Answer.{statusOf, countOf}
 use Rattle.answer.specs.declared.Response.{Response}
 use Rattle.answer.specs.declared.Response.the-variants.{Complete}
 use Rattle.polling.proofs.Handing.{Shape, a-command, a-poll, a-null, Shapes, shape-since}
+use Rattle.delivery.proofs.Part.{low-step}
+use Rattle.delivery.proofs.Rest.{high-step}
 use Rattle.delivery.proofs.Run.{in-frame-called}
-use Rattle.delivery.proofs.Verdicts.{verdict-is, or-left}
+use Rattle.inside.proofs.Each.{or-left}
 use Rattle.delivery.proofs.Lists.{has-all, all-map, all-zip, all-step, all-becomes}
 use Rattle.frame.specs.Frame.{pollOf, dataOf, over}
 use Rattle.frame.specs.declared.Frame.{Frame}
 use Rattle.frame.specs.declared.Stage.{Stage}
 use Rattle.frame.specs.declared.Stage.the-variants.{Free, Resting, Waiting, Sending, Listening}
 use Rattle.header.specs.declared.Command.{Command}
-use Rattle.host.specs.Calls.{isFed, takenBy, withSerial, requested}
+use Rattle.inside.specs.Calls.{HostCall}
+use Rattle.inside.specs.Inside.{Inside, insideOf, hasRequest, replyFor, takenFor, clears}
+use Rattle.inside.proofs.Calls.{unit-called, request-called}
+use Rattle.inside.proofs.Lawful.{every-lawful}
+use Rattle.inside.proofs.Replies.{clears-speaks, clears-says, request-ended}
+use Rattle.inside.proofs.Round.{insideAfter}
+use Rattle.kind.specs.Kinds.{kindOf}
 use Rattle.line.specs.declared.Lines.{Lines}
 use Rattle.line.specs.declared.Sender.{Sender}
 use Rattle.message.specs.Answer.{Answer, gives, refused, kept}
-use Rattle.phase.specs.Phase.{phaseStep}
 use Rattle.phase.specs.declared.Phase.{Phase}
 use Rattle.phase.specs.declared.Phase.the-variants.{Idle, Selecting, Receiving, Responding, SittingOut}
-use Rattle.queue.specs.Queue.{room, popped}
-use Rattle.queue.specs.declared.Popped.{Popped}
-use Rattle.queue.specs.declared.Popped.the-variants.{Byte, Nothing as NoByte}
 use Rattle.reply.specs.Reply.{replyStatus}
 use Rattle.ring.specs.Ring.{none as no-entry, live, isMarked, placeOf, entryOf}
 use Rattle.ring.specs.declared.Entry.{Entry}
-use Rattle.serial.specs.Serial.{finished}
 use Rattle.serial.specs.declared.Reply.{Reply}
-use Rattle.serial.specs.declared.Reply.the-variants.{Silent, Status, Opened, Bytes, Polled}
-use Rattle.serial.specs.declared.Serial.{Serial}
+use Rattle.serial.specs.declared.Reply.the-variants.{Silent}
 use Rattle.turn.specs.Turn.{turnOf, eventOf as frameEvent}
 use Rattle.turn.specs.declared.Event.{Event}
 use Rattle.turn.specs.declared.Event.the-variants.{Nothing, Ended, Handed}
-use Rattle.unit.specs.Unit.{lowStep, highStep}
-use Rattle.verdict.specs.Verdict.{says, verdictOf}
-use Rattle.verdict.specs.declared.Verdict.{Verdict}
-use Rattle.serial.specs.declared.Effect.the-variants.{Keeps, Resets}
 use Rattle.whole.specs.Whole.{storedOf}
 use Rattle.polling.specs.Chain.{HasCode, Requests, Harmless, Calm, now, earlier, HandedIn, Chain}
 use Rattle.polling.specs.Handing.{moveOf, movesOf, toldIn}
 use Rattle.polling.specs.History.{isPending, since, isHanded, settles}
 use Rattle.polling.specs.Moves.{Move, submits, acknowledges, after, running, begins as beginsIn, services, isBegun, Without, ahead, eventOf}
 use Rattle.polling.proofs.History.{Ok, ok-after, ok-since, front-mark, agrees-mark}
-use Rattle.polling.proofs.OnTheBus.{made, has-round, has-called, run-coded, runs-it, RunsOne, runs-one, frame-running, isFrame, addressed-own, frame-told, frame-held, spoken, said-by, said-handed, took-served, hushed-none}
-use Rattle.polling.proofs.Requests.{clears, fine-verdict, left-by}
+use Rattle.polling.proofs.OnTheBus.{made, has-round, has-called, run-coded, runs-it, RunsOne, runs-one, frame-running, isFrame, addressed-own, frame-told, frame-held, spoken, said-by, said-handed, took-fit, hushed-none}
 use Rattle.polling.proofs.Turns.{Placed, no-service, one-nearer, in-front, placed, none-counted, one-counted}
 use Rattle.polling.proofs.Places.{Found}
 use Rattle.polling.proofs.Does.{held as heldBy, still as none-begins, and-false}
@@ -76,110 +72,58 @@ further r start = r
 further r (a-round more busy) = a-round (further r more) busy
 further r (a-call more call) = a-call (further r more) call
 
--- Outside frames nothing of a unit's state changes.
-same-by : (st : Station) (seen : Lines) (busy : Bool) {x : Phase} → st .unit .phase ≡ x → ((own : ℕ) (s : Serial) (buffer input : List ℕ) → phaseStep x own s seen busy buffer input .serial ≡ s) → stationStep st seen busy .unit .serial ≡ st .unit .serial
-same-by st seen busy {x} e f = by (ltb 15 (seen .nibble)) (ltb (length (st .buffer)) 256) (seen .bav)
+-- Outside frames nothing inside a unit changes.
+same-by : (st : Station) (seen : Lines) (busy : Bool) {x : Phase} → seen .nibble < 16 → Sound st → st .unit .phase ≡ x → ((own : ℕ) (y : Inside) (buffer : List ℕ) → insideAfter x own y seen busy buffer ≡ y) → insideOf (stationStep st seen busy) ≡ insideOf st
+same-by st seen busy n s e f = by (seen .bav) refl
   where
-    low : phaseStep (st .unit .phase) (st .unit .own) (st .unit .serial) seen busy (st .buffer) (st .input) .serial ≡ st .unit .serial
-    low = ap (λ (y : Phase). phaseStep y (st .unit .own) (st .unit .serial) seen busy (st .buffer) (st .input) .serial) e ∙ f (st .unit .own) (st .unit .serial) (st .buffer) (st .input)
+    by : (t : Bool) → seen .bav ≡ t → insideOf (stationStep st seen busy) ≡ insideOf st
+    by true low = low-step st seen busy n (s .room) low .inside ∙ ap (λ (y : Phase). insideAfter y (st .unit .own) (insideOf st) seen busy (st .buffer)) e ∙ f (st .unit .own) (insideOf st) (st .buffer)
+    by false high = high-step st seen busy n (s .room) high .1 .1
 
-    by : (a b c : Bool) → unitAfter (cond a (refused 5) (cond b (refused 11) (gives (cond c (lowStep (st .unit) (seen .hsk) (phaseStep (st .unit .phase) (st .unit .own) (st .unit .serial) seen busy (st .buffer) (st .input))) (highStep (st .unit) (seen .hsk)))))) (st .unit) .serial ≡ st .unit .serial
-    by true b c = refl
-    by false true c = refl
-    by false false true = low
-    by false false false = refl
+fresh-same : (st : Station) (seen : Lines) (busy : Bool) → seen .nibble < 16 → Sound st → Fresh st → insideOf (stationStep st seen busy) ≡ insideOf st
+fresh-same st seen busy n s (idles e) = same-by st seen busy n s e (λ own y buffer. refl)
+fresh-same st seen busy n s (selects e) = same-by st seen busy n s e (λ own y buffer. refl)
 
-fresh-same : (st : Station) (seen : Lines) (busy : Bool) → Fresh st → stationStep st seen busy .unit .serial ≡ st .unit .serial
-fresh-same st seen busy (idles e) = same-by st seen busy e (λ own s buffer input. refl)
-fresh-same st seen busy (selects e) = same-by st seen busy e (λ own s buffer input. refl)
+sits-same : (st : Station) (seen : Lines) (busy : Bool) → seen .nibble < 16 → Sound st → Sits st → insideOf (stationStep st seen busy) ≡ insideOf st
+sits-same st seen busy n s p = same-by st seen busy n s (p .0) (λ own y buffer. refl)
 
-sits-same : (st : Station) (seen : Lines) (busy : Bool) → Sits st → stationStep st seen busy .unit .serial ≡ st .unit .serial
-sits-same st seen busy p = same-by st seen busy (p .0) (λ own s buffer input. refl)
-
--- A reply that clears the request is the answer to a poll.
-abbrev isPolled : Reply → Bool
-isPolled Silent = false
-isPolled (Status number) = false
-isPolled (Opened accepted) = false
-isPolled (Bytes n) = false
-isPolled Polled = true
-
-polls-verdict : (s : Serial) (k : Command) (n : ℕ) (d : List ℕ) → isPolled (verdictOf s k n d .reply) ≡ true → eqb (k .command) 0x0A ≡ true
-polls-verdict s k n d =
-    verdict-is s k {P = λ (v : Verdict). isPolled (v .reply) ≡ true → eqb (k .command) 0x0A ≡ true} (record {
-      silent = λ e. absurd (false≢true e);
-      resets = λ _ e. absurd (false≢true e);
-      refuses = λ number h e. absurd (false≢true e);
-      opens = λ m accepted h e. absurd (false≢true e);
-      closes = λ _ e. absurd (false≢true e);
-      reads = λ i h g e. absurd (false≢true e);
-      stores = λ e. absurd (false≢true e);
-      enables = λ e. absurd (false≢true e);
-      disables = λ _ e. absurd (false≢true e);
-      polled = λ e _. e;
-    }) n d
-
--- To code 0 nothing but a reset acts, and nobody is polled.
-zero-keeps : (s : Serial) (k : Command) (n : ℕ) (d : List ℕ) → k .device ≡ 0 → eqb (k .command) 0xFF ≡ false → (clears (verdictOf s k n d .effect) ≡ false) × (isPolled (verdictOf s k n d .reply) ≡ false)
-zero-keeps s k n d z f = by (eqb (k .command) 0xFE) (eqb (k .command) 0xFF) (eqb (k .device) 0) f (eq-eqb (k .device) 0 z) _
+-- A frame that is harmless to the unit ends no request of it with its effects.
+harmless-effect : (own : ℕ) (f : Frame) (x : Inside) (d : List ℕ) → Harmless own (f ∷ []) → addressed (f .command) own ≡ true → hasRequest (takenFor own x (f .command) d) ≡ hasRequest x
+harmless-effect own f x d h a = by (eqb (f .command .device) 0) refl
   where
-    by : (a b c : Bool) → b ≡ false → c ≡ true → (rest : Verdict)
-        → (clears (cond a (says Silent Keeps) (cond b (says Silent Resets) (cond c (says Silent Keeps) rest)) .effect) ≡ false) × (isPolled (cond a (says Silent Keeps) (cond b (says Silent Resets) (cond c (says Silent Keeps) rest)) .reply) ≡ false)
-    by true b c x y rest = (refl, refl)
-    by false true c x y rest = absurd (true≢false x)
-    by false false true x y rest = (refl, refl)
-    by false false false x y rest = absurd (false≢true y)
+    both-false : (x y z : Bool) → (y || x) ≡ false → z ≡ false → (x || (y || z)) ≡ false
+    both-false true true z e g = e
+    both-false true false z e g = e
+    both-false false true z e g = e
+    both-false false false z e g = g
 
--- A frame that is harmless to the unit clears no request of it with its effects.
-harmless-effect : (own : ℕ) (f : Frame) (s : Serial) (n : ℕ) (d : List ℕ) → (own ≡ 0 → ⊥) → Harmless own (f ∷ []) → addressed (f .command) own ≡ true → clears (verdictOf s (f .command) n d .effect) ≡ false
-harmless-effect own f s n d nonzero h a = by (eqb (f .command .device) 0) refl (clears (verdictOf s (f .command) n d .effect)) refl
-  where
-    mine : eqb (f .command .device) 0 ≡ false → eqb (f .command .device) own ≡ true
-    mine z = or-left (eqb (f .command .device) own) (eqb (f .command .device) 0) z a
+    not-both : (x y : Bool) → x ≡ true → (x && y) ≡ false → y ≡ false
+    not-both true y p q = q
+    not-both false y p q = absurd (false≢true p)
 
-    and-both : (x y : Bool) → x ≡ true → y ≡ true → (x && y) ≡ true
-    and-both true true p q = refl
-    and-both true false p q = absurd (false≢true q)
-    and-both false y p q = absurd (false≢true p)
-
-    swap : (x y z : Bool) → z ≡ false → (x || (y || z)) ≡ true → (y || x) ≡ true
-    swap true true z e g = refl
-    swap true false z e g = refl
-    swap false true z e g = refl
-    swap false false z e g = absurd (false≢true (sym e ∙ g))
-
-    by : (t : Bool) → eqb (f .command .device) 0 ≡ t → (u : Bool) → clears (verdictOf s (f .command) n d .effect) ≡ u → clears (verdictOf s (f .command) n d .effect) ≡ false
-    by true z u e = zero-keeps s (f .command) n d (eqb-true (f .command .device) 0 z) (h .1) .0
-    by false z false e = e
-    by false z true e =
-        let code = fine-verdict s (f .command) n d e in
-        absurd (true≢false (sym (and-both (eqb (f .command .device) own) (eqb (f .command .command) 0x09 || eqb (f .command .command) 0x01) (mine z) (swap (eqb (f .command .command) 0x01) (eqb (f .command .command) 0x09) (eqb (f .command .command) 0xFF) (h .1) code)) ∙ h .0))
+    by : (t : Bool) → eqb (f .command .device) 0 ≡ t → hasRequest (takenFor own x (f .command) d) ≡ hasRequest x
+    by true z = ap hasRequest (every-lawful (kindOf own) .zero-keeps x (f .command) (length d) (storedOf d) (eqb-true (f .command .device) 0 z) (h .1))
+    by false z =
+        let mine : eqb (f .command .device) own ≡ true = or-left (eqb (f .command .device) own) (eqb (f .command .device) 0) z a in
+        let other : (eqb (f .command .command) 0x09 || eqb (f .command .command) 0x01) ≡ false = not-both (eqb (f .command .device) own) _ mine (h .0) in
+        every-lawful (kindOf own) .request-taken x (f .command) (length d) (storedOf d) (both-false (eqb (f .command .command) 0x01) (eqb (f .command .command) 0x09) (eqb (f .command .command) 0xFF) other (h .1))
 
 -- A unit's request in a round of a frame, where it is not the round in which its answer 00 has gone out.
-finished-keeps : (s : Serial) (r : Reply) → isPolled r ≡ false → finished s r .requesting ≡ s .requesting
-finished-keeps s Silent e = refl
-finished-keeps s (Status number) e = refl
-finished-keeps s (Opened accepted) e = refl
-finished-keeps s (Bytes n) e = refl
-finished-keeps s Polled e = absurd (true≢false e)
-
-request-kept : (own : ℕ) (f : Frame) (d : List ℕ) (st new : Station) → (own ≡ 0 → ⊥) → Harmless own (f ∷ []) → st .unit .own ≡ own → st .unit .serial .requesting ≡ true
-    → ((r : Reply) (j : ℕ) (sender : Sender) → st .unit .phase ≡ Responding r j sender false → new .unit .phase ≡ SittingOut false → isPolled r ≡ true → ⊥)
-    → Changed (f .command) d st new → new .unit .serial .requesting ≡ true
-request-kept own f d st new nonzero h o q go (unchanged same same-phase) = ap (λ (x : Serial). x .requesting) (same .0) ∙ q
-request-kept own f d st new nonzero h o q go (fixed-now a old fixed) =
-    let s = st .unit .serial in
-    ap (λ (x : Serial). x .requesting) (fixed .state)
-    ∙ left-by s (verdictFor s (f .command) d .effect) (storedOf d) (harmless-effect own f s (length d) (storedOf d) nonzero h (ap (addressed (f .command)) (sym o) ∙ a)) ∙ q
-request-kept own f d st new nonzero h o q go (done-now a r j sender p phase serial input output) = by (isPolled r) refl
+request-kept : (own : ℕ) (f : Frame) (d : List ℕ) (st new : Station) → Harmless own (f ∷ []) → st .unit .own ≡ own → hasRequest (insideOf st) ≡ true
+    → ((r : Reply) (j : ℕ) (sender : Sender) → st .unit .phase ≡ Responding r j sender false → new .unit .phase ≡ SittingOut false → clears r ≡ true → ⊥)
+    → Changed (f .command) d st new → hasRequest (insideOf new) ≡ true
+request-kept own f d st new h o q go (unchanged same same-phase) = ap hasRequest same ∙ q
+request-kept own f d st new h o q go (fixed-now a old fixed) =
+    ap hasRequest (fixed .inside) ∙ harmless-effect (st .unit .own) f (insideOf st) d (subst (λ (k : ℕ). Harmless k (f ∷ [])) (sym o) h) a ∙ q
+request-kept own f d st new h o q go (done-now a r j sender p phase inside) = by (clears r) refl
   where
-    by : (t : Bool) → isPolled r ≡ t → new .unit .serial .requesting ≡ true
+    by : (t : Bool) → clears r ≡ t → hasRequest (insideOf new) ≡ true
     by true e = absurd (go r j sender p phase e)
-    by false e = ap (λ (x : Serial). x .requesting) serial ∙ finished-keeps (st .unit .serial) r e ∙ q
+    by false e = ap hasRequest inside ∙ request-ended (insideOf st) r e ∙ q
 
 -- Who responds while a frame runs is the one unit that its command addresses, and its reply the one that is promised.
 data Talking (T : Moment) (c : Command) (d : List ℕ) (st : Station) : Type 0 where
-  talking : (r : Reply) (j : ℕ) (sender : Sender) (wait : Bool) (given : Serial) → st .unit .phase ≡ Responding r j sender wait → r ≡ replyFor given c d → addressed c (st .unit .own) ≡ true → Talking T c d st
+  talking : (r : Reply) (j : ℕ) (sender : Sender) (wait : Bool) (given : Inside) → st .unit .phase ≡ Responding r j sender wait → r ≡ replyFor (st .unit .own) given c d → addressed c (st .unit .own) ≡ true → Talking T c d st
 
 talk-of : {T : Moment} {c : Command} {d : List ℕ} {stores : Bool} {found : List ℕ} {ear : Listener} {taken : Response} {quiet : ℕ} {buffer : List ℕ} {st : Station} → Talk T c d stores found ear taken quiet buffer st → Talking T c d st
 talk-of (talks r j t sender wait e p fits g b l w z q own) = talking r j sender wait (p .given) e (p .said) own
@@ -228,7 +172,7 @@ record Arrived (f : Frame) (x : World) (busy : Busy) : Type 0 where
 arrived : {T : Moment} {f : Frame} {d found : List ℕ} {x : World} {busy : Busy} {buffer : List ℕ} {ss : List Station}
     → One (λ (st : Station). Spoke T f d found (movedIn x busy) buffer (x .units) st × Sound st) (λ (st : Station). Sits st × Sound st) ss → Arrived f x busy
 arrived (that q o) = arrived o
-arrived (this (spoke r j sender before has k own a p m b serial input s, y) all) = record {
+arrived (this (spoke r j sender before has k own a p m b inside s, y) all) = record {
   reply = r;
   before = before;
   has = has;
@@ -238,13 +182,6 @@ arrived (this (spoke r j sender before has k own a p m b serial input s, y) all)
   moved = m;
   status = refl;
 }
-
-polled-is : (r : Reply) → isPolled r ≡ true → replyStatus r ≡ 0x00
-polled-is Silent e = absurd (false≢true e)
-polled-is (Status number) e = absurd (false≢true e)
-polled-is (Opened accepted) e = absurd (false≢true e)
-polled-is (Bytes n) e = absurd (false≢true e)
-polled-is Polled e = refl
 
 handed-is : (own : ℕ) (e : Event) → isHanded own e ≡ true → e ≡ Handed own
 handed-is own Nothing h = absurd (false≢true h)
@@ -282,8 +219,8 @@ module _ (w x : World) (own : ℕ) (q : QuietStart w) (r : Run w x) (busy : Busy
     told-now : toldIn x busy ≡ Handed own → HoldsOn
     still : All (Requests own) (round x busy .units) → HoldsOn
 
-  same-states : {P : Station → Type 0} → ((st : Station) (host : Bool) → P st → stationStep st (levels x) host .unit .serial ≡ st .unit .serial) → All P (x .units) → HoldsOn
-  same-states same a = still (all-step (levels x) (λ st host p e. ap (λ (s : Serial). s .requesting) (same st host (p .1)) ∙ p .0 (sym (own-kept st (levels x) host) ∙ e)) (busy .there) (all-zip requests a))
+  same-states : {P : Station → Type 0} → ((st : Station) (host : Bool) → P st → insideOf (stationStep st (levels x) host) ≡ insideOf st) → All P (x .units) → HoldsOn
+  same-states same a = still (all-step (levels x) (λ st host p e. ap hasRequest (same st host (p .1)) ∙ p .0 (sym (own-kept st (levels x) host) ∙ e)) (busy .there) (all-zip requests a))
 
   module _ (f : Frame) (found : List ℕ) (i : InFrame (Took r) f found x) where
     safe : Harmless own (f ∷ [])
@@ -293,11 +230,11 @@ module _ (w x : World) (own : ℕ) (q : QuietStart w) (r : Run w x) (busy : Busy
     both-hosts = all-map (λ st p. either (λ (host : Bool). Changed (f .command) (dataOf f (x .lent)) st (stationStep st (levels x) host)) (p .0) (p .1)) (all-zip (changes (Took r) f found x i true) (changes (Took r) f found x i false))
 
     -- Unless its answer 00 has gone out in this round.
-    kept-by : ((st new : Station) → Becomes (levels x) (busy .there) (x .units) st new → (p : Reply) (j : ℕ) (sender : Sender) → st .unit .own ≡ own → st .unit .phase ≡ Responding p j sender false → new .unit .phase ≡ SittingOut false → isPolled p ≡ true → ⊥) → HoldsOn
+    kept-by : ((st new : Station) → Becomes (levels x) (busy .there) (x .units) st new → (p : Reply) (j : ℕ) (sender : Sender) → st .unit .own ≡ own → st .unit .phase ≡ Responding p j sender false → new .unit .phase ≡ SittingOut false → clears p ≡ true → ⊥) → HoldsOn
     kept-by never =
         still (all-becomes (levels x) (busy .there) (λ st host b p e.
         let mine : st .unit .own ≡ own = sym (own-kept st (levels x) host) ∙ e in
-        request-kept own f (dataOf f (x .lent)) st (stationStep st (levels x) host) nonzero safe mine (p .0 mine) (λ reply j sender phase new polled. never st (stationStep st (levels x) host) b reply j sender mine phase new polled) (p .1 host)) (all-zip requests both-hosts))
+        request-kept own f (dataOf f (x .lent)) st (stationStep st (levels x) host) safe mine (p .0 mine) (λ reply j sender phase new polled. never st (stationStep st (levels x) host) b reply j sender mine phase new polled) (p .1 host)) (all-zip requests both-hosts))
 
     shape : Shape f
     shape =
@@ -306,20 +243,22 @@ module _ (w x : World) (own : ℕ) (q : QuietStart w) (r : Run w x) (busy : Busy
         subst Shapes (frame-held i) all
 
     -- The round in which its answer 00 has gone out hands its code over.
-    answered-now : Arrived f x busy → (st new : Station) → Becomes (levels x) (busy .there) (x .units) st new → (p : Reply) (j : ℕ) (sender : Sender) → st .unit .own ≡ own → st .unit .phase ≡ Responding p j sender false → isPolled p ≡ true → toldIn x busy ≡ Handed own
+    answered-now : Arrived f x busy → (st new : Station) → Becomes (levels x) (busy .there) (x .units) st new → (p : Reply) (j : ℕ) (sender : Sender) → st .unit .own ≡ own → st .unit .phase ≡ Responding p j sender false → clears p ≡ true → toldIn x busy ≡ Handed own
     answered-now came st new b p j sender mine phase polled = by (frame-talks i b (ap isResponding phase))
       where
         by : Talking (Took r) (f .command) (dataOf f (x .lent)) st → toldIn x busy ≡ Handed own
         by (talking reply k sender′ wait given e said a) =
             let d = dataOf f (x .lent) in
             let same : reply ≡ p = ap (replyIn Silent) (sym e ∙ phase) in
-            let is-poll : isPolled (replyFor given (f .command) d) ≡ true = ap isPolled (sym said ∙ same) ∙ polled in
-            let command : eqb (f .command .command) 0x0A ≡ true = polls-verdict given (f .command) (length d) (storedOf d) is-poll in
-            let device : f .command .device ≡ 0 → ⊥ = λ z. true≢false (sym is-poll ∙ zero-keeps given (f .command) (length d) (storedOf d) z (safe .1) .1) in
+            let given-reply = replyFor (st .unit .own) given (f .command) d in
+            let is-poll : clears given-reply ≡ true = ap clears (sym said ∙ same) ∙ polled in
+            let law = every-lawful (kindOf (st .unit .own)) in
+            let command : eqb (f .command .command) 0x0A ≡ true = law .clears-poll given (f .command) (length d) (storedOf d) is-poll in
+            let device : f .command .device ≡ 0 → ⊥ = λ z. true≢false (sym (law .zero-silent given (f .command) (length d) (storedOf d) z) ∙ clears-speaks given-reply is-poll) in
             let at-own : own ≡ f .command .device = sym mine ∙ addressed-own (f .command) (st .unit .own) device a in
             let frame : f ≡ pollOf own = poll-frame f own shape command (sym at-own) in
             let one : came .before ≡ st = same-has (on-different (every-run w x q r)) (came .has) (becomes-has b) (addressed-own (f .command) (came .before .unit .own) device (came .addresses) ∙ sym at-own ∙ sym mine) in
-            let zero-status : statusOf (came .response) ≡ 0x00 = came .status ∙ ap replyStatus (sym (came .phase) ∙ ap (λ (y : Station). replyIn Silent (y .unit .phase)) one ∙ ap (replyIn Silent) phase) ∙ polled-is p polled in
+            let zero-status : statusOf (came .response) ≡ 0x00 = came .status ∙ ap replyStatus (sym (came .phase) ∙ ap (λ (y : Station). replyIn Silent (y .unit .phase)) one ∙ ap (replyIn Silent) phase) ∙ clears-says p polled in
             frame-told w x q r busy i (came .response) (came .moved) ∙ (λ m. frameEvent (frame m) (zero-status m) (countOf (came .response)))
 
     goes-by : Goes (Took (a-round r busy)) f found x busy → HoldsOn
@@ -340,33 +279,18 @@ module _ (w x : World) (own : ℕ) (q : QuietStart w) (r : Run w x) (busy : Busy
   holds-round : HoldsOn
   holds-round = by (view (every-run w x q r))
     where
+      small : levels x .nibble < 16
+      small = on-nibble (every-run w x q r)
+
       by : View (Took r) x → HoldsOn
-      by (all-fresh a) = same-states (λ st host p. fresh-same st (levels x) host (p .0)) a
-      by (all-sit a) = same-states (λ st host p. sits-same st (levels x) host (p .0)) a
+      by (all-fresh a) = same-states (λ st host p. fresh-same st (levels x) host small (p .1) (p .0)) a
+      by (all-sit a) = same-states (λ st host p. sits-same st (levels x) host small (p .1) (p .0)) a
       by (one-frame f found i) = frame-holds f found i
 
 -- A host call leaves a request.
-request-called : (call : HostCall) (st : Station) → st .unit .serial .requesting ≡ true → calledBy call st .unit .serial .requesting ≡ true
-request-called (feeds b small) st h = by (isFed (st .unit .serial .opening)) (eqb (room (st .unit .serial .input)) 0) refl refl
-  where
-    by : (t v : Bool) → isFed (st .unit .serial .opening) ≡ t → eqb (room (st .unit .serial .input)) 0 ≡ v → calledBy (feeds b small) st .unit .serial .requesting ≡ true
-    by false v e g = rw e h
-    by true true e g = rw (e, g) h
-    by true false e g = rw (e, g) h
-request-called takes st h = by (popped (st .output) (st .unit .serial .output))
-  where
-    by : (p : Popped) → unitTaken (takenBy (st .unit) p) (st .unit) .serial .requesting ≡ true
-    by (Byte b q) = h
-    by NoByte = h
-request-called raises st h = by (st .unit .serial .enabled)
-  where
-    by : (t : Bool) → unitAfter (cond t (gives (withSerial (st .unit) (requested (st .unit .serial)))) (refused 7)) (st .unit) .serial .requesting ≡ true
-    by true = refl
-    by false = h
-
 requests-called : (own i : ℕ) (call : HostCall) {ss : List Station} → All Sound ss → All (Requests own) ss → All (Requests own) (calledAt i call ss)
 requests-called own i call none none = none
-requests-called own zero call (also {x = st} s b) (also p a) = also (λ e. request-called call st (p (sym (unit-called call st s .own) ∙ e))) a
+requests-called own zero call (also {x = st} s b) (also p a) = also (λ e. let k = unit-called call st in ap hasRequest (k .inside) ∙ request-called (kindOf (st .unit .own)) (insideOf st) call (p (sym (k .own) ∙ e))) a
 requests-called own (suc i) call (also s b) (also p a) = also p (requests-called own i call b a)
 
 -- Service frames of a run that goes on.
@@ -434,13 +358,13 @@ module _ (w v : World) (own : ℕ) (q : QuietStart w) (r : Run w v) where
   data Stand {u : World} (more : Run v u) : Type 0 where
     handed-over : HandedIn own more → Stand more
     waits-on : HasCode own (u .units) → All (Requests own) (u .units) → Found own (live (u .controller .ring)) → Ok own false (u .controller) → ahead own (u .controller) + counted more ≤ k → Stand more
-    polled-now : HasCode own (u .units) → All (Requests own) (u .units) → running (u .controller .stage) ≡ pollOf own ∷ [] → ((s : Serial) (m : List ℕ) → Took (further r more) own s m → s .requesting ≡ true) → Stand more
+    polled-now : HasCode own (u .units) → All (Requests own) (u .units) → running (u .controller .stage) ≡ pollOf own ∷ [] → ((y : Inside) → Took (further r more) own y → hasRequest y ≡ true) → Stand more
 
   -- What a unit that holds its request was in when it took the last nibble.
-  asked : {x : World} (more : Run v x) (busy : Busy) → All (Requests own) (x .units) → (inFrame (x .controller .stage) ≡ true → (s : Serial) (m : List ℕ) → Took (further r more) own s m → s .requesting ≡ true)
-      → (s : Serial) (m : List ℕ) → Took (a-round (further r more) busy) own s m → s .requesting ≡ true
-  asked more busy requests old s m (takes-it st new b e n o t y) = ap (λ (z : Serial). z .requesting) (sym t) ∙ becomes-all requests b o
-  asked more busy requests old s m (took-it i t) = old i s m t
+  asked : {x : World} (more : Run v x) (busy : Busy) → All (Requests own) (x .units) → (inFrame (x .controller .stage) ≡ true → (y : Inside) → Took (further r more) own y → hasRequest y ≡ true)
+      → (y : Inside) → Took (a-round (further r more) busy) own y → hasRequest y ≡ true
+  asked more busy requests old y (takes-it st new b e n o i) = ap hasRequest (sym i) ∙ becomes-all requests b o
+  asked more busy requests old y (took-it i t) = old i y t
 
   -- The mark stays clear where nothing is handed over.
   clear-on : (c : Controller) (m : Move) → isHanded own (eventOf c m) ≡ false → Ok own false c → Ok own false (after c m)
@@ -478,7 +402,7 @@ module _ (w v : World) (own : ℕ) (q : QuietStart w) (r : Run w v) where
             let run : running (after c m .stage) ≡ pollOf own ∷ [] = ap (λ (y : Controller). running (y .stage)) e ∙ ap (λ (y : Entry). turnOf y ∷ []) front in
             polled-now there′ next run (asked more busy requests (λ i. absurd (false≢true (sym (idle-rests (c .stage) (isBegun (running (after c m .stage))) b) ∙ i))))
 
-    polled-round : HasCode own (x .units) → All (Requests own) (x .units) → running (c .stage) ≡ pollOf own ∷ [] → ((s : Serial) (l : List ℕ) → Took (further r more) own s l → s .requesting ≡ true) → All (Requests own) (round x busy .units) → Stand (a-round more busy)
+    polled-round : HasCode own (x .units) → All (Requests own) (x .units) → running (c .stage) ≡ pollOf own ∷ [] → ((y : Inside) → Took (further r more) own y → hasRequest y ≡ true) → All (Requests own) (round x busy .units) → Stand (a-round more busy)
     polled-round has requests run old next = by (runs-it (pollOf own) (every-run w x q (further r more)) run)
       where
         nonzero′ : own ≡ 0 → ⊥
@@ -487,17 +411,15 @@ module _ (w v : World) (own : ℕ) (q : QuietStart w) (r : Run w v) where
         there′ : HasCode own (round x busy .units)
         there′ = has-round own (levels x) (busy .there) has
 
-        all : (s : Serial) (l : List ℕ) → Took (a-round (further r more) busy) own s l → s .requesting ≡ true
+        all : (y : Inside) → Took (a-round (further r more) busy) own y → hasRequest y ≡ true
         all = asked more busy requests (λ i. old)
 
         goes : (found : List ℕ) → InFrame (Took (further r more)) (pollOf own) found x → Goes (Took (a-round (further r more) busy)) (pollOf own) found x busy → Stand (a-round more busy)
         goes found i (on ring y speaks less) = polled-now there′ next (frame-running y) all
         goes found i (answered fin d o) =
             let said = spoken w x q (further r more) busy own found i o in
-            let took = said-by nonzero′ said in
-            let request : said .state .requesting ≡ true = all (said .state) (said .memory) took in
-            handed-over (now (said-handed nonzero′ said (took-served w (round x busy) q (a-round (further r more) busy) own (said .state) (said .memory) took request) request))
-        goes found i (unanswered fin e b d a why sit) = absurd (hushed-none own nonzero′ there′ why)
+            handed-over (now (said-handed nonzero′ said (all (said .inside) (said-by nonzero′ said))))
+        goes found i (unanswered fin e b d a why sit) = absurd (hushed-none own nonzero′ (took-fit w (round x busy) q (a-round (further r more) busy)) there′ why)
 
         by : RunsOne (Took (further r more)) x (pollOf own) → Stand (a-round more busy)
         by (runs-one found i) = goes found i (every-response w x (further r more) (pollOf own) found i busy)
@@ -533,7 +455,7 @@ module _ (w v : World) (own : ℕ) (q : QuietStart w) (r : Run w v) where
       by (one-nearer p b z e f) = absurd (true≢false (sym b ∙ none-begun))
       by (in-front b z e) = absurd (true≢false (sym b ∙ none-begun))
 
-  call-polled : {x : World} (more : Run v x) (call : Call) → HasCode own (x .units) → All (Requests own) (x .units) → running (x .controller .stage) ≡ pollOf own ∷ [] → ((s : Serial) (m : List ℕ) → Took (further r more) own s m → s .requesting ≡ true)
+  call-polled : {x : World} (more : Run v x) (call : Call) → HasCode own (x .units) → All (Requests own) (x .units) → running (x .controller .stage) ≡ pollOf own ∷ [] → ((y : Inside) → Took (further r more) own y → hasRequest y ≡ true)
       → HasCode own (called x call .units) → All (Requests own) (called x call .units) → Stand (a-call more call)
   call-polled {x} more call has requests run old has′ requests′ = by (runs-it (pollOf own) (every-run w x q (further r more)) run)
     where

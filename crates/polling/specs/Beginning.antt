@@ -7,6 +7,7 @@ use Rattle.controller.specs.Controller.{isIdle}
 use Rattle.delivery.specs.Demand2.{QuietStart, Run}
 use Rattle.delivery.specs.Lists.{Has}
 use Rattle.delivery.specs.World.{World, Busy, round}
+use Rattle.inside.specs.Inside.{insideOf, hasRequest}
 use Rattle.ring.specs.Ring.{counted}
 use Rattle.polling.specs.Handing.{moveOf}
 use Rattle.polling.specs.Moves.{begins}
@@ -23,7 +24,7 @@ Beginning =
     → QuietStart w
     → Run w v
     → Has st (v .units)
-    → st .unit .serial .requesting ≡ true
+    → hasRequest (insideOf st) ≡ true
     → isIdle (v .controller .stage) ≡ true
     → 0 < counted (v .controller .ring)
     → BeginsWithin (2 + (st .unit .retry - st .unit .quiet)) v

@@ -11,6 +11,7 @@ use Rattle.delivery.specs.Demand2.{QuietStart, Run, start, a-round, a-call, inF
 use Rattle.delivery.specs.Lists.{All}
 use Rattle.delivery.specs.World.{World, Busy}
 use Rattle.frame.specs.declared.Frame.{Frame}
+use Rattle.inside.specs.Inside.{insideOf, hasRequest}
 use Rattle.ring.specs.Ring.{live, isMarked}
 use Rattle.turn.specs.declared.Event.the-variants.{Handed}
 use Rattle.polling.specs.Handing.{movesOf, toldIn}
@@ -22,7 +23,7 @@ pub data HasCode (own : ℕ) : List Station → Type 0 where
   later : {st : Station} {ss : List Station} → HasCode own ss → HasCode own (st ∷ ss)
 
 abbrev pub Requests : ℕ → Station → Type 0
-Requests own st = st .unit .own ≡ own → st .unit .serial .requesting ≡ true
+Requests own st = st .unit .own ≡ own → hasRequest (insideOf st) ≡ true
 
 -- No disable or close goes to the unit and no bus reset is sent, in a frame already running then or in a later one.
 abbrev pub Harmless : ℕ → List Frame → Type 0

@@ -15,10 +15,10 @@ use Rattle.delivery.specs.World.{World, Busy, levels, round}
 use Rattle.bus.specs.declared.Station.{Station}
 use Rattle.frame.specs.Frame.{pollOf}
 use Rattle.frame.specs.declared.End.the-variants.{Over}
+use Rattle.inside.specs.Inside.{Inside, hasRequest}
 use Rattle.line.specs.declared.Lines.{Lines}
 use Rattle.message.specs.Answer.{gives}
 use Rattle.ring.specs.Ring.{counted}
-use Rattle.serial.specs.declared.Serial.{Serial}
 use Rattle.turn.specs.declared.Event.{Event}
 use Rattle.turn.specs.declared.Event.the-variants.{Nothing, Handed}
 use lib.ListN.{length}
@@ -76,17 +76,16 @@ PolledHands =
     → running (v .controller .stage) ≡ pollOf own ∷ []
     → (busy : Busy)
     → inFrame (round v busy .controller .stage) ≡ false
-    → (s : Serial) (m : List ℕ)
-    → Took (a-round r busy) own s m
-    → s .requesting ≡ true
+    → (x : Inside)
+    → Took (a-round r busy) own x
+    → hasRequest x ≡ true
     → toldIn v busy ≡ Handed own
 
 -- Whatever is handed over was held when polled.
 pub record HeldWhenPolled {w v : World} (r : Run w v) (busy : Busy) (code : ℕ) : Type 0 where
-  pub state : Serial
-  pub memory : List ℕ
-  pub took : Took (a-round r busy) code state memory
-  pub request : state .requesting ≡ true
+  pub inside : Inside
+  pub took : Took (a-round r busy) code inside
+  pub request : hasRequest inside ≡ true
   pub poll : running (v .controller .stage) ≡ pollOf code ∷ []
 
 abbrev pub HandedHeld : Type 0
