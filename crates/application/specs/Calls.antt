@@ -10,7 +10,7 @@ use Rattle.header.specs.declared.Command.{Command}
 use Rattle.message.specs.Answer.{Answer, gives, refused, kept}
 use Rattle.ring.specs.Ring.{counted, live, ringOf, isIn, isMarked, withMark}
 use Rattle.ring.specs.declared.Ring.{Ring}
-use Rattle.controller.specs.Controller.{controllerOf, newController, isIdle}
+use Rattle.controller.specs.Controller.{newController, withStage, withRing, isIdle}
 use Rattle.controller.specs.declared.Controller.{Controller}
 use Rattle.application.specs.declared.Making.{Making}
 use Rattle.application.specs.declared.Making.the-variants.{New, Setting}
@@ -59,7 +59,7 @@ submitted ShortResponse = refused 11
 
 -- Its frame begins in the next step.
 abbrev pub withCommand : Controller → Command → ℕ → Controller
-withCommand c k n = controllerOf (c .timeout) (Waiting (submittedFrame k n)) (c .ring)
+withCommand c k n = withStage c (Waiting (submittedFrame k n))
 
 abbrev pub controllerSubmitted : Controller → Command → ℕ → ℕ → Controller
 controllerSubmitted c k n room = kept (submitting c k n room) (withCommand c k n) c
@@ -73,7 +73,7 @@ acknowledged Cleared = gives done
 acknowledged NotMarked = refused 8
 
 abbrev pub withoutMark : Controller → ℕ → Controller
-withoutMark c code = controllerOf (c .timeout) (c .stage) (ringOf (withMark false code (live (c .ring))))
+withoutMark c code = withRing c (ringOf (withMark false code (live (c .ring))))
 
 abbrev pub controllerAcknowledged : Controller → ℕ → Controller
 controllerAcknowledged c code = kept (acknowledging c code) (withoutMark c code) c

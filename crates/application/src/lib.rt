@@ -189,24 +189,14 @@ fn is_shut_out(k: Command, ring: Ring) -> bool
 fn with_command(c: Controller, k: Command, length: u16) -> Controller
     ensures { λ r. ⌜ r ≡ withCommand c k length ⌝ }
 {
-    let ring = c.ring;
-    Controller {
-        timeout: c.timeout,
-        stage: Stage::Waiting(frame::submitted(k, length)),
-        ring,
-    }
+    controller::with_stage(c, Stage::Waiting(frame::submitted(k, length)))
 }
 
 fn without_mark(c: Controller, code: u8) -> Controller
     ensures { λ r. ⌜ r ≡ withoutMark c code ⌝ }
 {
-    let stage = c.stage;
     let ring = c.ring;
-    Controller {
-        timeout: c.timeout,
-        stage,
-        ring: ring.with_mark(code, false),
-    }
+    controller::with_ring(c, ring.with_mark(code, false))
 }
 
 fn may_start(stage: Stage) -> bool

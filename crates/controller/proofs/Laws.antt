@@ -9,7 +9,7 @@ use Rattle.frame.specs.declared.Moved.{Moved}
 use Rattle.frame.specs.declared.Stage.{Stage}
 use Rattle.frame.specs.declared.Stage.the-variants.{Free, Resting, Waiting, Sending, Listening}
 use Rattle.line.specs.declared.Lines.{Lines}
-use Rattle.controller.specs.Controller.{controllerOf, isIdle, ringAfter, eventAfter, frameOf, controllerStep, eventIn}
+use Rattle.controller.specs.Controller.{withStage, withRing, isIdle, ringAfter, eventAfter, frameOf, controllerStep, eventIn}
 use Rattle.controller.specs.Calls.{wentOn, going}
 use Rattle.controller.specs.declared.Controller.{Controller}
 
@@ -24,8 +24,8 @@ pub goes-on : (c : Controller) (seen : Lines) (busy : Bool) (d : List ℕ) → i
     → going c (frameOf c seen busy d) ≡ wentOn (controllerStep c seen busy d) (eventIn c seen busy d)
 goes-on c seen busy d p = rw p
 
-pub ends-so : (c d : Controller) (m : Moved) (e : End) → d ≡ controllerOf (c .timeout) (m .stage) (c .ring) → m .end ≡ e
-    → wentOn (controllerOf (d .timeout) (d .stage) (ringAfter (d .ring) e)) (eventAfter e) ≡ going c m
+pub ends-so : (c d : Controller) (m : Moved) (e : End) → d ≡ withStage c (m .stage) → m .end ≡ e
+    → wentOn (withRing d (ringAfter (d .ring) e)) (eventAfter e) ≡ going c m
 ends-so c d m e p q =
-    ap (λ (x : Controller). wentOn (controllerOf (x .timeout) (x .stage) (ringAfter (x .ring) e)) (eventAfter e)) p
-    ∙ ap (λ (x : End). wentOn (controllerOf (c .timeout) (m .stage) (ringAfter (c .ring) x)) (eventAfter x)) (sym q)
+    ap (λ (x : Controller). wentOn (withRing x (ringAfter (x .ring) e)) (eventAfter e)) p
+    ∙ ap (λ (x : End). wentOn (withRing (withStage c (m .stage)) (ringAfter (c .ring) x)) (eventAfter x)) (sym q)

@@ -11,7 +11,7 @@ use Rattle.frame.specs.declared.Moved.{Moved}
 use Rattle.line.specs.declared.Lines.{Lines}
 use Rattle.message.specs.Answer.{Answer, gives, refused, kept}
 use Rattle.turn.specs.declared.Event.{Event}
-use Rattle.controller.specs.Controller.{controllerOf, ringAfter, eventAfter, controllerStep, eventIn}
+use Rattle.controller.specs.Controller.{eventAfter, controllerMoved, controllerStep, eventIn}
 use Rattle.controller.specs.declared.Controller.{Controller}
 use Rattle.controller.specs.declared.Stepped.{Stepped}
 use Rattle.controller.specs.declared.Stepping.{Stepping}
@@ -38,7 +38,7 @@ abbrev pub wentOn : Controller → Event → Stepped
 wentOn c event = record { controller = c; outcome = On event }
 
 abbrev pub going : Controller → Moved → Stepped
-going c m = wentOn (controllerOf (c .timeout) (m .stage) (ringAfter (c .ring) (m .end))) (eventAfter (m .end))
+going c m = wentOn (controllerMoved c m) (eventAfter (m .end))
 
 -- A refused step sees nothing: it changes neither state nor lent memory.
 abbrev pub controllerStepped : Controller → Lines → Bool → List ℕ → List ℕ → Controller

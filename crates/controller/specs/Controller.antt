@@ -21,6 +21,13 @@ use Rattle.controller.specs.declared.Controller.{Controller}
 abbrev pub controllerOf : ℕ → Stage → Ring → Controller
 controllerOf timeout stage ring = record { timeout = timeout; stage = stage; ring = ring }
 
+-- With another stage, or another ring; nothing else of it changes.
+abbrev pub withStage : Controller → Stage → Controller
+withStage c stage = record { timeout = c .timeout; stage = stage; ring = c .ring }
+
+abbrev pub withRing : Controller → Ring → Controller
+withRing c ring = record { timeout = c .timeout; stage = c .stage; ring = ring }
+
 -- A new controller may start, and its ring is empty.
 abbrev pub newController : ℕ → Controller
 newController timeout = controllerOf timeout Free (ringOf [])
@@ -35,7 +42,7 @@ isIdle (Listening f ear response quiet) = false
 
 -- Idle and seeing BAV low with the ring not empty, it begins a service frame. The front entry moves to the back as the frame begins.
 abbrev pub service : Controller → Controller
-service c = controllerOf (c .timeout) (begun (turnOf (getD (live (c .ring)) 0 none))) (ringOf (turned (live (c .ring))))
+service c = withRing (withStage c (begun (turnOf (getD (live (c .ring)) 0 none)))) (ringOf (turned (live (c .ring))))
 
 abbrev pub idleStep : Controller → Bool → Controller
 idleStep c bav = cond bav (cond (eqb (counted (c .ring)) 0) c (service c)) c
@@ -49,14 +56,17 @@ abbrev pub eventAfter : End → Event
 eventAfter NotYet = Nothing
 eventAfter (Over f status count) = eventOf f status count
 
+-- The controller after a round of a frame or of its rest.
+abbrev pub controllerMoved : Controller → Moved → Controller
+controllerMoved c m = withRing (withStage c (m .stage)) (ringAfter (c .ring) (m .end))
+
 -- The round.
 abbrev pub frameOf : Controller → Lines → Bool → List ℕ → Moved
 frameOf c seen busy d = frameStep (c .stage) (c .timeout) seen busy d
 
 abbrev pub controllerStep : Controller → Lines → Bool → List ℕ → Controller
 controllerStep c seen busy d =
-    cond (isIdle (c .stage)) (idleStep c (seen .bav))
-    (controllerOf (c .timeout) (frameOf c seen busy d .stage) (ringAfter (c .ring) (frameOf c seen busy d .end)))
+    cond (isIdle (c .stage)) (idleStep c (seen .bav)) (controllerMoved c (frameOf c seen busy d))
 
 abbrev pub eventIn : Controller → Lines → Bool → List ℕ → Event
 eventIn c seen busy d = cond (isIdle (c .stage)) Nothing (eventAfter (frameOf c seen busy d .end))

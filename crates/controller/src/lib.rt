@@ -1,6 +1,6 @@
 // The controller: its settings and state, its round, and what it pulls.
 ghost use mathlib.Core.Path.{_≡_};
-ghost use Rattle.controller.specs.Controller.{controllerOf, isIdle, service, idleStep, ringAfter, eventAfter, controllerStep, eventIn};
+ghost use Rattle.controller.specs.Controller.{withStage, withRing, isIdle, service, idleStep, ringAfter, eventAfter, controllerStep, eventIn};
 ghost use Rattle.controller.specs.Calls.{stepping, stepped, controllerStepped, bufferAfter, wentOn, going};
 ghost use Rattle.frame.specs.Frame.{pullsOf, frameBuffer};
 use frame::End;
@@ -83,8 +83,9 @@ pub fn is_idle(stage: Stage) -> bool
     }
 }
 
-fn with_stage(c: Controller, stage: Stage) -> Controller
-    ensures { λ r. ⌜ r ≡ controllerOf (c .timeout) stage (c .ring) ⌝ }
+// With another stage; nothing else of it changes.
+pub fn with_stage(c: Controller, stage: Stage) -> Controller
+    ensures { λ r. ⌜ r ≡ withStage c stage ⌝ }
 {
     let ring = c.ring;
     Controller {
@@ -94,8 +95,9 @@ fn with_stage(c: Controller, stage: Stage) -> Controller
     }
 }
 
-fn with_ring(c: Controller, ring: Ring) -> Controller
-    ensures { λ r. ⌜ r ≡ controllerOf (c .timeout) (c .stage) ring ⌝ }
+// With another ring; nothing else of it changes.
+pub fn with_ring(c: Controller, ring: Ring) -> Controller
+    ensures { λ r. ⌜ r ≡ withRing c ring ⌝ }
 {
     let stage = c.stage;
     Controller {
@@ -156,16 +158,12 @@ fn service(c: Controller) -> Controller
 {
     let ring = c.ring;
     let stage = frame::begin(turn::frame_of(ring.entry(0)));
-    Controller {
-        timeout: c.timeout,
-        stage,
-        ring: ring.turned(),
-    }
+    with_ring(with_stage(c, stage), ring.turned())
 }
 
 // A frame has ended.
 fn concluded(c: Controller, f: Frame, status: u8, count: u16) -> Stepped
-    ensures { λ r. ⌜ r ≡ wentOn (controllerOf (c .timeout) (c .stage) (ringAfter (c .ring) (End.Over f status count))) (eventAfter (End.Over f status count)) ⌝ }
+    ensures { λ r. ⌜ r ≡ wentOn (withRing c (ringAfter (c .ring) (End.Over f status count))) (eventAfter (End.Over f status count)) ⌝ }
 {
     let ring = c.ring;
     went_on(

@@ -142,12 +142,7 @@ fn length_of(s: Statement) -> u64 {
 fn waiting(c: Controller, s: Statement) -> Acted {
     let length = (length_of(s) % 65536) as u16;
     let command = command_of(s.numbers);
-    let ring = c.ring;
-    let controller = Controller {
-        timeout: c.timeout,
-        stage: Stage::Waiting(frame::submitted(command, length)),
-        ring,
-    };
+    let controller = controller::with_stage(c, Stage::Waiting(frame::submitted(command, length)));
     Acted {
         controller,
         refusal: 0,

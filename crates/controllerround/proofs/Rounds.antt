@@ -1,14 +1,14 @@
 -- A round by the stage that the words hold; rest, and the turn of a service frame.
-use Prim.Native.Nat.{ℕ, _%_}
+use Prim.Native.Nat.{ℕ}
 use mathlib.Core.Path.{_≡_, refl, sym, _∙_, ap, subst}
 use mathlib.Core.Bool.{Bool, true, false}
 use mathlib.Core.List.{List, [], _∷_}
 use lib.Dec.{eqb}
 use lib.ListN.{getD, set}
-use Rattle.controller.specs.Controller.{controllerOf, idleStep, controllerStep, eventIn}
+use Rattle.controller.specs.Controller.{withStage, withRing, service, idleStep, controllerStep, eventIn}
 use Rattle.controller.specs.declared.Controller.{Controller}
 use Rattle.controllerwords.specs.Controller.{loadedStage, stageIn, loadedRing, ringIn, loaded, savedIn}
-use Rattle.controllerwords.specs.Layout.{TIMEOUT, STAGE, FIRST}
+use Rattle.controllerwords.specs.Layout.{STAGE, FIRST}
 use Rattle.controllerwords.proofs.Laws.{ring-saved, saved-loaded}
 use Rattle.frame.specs.Frame.{begun, restStep, frameBuffer}
 use Rattle.frame.specs.declared.Stage.{Stage}
@@ -24,7 +24,7 @@ use Rattle.controllerround.specs.Round.{eventWords}
 module _ (ws d buffer : List ℕ) (seen : Lines) (busy : Bool) where
   -- The controller in this stage, the rest of it as the words say.
   abbrev inStage : Stage → Controller
-  inStage stage = controllerOf (at ws TIMEOUT % 65536) stage (loadedRing ws)
+  inStage stage = withStage (loaded ws) stage
 
   abbrev Round : Stage → List ℕ → List ℕ → List ℕ → Type 0
   Round stage after buffer′ events =
@@ -67,7 +67,7 @@ module _ (ws : List ℕ) {ring : Ring} (l : ring ≡ loadedRing ws) {n : ℕ} (k
       → between ≡ stageIn ws stage → after ≡ ringIn between ring′
       → after ≡ savedIn ws (idleStep (loaded ws) true)
   turn t s r p q =
-      let next : Ring → Controller = λ g. controllerOf (at ws TIMEOUT % 65536) (begun (turnOf (getD (live g) 0 none))) (ringOf (turned (live g))) in
+      let next : Ring → Controller = λ g. service (withRing (loaded ws) g) in
       let turns : idleStep (loaded ws) true ≡ next (loadedRing ws) = rw (entries t) in
       q
       ∙ (λ j. ringIn ((p ∙ ap (stageIn ws) s) j) (r j))

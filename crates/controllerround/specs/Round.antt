@@ -2,8 +2,8 @@
 use Prim.Native.Nat.{ℕ, _%_}
 use mathlib.Core.Bool.{Bool}
 use mathlib.Core.List.{List, [], _∷_}
-use Rattle.controller.specs.Controller.{controllerOf, ringAfter, controllerStep, eventAfter, eventIn}
-use Rattle.controllerwords.specs.Controller.{loadedFrame, loadedResponse, loadedRing, loaded, savedIn}
+use Rattle.controller.specs.Controller.{controllerStep, controllerMoved, eventAfter, eventIn}
+use Rattle.controllerwords.specs.Controller.{loadedFrame, loadedResponse, loaded, savedIn}
 use Rattle.controllerwords.specs.Layout.{TIMEOUT, EAR, QUIET}
 use Rattle.frame.specs.Frame.{ends, listeningStep, listeningBuffer}
 use Rattle.frame.specs.declared.Moved.{Moved}
@@ -28,7 +28,7 @@ roundEvent ws seen busy d = eventWords (eventIn (loaded ws) seen busy d)
 
 -- The same after a frame moved: its stage, and the ring where the frame is over.
 abbrev pub movedIn : List ℕ → Moved → List ℕ
-movedIn ws m = savedIn ws (controllerOf (at ws TIMEOUT % 65536) (m .stage) (ringAfter (loadedRing ws) (m .end)))
+movedIn ws m = savedIn ws (controllerMoved (loaded ws) m)
 
 abbrev pub movedEvent : Moved → List ℕ
 movedEvent m = eventWords (eventAfter (m .end))

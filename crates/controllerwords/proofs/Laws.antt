@@ -10,7 +10,7 @@ use lib.Dec.{ltb, leb}
 use lib.ListN.{getD, set}
 use Rattle.answer.specs.declared.Response.{Response}
 use Rattle.answer.specs.declared.Response.the-variants.{Taking, Complete, TooLarge}
-use Rattle.controller.specs.Controller.{controllerOf}
+use Rattle.controller.specs.Controller.{withStage, withRing}
 use Rattle.frame.specs.declared.Stage.{Stage}
 use Rattle.frame.specs.declared.Stage.the-variants.{Free, Resting, Waiting, Sending, Listening}
 use Rattle.line.specs.declared.Listener.{Listener}
@@ -21,7 +21,7 @@ use Rattle.ring.specs.declared.Ring.{Ring}
 use Rattle.words.specs.Words.{at, numberIn, flagOf, tagOf, tagIn, listenerOf, listenerIn, senderOf}
 use Rattle.words.proofs.Laws.{past, put-back, again, odd, tag-again, tag-below, tag-meant, tag-is, none-of, unchanged}
 use Rattle.controllerwords.specs.Layout.{TIMEOUT, STAGE, WAIT, SENDER, NIBBLE, NEXT, EAR, RESPONSE, QUIET, ENTRIES, ENTRY}
-use Rattle.controllerwords.specs.Controller.{kindOf, kindTag, kindIn, loadedFrame, frameIn, responseBy, loadedResponse, responseIn, stageBy, loadedStage, tagged, sending, listening, stageIn, entryOf, entryNumber, slotsFrom, loadedRing, slotsIn, ringIn, savedIn}
+use Rattle.controllerwords.specs.Controller.{kindOf, kindTag, kindIn, loadedFrame, frameIn, responseBy, loadedResponse, responseIn, stageBy, loadedStage, tagged, sending, listening, stageIn, entryOf, entryNumber, slotsFrom, loadedRing, slotsIn, ringIn, loaded, savedIn}
 use Rattle.controllerwords.specs.RoundTrip.{SavedLoaded}
 
 -- A frame.
@@ -149,11 +149,11 @@ ring-beside ws s = λ k. record {
 }
 
 -- Stage and ring saved, the time-out not: as the whole controller is saved.
-pub ring-saved : (ws : List ℕ) (s : Stage) (r : Ring) → ringIn (stageIn ws s) r ≡ savedIn ws (controllerOf (at ws TIMEOUT % 65536) s r)
+pub ring-saved : (ws : List ℕ) (s : Stage) (r : Ring) → ringIn (stageIn ws s) r ≡ savedIn ws (withRing (withStage (loaded ws) s) r)
 ring-saved ws s r = ap (λ (l : List ℕ). ringIn (stageIn l s) r) (sym (put-back ws TIMEOUT _ (sym (again 65536 (at ws TIMEOUT)))))
 
 -- The stage alone saved: as the whole controller is saved, its ring being as it was.
-pub stage-saved : (ws : List ℕ) (s : Stage) → stageIn ws s ≡ savedIn ws (controllerOf (at ws TIMEOUT % 65536) s (loadedRing ws))
+pub stage-saved : (ws : List ℕ) (s : Stage) → stageIn ws s ≡ savedIn ws (withStage (loaded ws) s)
 stage-saved ws s = sym (ring-again (stageIn ws s)) ∙ ap (ringIn (stageIn ws s)) (ring-beside ws s) ∙ ring-saved ws s (loadedRing ws)
 
 pub saved-loaded : SavedLoaded

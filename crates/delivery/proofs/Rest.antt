@@ -6,7 +6,7 @@ use mathlib.Core.Bool.{Bool, true, false, cond, _||_, false≢true}
 use mathlib.Core.List.{List, [], _∷_, _++_}
 use borrow.Author.Tests.{le-ltb, ltb-true}
 use lib.Dec.{ltb, eqb, lit<}
-use lib.ListN.{length, getD, set, length-append, length-set}
+use lib.ListN.{length, getD, set, length-append}
 use Rattle.answer.specs.Answer.{nothingTaken, statusOf}
 use Rattle.answer.specs.declared.Response.{Response}
 use Rattle.answer.specs.declared.Response.the-variants.{Complete}
@@ -32,7 +32,7 @@ use Rattle.phase.specs.declared.Phase.the-variants.{Idle}
 use Rattle.ring.specs.Ring.{none as nobody-there, counted, live, ringOf, placeOf, isIn, cutAt, joins, joined, removed, turned, withMark, entryOf}
 use Rattle.ring.specs.declared.Entry.{Entry}
 use Rattle.ring.specs.declared.Ring.{Ring}
-use Rattle.ring.proofs.Laws.{live-ring, live-below}
+use Rattle.ring.proofs.Laws.{live-ring, live-below, marked-length}
 use Rattle.turn.specs.Turn.{turnOf, ringBy, ringEnded}
 use Rattle.unit.specs.Unit.{pullsNibble}
 use Rattle.whole.specs.Whole.{Sent}
@@ -112,8 +112,8 @@ module _ (ring : Ring) (a : Codes ring) where
 
   pub codes-marked : (m : Bool) (code : ℕ) → code < 256 → Codes (ringOf (withMark m code (live ring)))
   codes-marked m code h =
-      codes-of (withMark m code (live ring)) (let n : length (withMark m code (live ring)) ≡ length (live ring) = length-set (live ring) (placeOf code (live ring)) (entryOf code m) in let l = live-below ring in omega arith)
-      (all-set (placeOf code (live ring)) (entryOf code m) a h)
+      codes-of (withMark m code (live ring)) (let n = marked-length m code (live ring) in let l = live-below ring in omega arith)
+      (all-set (placeOf code (live ring)) _ a (all-at {P = λ (e : Entry). e .code < 256} (placeOf code (live ring)) a (omega arith)))
 
   codes-turned : Codes (ringOf (turned (live ring)))
   codes-turned = codes-of (turned (live ring)) (let n = turned-length (live ring) in let l = live-below ring in omega arith) (all-turned a)

@@ -11,9 +11,8 @@ use Rattle.message.specs.Reading.{reading}
 use Rattle.message.specs.Writing.{writing, writtenAs}
 use Rattle.command.specs.Command.{messageOf}
 use Rattle.application.specs.Calls.{controllerSubmitted}
-use Rattle.controller.specs.Controller.{controllerOf, controllerStep}
+use Rattle.controller.specs.Controller.{newController, withRing, controllerStep}
 use Rattle.controller.specs.declared.Controller.{Controller}
-use Rattle.frame.specs.declared.Stage.the-variants.{Free}
 use Rattle.header.specs.declared.Command.{Command}
 use Rattle.line.specs.declared.Lines.{Lines}
 use Rattle.queue.specs.Queue.{contents, emptyQueue}
@@ -94,7 +93,7 @@ goodAnswer = nibbleSent 0 ++ (nibbleSent 0 ++ (nibbleSent 0 ++ (nibbleSent 0 ++ 
 
 -- Ring 20, 21, 22 with time-out 8. A frame of 18 nibbles takes 56 rounds until it listens, then 8 to the time-out; 2 of rest follow.
 abbrev pub threeUnits : Controller
-threeUnits = controllerOf 8 Free (ringOf (entryOf 20 false ∷ entryOf 21 false ∷ entryOf 22 false ∷ []))
+threeUnits = withRing (newController 8) (ringOf (entryOf 20 false ∷ entryOf 21 false ∷ entryOf 22 false ∷ []))
 
 abbrev pub enable23 : Command
 enable23 = record { device = 23; command = 0x08; «logical_unit» = 0; «record_number» = 0; «buffer_length» = 0 }

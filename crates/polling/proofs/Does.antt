@@ -11,7 +11,7 @@ use Rattle.answer.specs.Answer.{takenWith, statusOf, countOf}
 use Rattle.answer.specs.declared.Response.{Response}
 use Rattle.application.specs.Calls.{Done, done, submitting, isShutOut, withCommand, withoutMark}
 use Rattle.controller.specs.Calls.{stepping}
-use Rattle.controller.specs.Controller.{controllerOf, isIdle, service, controllerStep, eventIn, ringAfter, eventAfter, frameOf}
+use Rattle.controller.specs.Controller.{isIdle, service, controllerMoved, controllerStep, eventIn, ringAfter, eventAfter, frameOf}
 use Rattle.controller.specs.declared.Controller.{Controller}
 use Rattle.frame.specs.Frame.{submittedFrame, frameStep, lentAt, nextNibble, waited, over, stays, quietAfter, ends, restStep, lastNibble}
 use Rattle.frame.specs.declared.End.the-variants.{NotYet, Over}
@@ -144,7 +144,7 @@ module _ (c : Controller) (seen : Lines) (busy : Bool) (lent response : List ℕ
   framed : isIdle (c .stage) ≡ false → Does c m
   framed i = by (moves (c .stage) (c .timeout) seen busy lent)
     where
-      mv : after c m ≡ controllerOf (c .timeout) (frameOf c seen busy lent .stage) (ringAfter (c .ring) (frameOf c seen busy lent .end))
+      mv : after c m ≡ controllerMoved c (frameOf c seen busy lent)
       mv = stepped ∙ rw i
 
       tells : eventOf c m ≡ eventAfter (frameOf c seen busy lent .end)

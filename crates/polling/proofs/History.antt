@@ -6,7 +6,7 @@ use mathlib.Core.Bool.{Bool, true, false, cond, _&&_, _||_, true≢false, false�
 use mathlib.Core.List.{List, [], _∷_, _++_, append-nil}
 use borrow.Author.Tests.{leb-false, eqb-true, eq-eqb, ne-eqb, lt-ltb}
 use lib.Dec.{eqb, ltb, leb, leb·suc-suc}
-use lib.ListN.{length, getD, set, length-append, length-set}
+use lib.ListN.{length, getD, length-append}
 use Rattle.application.specs.Calls.{isShutOut}
 use Rattle.controller.specs.Controller.{newController}
 use Rattle.controller.specs.declared.Controller.{Controller}
@@ -17,10 +17,10 @@ use Rattle.frame.specs.declared.Kind.the-variants.{Submitted, Poll, Null}
 use Rattle.frame.specs.declared.Stage.{Stage}
 use Rattle.header.specs.declared.Command.{Command}
 use Rattle.message.specs.Nibbles.{nibbleIn}
-use Rattle.ring.specs.Ring.{entryOf, none, counted, live, ringOf, placeOf, isIn, cutAt, joined, removed, turned, withMark, isMarked}
+use Rattle.ring.specs.Ring.{entryOf, none, counted, live, ringOf, placeOf, isIn, cutAt, joined, removed, turned, markAt, withMark, isMarked}
 use Rattle.ring.specs.declared.Entry.{Entry}
 use Rattle.ring.specs.declared.Ring.{Ring}
-use Rattle.ring.proofs.Laws.{live-ring, live-within, out-in, joins-back}
+use Rattle.ring.proofs.Laws.{live-ring, live-within, marked-length, out-in, joins-back}
 use Rattle.turn.specs.Turn.{turnOf, ringBy, ringEnded, eventBy, eventOf as frameEvent}
 use Rattle.turn.specs.declared.Event.{Event}
 use Rattle.turn.specs.declared.Event.the-variants.{Nothing, Ended, Handed}
@@ -89,8 +89,8 @@ module _ (own : ℕ) where
   marks-set m [] = refl
   marks-set m (e ∷ es) = by (eqb (e .code) own) refl (marks-set m es)
     where
-      by : (t : Bool) → eqb (e .code) own ≡ t → marksOf own (withMark m own es) ≡ withHead m (marksOf own es) → marksOf own (set (e ∷ es) (cond t 0 (suc (placeOf own es))) (entryOf own m)) ≡ withHead m (cond t (e .marked ∷ marksOf own es) (marksOf own es))
-      by true x g = ap (λ (t : Bool). cond t (m ∷ marksOf own es) (marksOf own es)) (eq-eqb own own refl)
+      by : (t : Bool) → eqb (e .code) own ≡ t → marksOf own (withMark m own es) ≡ withHead m (marksOf own es) → marksOf own (markAt m (cond t 0 (suc (placeOf own es))) (e ∷ es)) ≡ withHead m (cond t (e .marked ∷ marksOf own es) (marksOf own es))
+      by true x g = ap (λ (t : Bool). cond t (m ∷ marksOf own es) (marksOf own es)) x
       by false x g = ap (λ (t : Bool). cond t (e .marked ∷ marksOf own (withMark m own es)) (marksOf own (withMark m own es))) x ∙ g
 
   -- Of another.
@@ -111,9 +111,9 @@ module _ (own : ℕ) where
     marks-set-other m (e ∷ es) = by (eqb (e .code) code) refl (marks-set-other m es)
       where
         by : (t : Bool) → eqb (e .code) code ≡ t → marksOf own (withMark m code es) ≡ marksOf own es
-            → marksOf own (set (e ∷ es) (cond t 0 (suc (placeOf code es))) (entryOf code m)) ≡ cond (eqb (e .code) own) (e .marked ∷ marksOf own es) (marksOf own es)
+            → marksOf own (markAt m (cond t 0 (suc (placeOf code es))) (e ∷ es)) ≡ cond (eqb (e .code) own) (e .marked ∷ marksOf own es) (marksOf own es)
         by true x g =
-            ap (λ (t : Bool). cond t (m ∷ marksOf own es) (marksOf own es)) other
+            ap (λ (t : Bool). cond t (m ∷ marksOf own es) (marksOf own es)) (same-code e x)
             ∙ sym (ap (λ (t : Bool). cond t (e .marked ∷ marksOf own es) (marksOf own es)) (same-code e x))
         by false x g = ap (λ (bs : List Bool). cond (eqb (e .code) own) (e .marked ∷ bs) bs) g
 
@@ -372,7 +372,7 @@ module _ (own : ℕ) where
       by (clears code x marked b v u ring st) = record {
         agrees = subst (λ (y : Ring). Agrees (pending own p c m) (live y)) (sym ring) (subst (λ (q : Bool). Agrees q (live (ringOf (withMark false code (live (c .ring)))))) (sym history) (set-by p (c .ring) (ok .agrees) false code (eqb code own) refl there));
         aboard = subst (λ (y : Ring). Aboards (live y) (held (after c m .stage))) (sym ring) (subst (λ (l : List Entry). Aboards l (held (after c m .stage))) (sym (live-ring (withMark false code (live (c .ring))) (short-marked false code (c .ring))))
-            (subst (λ (s : Stage). Aboards (withMark false code (live (c .ring))) (held s)) (sym st) (aboards-as (live (c .ring)) (withMark false code (live (c .ring))) (held (c .stage)) (some-set false code (live (c .ring)) (eqb code own) refl) (length-set (live (c .ring)) (placeOf code (live (c .ring))) (entryOf code false)) (ok .aboard))));
+            (subst (λ (s : Stage). Aboards (withMark false code (live (c .ring))) (held s)) (sym st) (aboards-as (live (c .ring)) (withMark false code (live (c .ring))) (held (c .stage)) (some-set false code (live (c .ring)) (eqb code own) refl) (marked-length false code (live (c .ring))) (ok .aboard))));
         full = subst Full (sym ring) (full-made (withMark false code (live (c .ring))) (short-marked false code (c .ring)));
       }
         where

@@ -1,14 +1,15 @@
 -- Where a unit stands in the ring behind each thing that can be done to the ring.
 use Prim.Native.Nat.{ℕ, suc, _+_, _<_, _≤_}
 use native.Mathlib.Omega.{arith}
-use mathlib.Core.Path.{_≡_, refl, sym, _∙_, ap}
+use mathlib.Core.Path.{_≡_, refl, _∙_, ap}
 use mathlib.Core.Bool.{Bool, true, false, cond, true≢false}
 use mathlib.Core.List.{List, [], _∷_, _++_}
 use borrow.Author.Tests.{eqb-true}
 use lib.Dec.{eqb}
-use lib.ListN.{length, set, length-set, length-append}
-use Rattle.ring.specs.Ring.{entryOf, placeOf, cutAt, joins, joined, removed, turned, withMark}
+use lib.ListN.{length, length-append}
+use Rattle.ring.specs.Ring.{entryOf, placeOf, cutAt, joins, joined, removed, turned, markAt, withMark}
 use Rattle.ring.specs.declared.Entry.{Entry}
+use Rattle.ring.proofs.Laws.{marked-length}
 
 -- Found in a list: before its end.
 abbrev pub Found : ℕ → List Entry → Type 0
@@ -64,14 +65,14 @@ pub place-marked : (own code : ℕ) (m : Bool) (l : List Entry) → placeOf own 
 place-marked own code m [] = refl
 place-marked own code m (e ∷ es) = by (eqb (e .code) code) refl (place-marked own code m es)
   where
-    by : (t : Bool) → eqb (e .code) code ≡ t → placeOf own (withMark m code es) ≡ placeOf own es → placeOf own (set (e ∷ es) (cond t 0 (suc (placeOf code es))) (entryOf code m)) ≡ cond (eqb (e .code) own) 0 (suc (placeOf own es))
-    by true g next = ap (λ (x : ℕ). cond (eqb x own) 0 (suc (placeOf own es))) (sym (eqb-true (e .code) code g))
+    by : (t : Bool) → eqb (e .code) code ≡ t → placeOf own (withMark m code es) ≡ placeOf own es → placeOf own (markAt m (cond t 0 (suc (placeOf code es))) (e ∷ es)) ≡ cond (eqb (e .code) own) 0 (suc (placeOf own es))
+    by true g next = refl
     by false g next = ap (λ (n : ℕ). cond (eqb (e .code) own) 0 (suc n)) next
 
 pub found-marked : (own code : ℕ) (m : Bool) (l : List Entry) → Found own l → Found own (withMark m code l)
 found-marked own code m l h =
     let p = place-marked own code m l in
-    let n : length (withMark m code l) ≡ length l = length-set l (placeOf code l) (entryOf code m) in
+    let n : length (withMark m code l) ≡ length l = marked-length m code l in
     omega arith
 
 -- Somebody joins, or does not.

@@ -6,17 +6,17 @@ use mathlib.Core.Bool.{Bool, true, false, cond, _&&_, _||_}
 use mathlib.Core.List.{List, [], _∷_}
 use borrow.Author.Tests.{lt-ltb, ltb-true}
 use lib.Dec.{eqb}
-use lib.ListN.{length, length-set}
+use lib.ListN.{length}
 use Rattle.controller.specs.declared.Controller.{Controller}
 use Rattle.delivery.proofs.Rest.{cut-below, turned-length, joined-length}
 use Rattle.frame.specs.declared.Frame.{Frame}
 use Rattle.frame.specs.declared.Kind.{Kind}
 use Rattle.frame.specs.declared.Kind.the-variants.{Submitted, Poll, Null}
 use Rattle.header.specs.declared.Command.{Command}
-use Rattle.ring.specs.Ring.{live, ringOf, placeOf, joins, joined, removed, turned, withMark, entryOf}
+use Rattle.ring.specs.Ring.{live, ringOf, placeOf, joins, joined, removed, turned, withMark}
 use Rattle.ring.specs.declared.Entry.{Entry}
 use Rattle.ring.specs.declared.Ring.{Ring}
-use Rattle.ring.proofs.Laws.{live-ring, live-below}
+use Rattle.ring.proofs.Laws.{live-ring, live-below, marked-length}
 use Rattle.turn.specs.Turn.{ringBy}
 use Rattle.controller.specs.Controller.{service}
 use Rattle.polling.specs.Moves.{running, Move, after, begins, services, ahead, isFor, Without, Spared, spared}
@@ -32,7 +32,7 @@ pub short-removed : (code : ℕ) (ring : Ring) → length (removed code (live ri
 short-removed code ring = let h = cut-below (placeOf code (live ring)) (live ring) in let l = live-below ring in omega arith
 
 pub short-marked : (m : Bool) (code : ℕ) (ring : Ring) → length (withMark m code (live ring)) ≤ 16
-short-marked m code ring = let n : length (withMark m code (live ring)) ≡ length (live ring) = length-set (live ring) (placeOf code (live ring)) (entryOf code m) in let l = live-below ring in omega arith
+short-marked m code ring = let n = marked-length m code (live ring) in let l = live-below ring in omega arith
 
 pub short-turned : (ring : Ring) → length (turned (live ring)) ≤ 16
 short-turned ring = let n = turned-length (live ring) in let l = live-below ring in omega arith

@@ -10,7 +10,7 @@ use borrow.Author.Tests.{lt-ltb, le-ltb, eq-eqb, ne-eqb}
 use lib.Dec.{eqb}
 use lib.ListN.{length, take, drop, getD, set, length-take, length-append, length-set, length-map, List·getD-append, List·getD-eq-default, drop-of-length-le}
 use lib.Seq.{getD-take, getD-at, getD-set-same, getD-set-other, drop-cons, drop-length}
-use Rattle.ring.specs.Ring.{entryOf, none, counted, live, slotsFrom, ringOf, placeOf, isIn, cutAt, joined, turned}
+use Rattle.ring.specs.Ring.{entryOf, none, counted, live, slotsFrom, ringOf, placeOf, isIn, cutAt, joined, turned, withMark}
 use Rattle.ring.specs.declared.Entry.{Entry}
 use Rattle.ring.specs.declared.Ring.{Ring}
 
@@ -129,6 +129,10 @@ put-in l q at e p h =
       entries = (ap (λ (x : Ring). set (x .entries) at e) p ∙ slots-set 16 0 at at l e (sym (zero-add at)) h) i;
       count = (ap (λ (x : Ring). x .count) p ∙ sym (length-set l at e)) i;
     }
+
+-- A mark takes no entry away.
+pub marked-length : (marked : Bool) (code : ℕ) (l : List Entry) → length (withMark marked code l) ≡ length l
+marked-length marked code l = length-set l (placeOf code l) _
 
 -- The front moves to the back.
 pub turned-empty : (l : List Entry) → length l ≤ 0 → cutAt 0 l ≡ turned l

@@ -60,9 +60,15 @@ abbrev pub turned : List Entry → List Entry
 turned [] = []
 turned (e ∷ es) = es ++ (e ∷ [])
 
--- An entry is marked when its poll ends with 00; acknowledging clears the mark.
+-- An entry is marked when its poll ends with 00; acknowledging clears the mark. Nothing else of the entry changes.
+abbrev pub marking : Bool → Entry → Entry
+marking marked e = record { code = e .code; marked = marked }
+
+abbrev pub markAt : Bool → ℕ → List Entry → List Entry
+markAt marked i l = set l i (marking marked (getD l i none))
+
 abbrev pub withMark : Bool → ℕ → List Entry → List Entry
-withMark marked code l = set l (placeOf code l) (entryOf code marked)
+withMark marked code l = markAt marked (placeOf code l) l
 
 -- Whether the code is in the ring and marked.
 abbrev pub isMarked : ℕ → List Entry → Bool

@@ -130,7 +130,10 @@ impl Ring {
     pub fn with_mark(self, code: u8, marked: bool) -> Ring
         ensures { λ r. ⌜ r ≡ ringOf (withMark marked code (live self)) ⌝ }
     {
-        self.put(self.find(code), Entry { code, marked })
+        let at = self.find(code);
+        let mut e = self.entry(at);
+        e.marked = marked;
+        self.put(at, e)
     }
 
     // As it is, the unused slots cleared.
