@@ -107,7 +107,8 @@ static uint32_t read_response(const uint8_t *message, size_t n)
 }
 #endif
 
-enum { MOST = 16 };
+/* The most units on a bus, and the code of the first; the others have the codes behind it. All of them are serial units. */
+enum { MOST = 16, FIRST = 100 };
 
 static uint8_t data[65536], response[65536], message[65536 + 16];
 static uint8_t command[MOST][256], input[MOST][256], output[MOST][256];
@@ -165,12 +166,12 @@ static void make_bus(size_t count)
 {
     make_controller(&master, 8);
     for (size_t i = 0; i < count; i++)
-        make_unit(&units[i], (uint8_t)(20 + i));
+        make_unit(&units[i], (uint8_t)(FIRST + i));
     data[0] = 0x80;
     data[1] = 0;
     data[2] = 0xC0;
     if (count > 0)
-        frame(count, 20, 0x00, 4, 3, 4);
+        frame(count, FIRST, 0x00, 4, 3, 4);
 }
 
 /* ---- Steps ------------------------------------------------------------- */
@@ -227,7 +228,7 @@ static void unit_sitting_out(size_t size, long n)
 /* 65,535 data bytes are announced; before the last of them comes the unit is set back. */
 static void unit_listening(size_t size, long n)
 {
-    static const uint8_t huge[9] = { 20, 4, 0, 0, 0, 0, 0, 0xFF, 0xFF };
+    static const uint8_t huge[9] = { FIRST, 4, 0, 0, 0, 0, 0, 0xFF, 0xFF };
     unit kept;
 
     (void)size;
@@ -250,7 +251,7 @@ static void unit_responding(size_t size, long n)
     make_bus(1);
     for (int i = 0; i < 128; i++)
         feed(&units[0], input[0], (uint8_t)i);
-    must(submit(&master, 20, 0x03, 128, 0, 128) == 0, "a command is refused");
+    must(submit(&master, FIRST, 0x03, 128, 0, 128) == 0, "a command is refused");
     for (int i = 0; i < 72 + 8; i++)
         round_of(1, 0, 128);
     kept = units[0];
@@ -276,7 +277,7 @@ static void controller_sending(size_t size, long n)
 
     (void)size;
     make_controller(&master, 200);
-    submit(&master, 20, 4, 0, 65535, 0);
+    submit(&master, FIRST, 4, 0, 65535, 0);
     kept = master;
     for (long i = 0; i < n; i++) {
         if (i % 400000 == 0)
@@ -293,7 +294,7 @@ static void controller_listening(size_t size, long n)
 
     (void)size;
     make_controller(&master, 65535);
-    submit(&master, 20, 3, 65535, 0, 65535);
+    submit(&master, FIRST, 3, 65535, 0, 65535);
     for (int i = 0; i < 3 + 3 * 18; i++)
         step_controller(&master, true, false, 15, data, 0, response, 65535);
     for (int i = 0; i < 16; i++)
@@ -331,7 +332,7 @@ static void frame_write(size_t size, long n)
     keep();
     for (long i = 0; i < n; i++) {
         again();
-        frame(1, 20, 0x04, 0, size, 0);
+        frame(1, FIRST, 0x04, 0, size, 0);
     }
 }
 
@@ -343,7 +344,7 @@ static void frame_read(size_t size, long n)
     keep();
     for (long i = 0; i < n; i++) {
         again();
-        frame(1, 20, 0x03, (uint16_t)size, 0, size);
+        frame(1, FIRST, 0x03, (uint16_t)size, 0, size);
     }
 }
 
@@ -354,7 +355,7 @@ static void frame_enable(size_t size, long n)
     keep();
     for (long i = 0; i < n; i++) {
         again();
-        frame(1, 20, 0x08, 0, 0, 0);
+        frame(1, FIRST, 0x08, 0, 0, 0);
     }
 }
 
@@ -363,7 +364,7 @@ static void frame_service(size_t size, long n)
 {
     (void)size;
     make_bus(1);
-    frame(1, 20, 0x08, 0, 0, 0);
+    frame(1, FIRST, 0x08, 0, 0, 0);
     must(raise_request(&units[0]) == 0, "a request is refused");
     while ((unit_pulls(&units[0]) & 32u) == 0)
         round_of(1, 0, 0);
@@ -387,7 +388,7 @@ static void round_in_frames(size_t size, long n)
     make_bus(size);
     for (long i = 0; i < n; i++) {
         if (i % 101 == 0)
-            must(submit(&master, 20, 0x09, 0, 0, 0) == 0, "a command is refused");
+            must(submit(&master, FIRST, 0x09, 0, 0, 0) == 0, "a command is refused");
         sink = round_of(size, 0, 0);
     }
 }
@@ -437,7 +438,7 @@ static double nanoseconds(size_t which, size_t size, long n)
 {
     clock_t begin;
 
-    make_unit(&units[0], 20);
+    make_unit(&units[0], FIRST);
     begin = clock();
     works[which].does(size, n);
     return (double)(clock() - begin) * 1e9 / CLOCKS_PER_SEC / (double)n;
@@ -469,7 +470,7 @@ int main(int argc, char **argv)
         printf("%.1f\n", least);
         return 0;
     }
-    make_unit(&units[0], 20);
+    make_unit(&units[0], FIRST);
     works[which].does(size, n);
     return 0;
 }
