@@ -5,7 +5,9 @@ use mathlib.Core.Path.{_≡_, refl, sym, _∙_, subst}
 use mathlib.Core.Bool.{Bool, true, false, cond, _&&_, not, false≢true}
 use mathlib.Core.List.{List, [], _∷_}
 use lib.Dec.{eqb, lit<}
-use Rattle.delivery.specs.Calls.{called, host, raises}
+use Rattle.delivery.specs.Calls.{called, host}
+use Rattle.inside.specs.Calls.{raises}
+use Rattle.kind.specs.Kinds.{kindOf}
 use Rattle.delivery.specs.Demand2.{Run, start, a-round, a-call}
 use Rattle.story.specs.Frames.{quietBus, rounds}
 use Rattle.delivery.specs.Lists.{none, also}
@@ -21,6 +23,7 @@ use Rattle.polling.proofs.Chain.{services-then}
 use Rattle.polling.proofs.Turns.{none-counted, one-counted}
 
 pub reached : Reached
+unfolding kindOf
 reached = (refl, (refl, refl))
 
 -- Harmless frames, tested round by round.
@@ -57,6 +60,7 @@ calm-on own (suc n) {v} {u} r c e =
     calm-on own n (a-round r quietly) (c, harmless own (running (u .controller .stage)) (left (isHarmless own (running (u .controller .stage))) (calmFor own n (round u quietly)) e)) (right (isHarmless own (running (u .controller .stage))) (calmFor own n (round u quietly)) e)
 
 calm-then : calmFor 21 240 raised ≡ true
+unfolding kindOf
 calm-then = refl
 
 -- Service frames counted round by round.
@@ -73,9 +77,11 @@ count-on (suc k) {v} {u} more n e = count-on k (a-round more quietly) (cond (beg
     by false b = let a = services-then more (moveOf u quietly ∷ []) in let no-more = none-counted (u .controller) (moveOf u quietly) [] b in omega arith
 
 two-begun : countFrom 240 raised 0 ≡ 2
+unfolding kindOf
 two-begun = refl
 
 pub met : Met
+unfolding kindOf
 met =
     let a = then quietBus 170 (opens 20 (lit< tt)) quietBus start in
     let b = then quietBus 130 (enables 20 (lit< tt)) (rounds 170 (called quietBus (opens 20 (lit< tt)))) a in

@@ -4,6 +4,9 @@ use native.Mathlib.Omega.{arith}
 use mathlib.Core.Path.{_≡_, refl}
 use mathlib.Core.Bool.{false}
 use Rattle.bus.specs.Bus.{newStation}
+use Rattle.inside.specs.Inside.{insideOf}
+use Rattle.inside.specs.Lawful.{Lent}
+use Rattle.kind.specs.Kinds.{kindOf}
 use Rattle.message.proofs.Fields.{zeros-below}
 use Rattle.unit.specs.Unit.{newUnit}
 use Rattle.delivery.specs.Demand2.{New, QuietStart, Run, start, a-round, a-call}
@@ -13,6 +16,7 @@ use Rattle.delivery.specs.Lists.{none, also}
 use Rattle.delivery.specs.World.{World, nobody, another}
 
 pub story : Story
+unfolding kindOf
 story = refl
 
 -- Rounds of a run are a run.
@@ -20,15 +24,16 @@ abbrev pub runs-on : {w : World} (n : ℕ) {v : World} → Run w v → Run w (ro
 runs-on zero r = r
 runs-on (suc n) r = runs-on n (a-round r (record { here = false; there = 0 }))
 
-new-unit : (own retry : ℕ) → (own ≡ 0 → ⊥) → New (newStation (newUnit own retry))
-new-unit own retry coded = record { own = own; retry = retry; coded = coded; is-new = refl; lent = record { room = omega arith; memory = refl; bytes = zeros-below 256 } }
+new-unit : (own retry : ℕ) → (own ≡ 0 → ⊥) → Lent (kindOf own) (insideOf (newStation (newUnit own retry))) → New (newStation (newUnit own retry))
+new-unit own retry coded lent = record { own = own; retry = retry; coded = coded; is-new = refl; room = refl; lent = lent }
 
 quiet : QuietStart quietBus
+unfolding kindOf
 quiet = record {
   timeout = 8;
   least = omega arith;
   is-new = refl;
-  units = also (new-unit 20 4 (λ e. absurd (omega arith))) (also (new-unit 21 4 (λ e. absurd (omega arith))) none);
+  units = also (new-unit 20 4 (λ e. absurd (omega arith)) (refl, zeros-below 256)) (also (new-unit 21 4 (λ e. absurd (omega arith)) (refl, zeros-below 256)) none);
   codes = another (also (λ (e : _≡_ {A = ℕ} 21 20). absurd (omega arith)) none) (another none nobody);
 }
 
@@ -37,6 +42,7 @@ pub then : (w : World) (n : ℕ) (call : Call) (v : World) → Run w v → Run w
 then w n call v r = runs-on n (a-call r call)
 
 pub meets : Meets
+unfolding kindOf
 meets =
     let a = then quietBus 170 opens quietBus start in
     let b = then quietBus 150 writes opened a in

@@ -5,9 +5,11 @@ use mathlib.Core.Path.{_≡_}
 use mathlib.Core.Bool.{true, false, cond}
 use mathlib.Core.List.{List, [], _∷_, _++_}
 use lib.Dec.{lit<}
-use Rattle.delivery.specs.Calls.{Call, host, submits, raises, called}
+use Rattle.delivery.specs.Calls.{Call, host, submits, called}
+use Rattle.inside.specs.Calls.{raises}
 use Rattle.delivery.specs.Demand2.{QuietStart, Run, inFrame}
 use Rattle.delivery.specs.Lists.{All}
+use Rattle.kind.specs.Kinds.{kindOf}
 use Rattle.ring.specs.Ring.{live, isMarked}
 use Rattle.polling.specs.Chain.{HasCode, Requests, Calm}
 use Rattle.delivery.specs.Ends.{quietly}
@@ -28,12 +30,15 @@ abbrev pub enables : (device : ℕ) → device < 256 → Call
 enables device h = submits (commandTo device 0x08 0) [] [] (byteRange device 0x08 0 h (lit< tt) (lit< tt)) noBytes
 
 abbrev pub firstIn : World
+unfolding kindOf
 firstIn = rounds 130 (called (rounds 170 (called quietBus (opens 20 (lit< tt)))) (enables 20 (lit< tt)))
 
 abbrev pub bothIn : World
+unfolding kindOf
 bothIn = rounds 130 (called (rounds 170 (called firstIn (opens 21 (lit< tt)))) (enables 21 (lit< tt)))
 
 abbrev pub raised : World
+unfolding kindOf
 raised = called bothIn (host 1 raises)
 
 -- What happens in n rounds with no host busy: the service frames that begin, and what the application is told.

@@ -11,10 +11,11 @@ use Rattle.frame.specs.declared.Frame.{Frame}
 use Rattle.frame.specs.Frame.{nullFrame}
 use Rattle.frame.specs.declared.Stage.{Stage}
 use Rattle.frame.specs.declared.Stage.the-variants.{Free, Resting, Waiting, Sending, Listening}
+use Rattle.kind.specs.Kinds.{kindOf}
 use Rattle.queue.specs.declared.Queue.{Queue}
 use Rattle.queue.specs.Queue.{emptyQueue}
 use Rattle.ring.specs.Ring.{entryOf}
-use Rattle.serial.specs.Serial.{newSerial}
+use Rattle.serial.specs.Serial.{newSerial, withOpening, withService, withRequest, withInput, withOutput}
 use Rattle.serial.specs.declared.Mode.the-variants.{Update}
 use Rattle.serial.specs.declared.Opening.the-variants.{OpenFor}
 use mathlib.Core.Path.{_≡_}
@@ -26,7 +27,8 @@ use Rattle.ring.specs.declared.Entry.{Entry}
 use Rattle.serial.specs.declared.Serial.{Serial}
 use Rattle.header.specs.declared.Command.{Command}
 use Rattle.unit.specs.Unit.{newUnit}
-use Rattle.delivery.specs.Calls.{Call, host, submits, feeds, raises, called}
+use Rattle.delivery.specs.Calls.{Call, host, submits, called}
+use Rattle.inside.specs.Calls.{feeds, raises}
 use Rattle.delivery.specs.World.{World, round}
 
 abbrev pub quietBus : World
@@ -82,24 +84,31 @@ raisesOne = host 0 raises
 
 -- The story, part by part. The second raise finds its first request unacknowledged.
 abbrev pub opened : World
+unfolding kindOf
 opened = rounds 170 (called quietBus opens)
 
 abbrev pub written : World
+unfolding kindOf
 written = rounds 150 (called opened writes)
 
 abbrev pub fed : World
+unfolding kindOf
 fed = called (called written feedsOne) feedsTwo
 
 abbrev pub read : World
+unfolding kindOf
 read = rounds 150 (called fed reads)
 
 abbrev pub enabled : World
+unfolding kindOf
 enabled = rounds 130 (called read enables)
 
 abbrev pub polled : World
+unfolding kindOf
 polled = rounds 130 (called enabled raisesOne)
 
 abbrev pub nulled : World
+unfolding kindOf
 nulled = rounds 20 (called polled raisesOne)
 
 -- What can be seen of it: the frame that runs, if one does, the ring, the response buffer, and the units' states.
@@ -125,7 +134,7 @@ seenOf w = record { frame = frameNow (w .controller .stage); ring = live (w .con
 
 -- The first unit, open for update with length 80, and the second, which nobody has spoken to.
 abbrev pub both : Bool → Bool → Queue → Queue → List Serial
-both service request input output = record { opening = OpenFor Update 80; enabled = service; requesting = request; input = input; output = output } ∷ newSerial ∷ []
+both service request input output = withOutput (withInput (withRequest (withService (withOpening newSerial (OpenFor Update 80)) service) request) input) output ∷ newSerial ∷ []
 
 abbrev pub queueOf : ℕ → ℕ → Queue
 queueOf head count = record { head = head; count = count }
