@@ -1,6 +1,6 @@
 -- A host call in mid-frame leaves every stage as it is: a unit's host reaches its state and its queues, and nothing of its lines.
 use Prim.Native.Nat.{ℕ, zero, suc, _+_}
-use mathlib.Core.Path.{_≡_, sym, _∙_, ap, subst}
+use mathlib.Core.Path.{sym, _∙_, ap, subst}
 use mathlib.Core.Bool.{Bool}
 use mathlib.Core.List.{List}
 use lib.ListN.{length}

@@ -415,15 +415,15 @@ past-round {T} {v} own busy o e a =
     let step = on-step o e st host (p .1) in
     subst Past (sym (step .phase)) (past-step (st .unit .own) (st .unit .serial) (levels v) host (st .buffer) (st .input) (p .0 (sym (step .own) ∙ g)))) (busy .there) (all-zip a (on-sound o))
 
-past-called : (own i : ℕ) (call : HostCall) {ss : List Station} → All Sound ss → All (PastAt own) ss → All (PastAt own) (calledAt i call ss)
-past-called own i call none none = none
-past-called own zero call (also {x = st} s b) (also p a) = let k = unit-called call st in also (λ e. subst Past (sym (k .phase)) (p (sym (k .own) ∙ e))) a
-past-called own (suc i) call (also s b) (also p a) = also p (past-called own i call b a)
+past-called : (own i : ℕ) (call : HostCall) {ss : List Station} → All (PastAt own) ss → All (PastAt own) (calledAt i call ss)
+past-called own i call none = none
+past-called own zero call (also {x = st} p a) = let k = unit-called call st in also (λ e. subst Past (sym (k .phase)) (p (sym (k .own) ∙ e))) a
+past-called own (suc i) call (also p a) = also p (past-called own i call a)
 
-past-call : {T : Moment} {v : World} (own : ℕ) (call : Call) → On T v → All (PastAt own) (v .units) → All (PastAt own) (called v call .units)
-past-call own (at-unit i call) o a = past-called own i call (on-sound o) a
-past-call own (submits k d response r b) o a = a
-past-call own (acknowledges code h) o a = a
+past-call : (v : World) (own : ℕ) (call : Call) → All (PastAt own) (v .units) → All (PastAt own) (called v call .units)
+past-call v own (at-unit i call) a = past-called own i call a
+past-call v own (submits k d response r b) a = a
+past-call v own (acknowledges code h) a = a
 
 took-past : (w v : World) → QuietStart w → (r : Run w v) (own : ℕ) (x : Inside) → Took r own x → All (PastAt own) (v .units)
 took-past w v q start own x t = absurd t
@@ -432,7 +432,7 @@ took-past w _ q (a-round {v = v} r busy) own x (takes-it st after b e now o y) =
     let mine = same-unit (on-different (every-run w v q r)) b b′ (o ∙ sym g ∙ own-kept st′ (levels v) host) in
     subst (λ (z : Station). Past (z .unit .phase)) (mine .1) (answered-past (after .unit .phase) now)) (on-sound (every-run w v q r))
 took-past w _ q (a-round {v = v} r busy) own x (took-it e t) = past-round own busy (every-run w v q r) e (took-past w v q r own x t)
-took-past w _ q (a-call {v = v} r call) own x t = past-call own call (every-run w v q r) (took-past w v q r own x t)
+took-past w _ q (a-call {v = v} r call) own x t = past-call v own call (took-past w v q r own x t)
 
 not-again : (w v : World) → QuietStart w → (r : Run w v) (busy : Busy) (own : ℕ) (x : Inside) → inFrame (v .controller .stage) ≡ true → Took r own x
     → (st after : Station) → Becomes (levels v) (busy .there) (v .units) st after → isAnswered (st .unit .phase) ≡ false → isAnswered (after .unit .phase) ≡ true → st .unit .own ≡ own → ⊥

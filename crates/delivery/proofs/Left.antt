@@ -2,7 +2,7 @@
 use Prim.Native.Nat.{ℕ, zero, suc, _+_, _-_, _*_}
 use mathlib.Core.Path.{_≡_, refl, sym, _∙_, ap}
 use mathlib.Core.Bool.{Bool, cond}
-use mathlib.Core.List.{List}
+use mathlib.Core.List.{List, [], _∷_}
 use Rattle.application.specs.Calls.{Done, acknowledging, withoutMark}
 use Rattle.bus.specs.Bus.{levelsWith}
 use Rattle.bus.specs.declared.Station.{Station}
@@ -26,17 +26,16 @@ use Rattle.delivery.specs.Lists.{All, none, also, One, this, that}
 use Rattle.delivery.specs.Stages.{Sound, Sits, Talk, talks, InFrame, begins, sends, hears, waits}
 use Rattle.delivery.specs.World.{World, levels}
 use Rattle.delivery.proofs.Promise.{last-is, promise-called}
-use Rattle.delivery.proofs.Lists.{all-map, one-all}
 use Rattle.delivery.proofs.Run.{not-idle, frame-busy}
 
 -- What a unit pulls is not its host's.
 pulls-called : {call : HostCall} {st after : Station} → Called call st after → pullsOf (after .unit) ≡ pullsOf (st .unit)
 pulls-called k = λ i. record { bav = k .asking i; hsk = pullsHsk (k .phase i); nibble = pullsNibble (k .phase i) }
 
-levels-called : (l : Lines) (i : ℕ) (call : HostCall) {ss : List Station} → All Sound ss → levelsWith l (calledAt i call ss) ≡ levelsWith l ss
-levels-called l i call none = refl
-levels-called l zero call (also {x = st} {xs = ss} s a) = ap (λ (x : Lines). levelsWith (wired l x) ss) (pulls-called (unit-called call st))
-levels-called l (suc i) call (also {x = st} s a) = levels-called (wired l (pullsOf (st .unit))) i call a
+levels-called : (l : Lines) (i : ℕ) (call : HostCall) (ss : List Station) → levelsWith l (calledAt i call ss) ≡ levelsWith l ss
+levels-called l i call [] = refl
+levels-called l zero call (st ∷ ss) = ap (λ (x : Lines). levelsWith (wired l x) ss) (pulls-called (unit-called call st))
+levels-called l (suc i) call (st ∷ ss) = levels-called (wired l (pullsOf (st .unit))) i call ss
 
 -- How long the unit that responds still takes is not either.
 talk-same : {T : Moment} {c : Command} {d : List ℕ} {stores : Bool} {found : List ℕ} {ear : Listener} {taken : Response} {quiet : ℕ} {buffer : List ℕ} {call : HostCall} {st after : Station} (low : Bool) (rest rest′ : ℕ) → Called call st after → Talk T c d stores found ear taken quiet buffer st
@@ -63,12 +62,12 @@ one-units low rest zero call (that {x = st} {xs = ss} q o) = sits-same low (unit
 one-units low rest (suc i) call (that {x = st} q o) = ap (phaseLeft (st .unit .phase) (st .unit .serial .input) low) (one-units low rest i call o)
 
 host-left : {T : Moment} {f : Frame} {found : List ℕ} {w : World} (i : ℕ) (call : HostCall) → InFrame T f found w → left (called w (host i call)) ≡ left w
-host-left {T} {f} {found} {w} i call (begins {timeout = timeout} {units = units} framed d a) = ap (λ (l : Lines). stageLeft (w .controller .stage) timeout units (l .hsk)) (levels-called (framePulls (w .controller .stage)) i call (all-map (λ st p. p .1) a))
-host-left {T} {f} {found} {w} i call (sends j sender {timeout = timeout} {units = units} framed d s l a) = ap (λ (x : Lines). stageLeft (w .controller .stage) timeout units (x .hsk)) (levels-called (framePulls (w .controller .stage)) i call (all-map (λ st p. p .1) a))
+host-left {T} {f} {found} {w} i call (begins {timeout = timeout} {units = units} framed d a) = ap (λ (l : Lines). stageLeft (w .controller .stage) timeout units (l .hsk)) (levels-called (framePulls (w .controller .stage)) i call units)
+host-left {T} {f} {found} {w} i call (sends j sender {timeout = timeout} {units = units} framed d s l a) = ap (λ (x : Lines). stageLeft (w .controller .stage) timeout units (x .hsk)) (levels-called (framePulls (w .controller .stage)) i call units)
 host-left {T} {f} {found} {w} i call (hears ear taken quiet {timeout = timeout} {units = units} framed d l o) =
-    ap (λ (x : Lines). unitsLeft (calledAt i call units) (x .hsk) (timeout - quiet)) (levels-called (framePulls (w .controller .stage)) i call (one-all (λ st p. p .1) (λ st p. p .1) o)) ∙ one-units (levels w .hsk) (timeout - quiet) i call o
+    ap (λ (x : Lines). unitsLeft (calledAt i call units) (x .hsk) (timeout - quiet)) (levels-called (framePulls (w .controller .stage)) i call units) ∙ one-units (levels w .hsk) (timeout - quiet) i call o
 host-left {T} {f} {found} {w} i call (waits quiet {timeout = timeout} {units = units} framed d a why) =
-    ap (λ (x : Lines). unitsLeft (calledAt i call units) (x .hsk) (timeout - quiet)) (levels-called (framePulls (w .controller .stage)) i call (all-map (λ st p. p .1) a)) ∙ sits-units (levels w .hsk) (timeout - quiet) i call a
+    ap (λ (x : Lines). unitsLeft (calledAt i call units) (x .hsk) (timeout - quiet)) (levels-called (framePulls (w .controller .stage)) i call units) ∙ sits-units (levels w .hsk) (timeout - quiet) i call a
 
 acknowledged-left : (w : World) (code : ℕ) (a : Answer Done) → left (record { controller = kept a (withoutMark (w .controller) code) (w .controller); units = w .units; lent = w .lent; response = w .response }) ≡ left w
 acknowledged-left w code (gives x) = refl

@@ -1,6 +1,6 @@
 -- A promised response, by the laws of its unit's kind: it is one, it fits, and its bytes and length are those of the moment in which it was
 -- given, whatever has been called since.
-use Prim.Native.Nat.{ℕ, _+_, _-_, _*_}
+use Prim.Native.Nat.{ℕ, _-_}
 use native.Mathlib.Omega.{arith}
 use mathlib.Core.Path.{_≡_, sym, _∙_, ap, subst}
 use mathlib.Core.List.{List, _∷_}

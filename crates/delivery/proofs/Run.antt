@@ -29,40 +29,37 @@ use Rattle.delivery.specs.Promised.{Moment}
 use Rattle.delivery.specs.Lists.{All, none, also}
 use Rattle.delivery.specs.World.{World, Different, nobody, another}
 use Rattle.delivery.proofs.Calls.{all-called, one-called, part-called, talk-called, sits-called, fresh-called}
-use Rattle.delivery.proofs.Lists.{all-map, one-all}
+use Rattle.delivery.proofs.Lists.{all-map}
 use Rattle.delivery.proofs.Rest.{codes-marked}
 
--- Codes stay as they are: of units with sound memory.
-own-called : (call : HostCall) (st : Station) → Sound st → calledBy call st .unit .own ≡ st .unit .own
-own-called call st s = unit-called call st .own
+-- Codes stay as they are.
+own-called : (call : HostCall) (st : Station) → calledBy call st .unit .own ≡ st .unit .own
+own-called call st = unit-called call st .own
 
-apart-called : (code i : ℕ) (call : HostCall) {ss : List Station} → All Sound ss → All (λ (x : Station). x .unit .own ≡ code → ⊥) ss → All (λ (x : Station). x .unit .own ≡ code → ⊥) (calledAt i call ss)
-apart-called code i call none none = none
-apart-called code zero call (also {x = st} s b) (also p a) = also (λ e. p (sym (own-called call st s) ∙ e)) a
-apart-called code (suc i) call (also s b) (also p a) = also p (apart-called code i call b a)
+apart-called : (code i : ℕ) (call : HostCall) {ss : List Station} → All (λ (x : Station). x .unit .own ≡ code → ⊥) ss → All (λ (x : Station). x .unit .own ≡ code → ⊥) (calledAt i call ss)
+apart-called code i call none = none
+apart-called code zero call (also {x = st} p a) = also (λ e. p (sym (own-called call st) ∙ e)) a
+apart-called code (suc i) call (also p a) = also p (apart-called code i call a)
 
-different-called : (i : ℕ) (call : HostCall) {ss : List Station} → All Sound ss → Different ss → Different (calledAt i call ss)
-different-called i call none nobody = nobody
-different-called zero call (also {x = st} s b) (another a d) = another (all-map (λ x p e. p (e ∙ own-called call st s)) a) d
-different-called (suc i) call (also s b) (another {st = st} a d) = another (apart-called (st .unit .own) i call b a) (different-called i call b d)
+different-called : (i : ℕ) (call : HostCall) {ss : List Station} → Different ss → Different (calledAt i call ss)
+different-called i call nobody = nobody
+different-called zero call (another {st = st} a d) = another (all-map (λ x p e. p (e ∙ own-called call st)) a) d
+different-called (suc i) call (another {st = st} a d) = another (apart-called (st .unit .own) i call a) (different-called i call d)
 
-sound : {P : Station → Type 0} {ss : List Station} → All (λ (st : Station). P st × Sound st) ss → All Sound ss
-sound a = all-map (λ st p. p .1) a
-
-hushed-called : {T : Moment} {c : Command} {d : List ℕ} (i : ℕ) (call : HostCall) {ss : List Station} → All Sound ss → All (Hushed T c d) ss → All (Hushed T c d) (calledAt i call ss)
-hushed-called i call none none = none
-hushed-called {T} {c} zero call (also {x = st} s b) (also (not-its-own e) a) = also (not-its-own (ap (addressed c) (own-called call st s) ∙ e)) a
-hushed-called {T} {c} {d} zero call (also {x = st} s b) (also (by-the-rule given t e) a) =
-    also (by-the-rule given (subst (λ (own : ℕ). T own given) (sym (own-called call st s)) t) (ap (λ (own : ℕ). isSilent (replyFor own given c d)) (own-called call st s) ∙ e)) a
-hushed-called (suc i) call (also s b) (also p a) = also p (hushed-called i call b a)
+hushed-called : {T : Moment} {c : Command} {d : List ℕ} (i : ℕ) (call : HostCall) {ss : List Station} → All (Hushed T c d) ss → All (Hushed T c d) (calledAt i call ss)
+hushed-called i call none = none
+hushed-called {T} {c} zero call (also {x = st} (not-its-own e) a) = also (not-its-own (ap (addressed c) (own-called call st) ∙ e)) a
+hushed-called {T} {c} {d} zero call (also {x = st} (by-the-rule given t e) a) =
+    also (by-the-rule given (subst (λ (own : ℕ). T own given) (sym (own-called call st)) t) (ap (λ (own : ℕ). isSilent (replyFor own given c d)) (own-called call st) ∙ e)) a
+hushed-called (suc i) call (also p a) = also p (hushed-called i call a)
 
 -- A host call in a frame.
 frame-called : {T : Moment} {f : Frame} {found : List ℕ} {w : World} (i : ℕ) (call : HostCall) → InFrame T f found w → InFrame T f found (called w (host i call))
-frame-called i call (begins framed d a) = begins framed (different-called i call (sound a) d) (all-called (λ _ st after k p. fresh-called k p) i call a)
-frame-called {T} i call (sends j sender framed d s l a) = sends j sender framed (different-called i call (sound a) d) s l (all-called (λ _ st after k p. part-called T k p) i call a)
+frame-called i call (begins framed d a) = begins framed (different-called i call d) (all-called (λ _ st after k p. fresh-called k p) i call a)
+frame-called {T} i call (sends j sender framed d s l a) = sends j sender framed (different-called i call d) s l (all-called (λ _ st after k p. part-called T k p) i call a)
 frame-called i call (hears ear taken quiet framed d l o) =
-    hears ear taken quiet framed (different-called i call (one-all (λ st p. p .1) (λ st p. p .1) o) d) l (one-called (λ _ st after k p. talk-called k p) (λ _ st after k p. sits-called k p) i call o)
-frame-called i call (waits quiet framed d a why) = waits quiet framed (different-called i call (sound a) d) (all-called (λ _ st after k p. sits-called k p) i call a) (hushed-called i call (sound a) why)
+    hears ear taken quiet framed (different-called i call d) l (one-called (λ _ st after k p. talk-called k p) (λ _ st after k p. sits-called k p) i call o)
+frame-called i call (waits quiet framed d a why) = waits quiet framed (different-called i call d) (all-called (λ _ st after k p. sits-called k p) i call a) (hushed-called i call why)
 
 -- The ring is not the frame's.
 frame-ring : {T : Moment} {f : Frame} {found : List ℕ} {w : World} (ring : Ring) → InFrame T f found w → InFrame T f found (world (w .controller .timeout) (w .controller .stage) ring (w .units) (w .lent) (w .response))
@@ -148,9 +145,9 @@ acknowledge-by {T} false {w} code h e o =
     subst (λ (a : Answer Done). On T (record { controller = kept a (withoutMark (w .controller) code) (w .controller); units = w .units; lent = w .lent; response = w .response })) (sym s) o
 
 host-called : {T : Moment} {w : World} (i : ℕ) (call : HostCall) → On T w → On T (called w (host i call))
-host-called i call (rests r eight codes d a) = rests r eight codes (different-called i call (sound a) d) (all-called (λ _ st after k p. fresh-called k p) i call a)
-host-called i call (submitted f framed codes d a) = submitted f framed codes (different-called i call (sound a) d) (all-called (λ _ st after k p. fresh-called k p) i call a)
-host-called i call (ended eight codes d a) = ended eight codes (different-called i call (sound a) d) (all-called (λ _ st after k p. sits-called k p) i call a)
+host-called i call (rests r eight codes d a) = rests r eight codes (different-called i call d) (all-called (λ _ st after k p. fresh-called k p) i call a)
+host-called i call (submitted f framed codes d a) = submitted f framed codes (different-called i call d) (all-called (λ _ st after k p. fresh-called k p) i call a)
+host-called i call (ended eight codes d a) = ended eight codes (different-called i call d) (all-called (λ _ st after k p. sits-called k p) i call a)
 host-called i call (runs f found x codes) = runs f found (frame-called i call x) codes
 
 pub on-called : {T : Moment} {w : World} → On T w → (call : Call) → On T (called w call)

@@ -15,7 +15,6 @@ use Rattle.frame.specs.Frame.{listeningStep, listeningBuffer, over, stays, wait
 use Rattle.frame.specs.declared.Frame.{Frame}
 use Rattle.frame.specs.declared.Moved.{Moved}
 use Rattle.frame.specs.declared.Stage.the-variants.{Listening}
-use Rattle.header.specs.declared.Command.{Command}
 use Rattle.inside.specs.Inside.{Inside, insideOf, responded}
 use Rattle.inside.proofs.Round.{insideAfter}
 use Rattle.line.specs.Line.{sendOf, sentOf, hearOf, takenOf, isReady, listenerHsk, senderHsk, senderNibble}

@@ -1,5 +1,5 @@
 -- The code's bus is a world, and its round the world's: its units are found again in the memory after the round.
-use Prim.Native.Nat.{ℕ, _*_, _/_, _≤_}
+use Prim.Native.Nat.{_*_, _/_, _≤_}
 use native.Mathlib.Nat.{min-le-right, min-eq-left}
 use native.Mathlib.Omega.{arith}
 use mathlib.Core.Path.{_≡_, sym, _∙_, ap}

@@ -1,21 +1,19 @@
 -- A host call reaches what is inside a unit, and nothing of its lines.
-use Prim.Native.Nat.{ℕ}
 use mathlib.Core.Path.{_≡_, refl}
 use mathlib.Core.Bool.{Bool, true, false, cond}
-use mathlib.Core.List.{List, [], _∷_}
+use mathlib.Core.List.{[], _∷_}
 use lib.Dec.{eqb}
-use Rattle.bus.specs.Bus.{unitAfter}
 use Rattle.bus.specs.declared.Station.{Station}
-use Rattle.host.specs.Calls.{feedingIn, inUnit, takingIn, takenBy, raisingIn}
+use Rattle.host.specs.Calls.{feedingIn, takingIn, raisingIn}
 use Rattle.kind.specs.Kinds.{kindOf, isFed}
 use Rattle.kind.specs.declared.Kind.{Kind}
-use Rattle.message.specs.Answer.{Answer, gives, refused, kept}
-use Rattle.queue.specs.Queue.{bytesWith, popped, queueWith, room}
+use Rattle.message.specs.Answer.{Answer, gives, refused}
+use Rattle.queue.specs.Queue.{popped, queueWith, room}
 use Rattle.queue.specs.declared.Popped.{Popped}
 use Rattle.queue.specs.declared.Popped.the-variants.{Byte, Nothing}
 use Rattle.serial.specs.Serial.{withInput, withRequest}
 use Rattle.serial.specs.declared.Serial.{Serial}
-use Rattle.inside.specs.Calls.{HostCall, feeds, takes, raises, unitTaken, calledBy, called, stateAfter}
+use Rattle.inside.specs.Calls.{HostCall, feeds, takes, raises, calledBy, called, stateAfter}
 use Rattle.inside.specs.Inside.{Inside, insideOf, isServed, hasRequest}
 
 pub record Called (call : HostCall) (st after : Station) : Type 0 where

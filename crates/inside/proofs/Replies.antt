@@ -1,5 +1,4 @@
 -- What holds of a reply, whatever unit gives it.
-use Prim.Native.Nat.{ℕ}
 use mathlib.Core.Path.{_≡_, refl}
 use mathlib.Core.Bool.{true, false, true≢false, false≢true}
 use Rattle.reply.specs.Reply.{isSilent, replyStatus}

@@ -9,18 +9,14 @@ use Rattle.field.specs.Field.{byteFrom}
 use Rattle.header.specs.declared.Command.{Command}
 use Rattle.header.specs.declared.Header.{Header}
 use Rattle.kind.specs.Kinds.{kindOf}
-use Rattle.line.specs.Line.{sentOf, sendOf, takenOf}
+use Rattle.line.specs.Line.{sentOf, takenOf}
 use Rattle.line.specs.declared.Lines.{Lines}
 use Rattle.line.specs.declared.Sender.{Sender}
-use Rattle.line.specs.declared.Sender.the-variants.{Next}
-use Rattle.message.specs.Nibbles.{nibbleIn}
 use Rattle.phase.specs.Phase.{phaseStep, phaseOutput, moves, answered, stored, storedData, withByte, isLast, bufferWith}
-use Rattle.phase.specs.declared.Moved.{Moved}
 use Rattle.phase.specs.declared.Phase.{Phase}
 use Rattle.phase.specs.declared.Phase.the-variants.{Idle, Selecting, Receiving, Responding, SittingOut}
 use Rattle.phase.specs.declared.Progress.the-variants.{Taking, Answered}
-use Rattle.queue.specs.Queue.{contents}
-use Rattle.reply.specs.Reply.{lastNibble, responseBytes}
+use Rattle.reply.specs.Reply.{lastNibble}
 use Rattle.serial.specs.Serial.{finished}
 use Rattle.serial.specs.declared.Reply.{Reply}
 use Rattle.inside.specs.Inside.{Inside, taken, responded}

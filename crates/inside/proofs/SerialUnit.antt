@@ -25,7 +25,7 @@ use Rattle.queue.specs.declared.Queue.{Queue}
 use Rattle.queue.proofs.Laws.{contents-with, held-with, length-with, length-contents, held-below}
 use Rattle.reply.specs.Reply.{isSilent, replyStatus}
 use Rattle.rs232.specs.Checks.{commandBy}
-use Rattle.serial.specs.Serial.{newSerial, applied, withInput, withRequest}
+use Rattle.serial.specs.Serial.{applied, withInput, withRequest}
 use Rattle.serial.specs.Verdict.{says, pollBy}
 use Rattle.serial.specs.declared.Effect.{Effect}
 use Rattle.serial.specs.declared.Effect.the-variants.{Keeps, Opens, Closes, Resets, Enables, Disables, Stores}
@@ -38,7 +38,7 @@ use Rattle.serial.specs.declared.Verdict.{Verdict}
 use Rattle.whole.specs.Back.{Answered}
 use Rattle.inside.specs.Calls.{HostCall, feeds, takes, raises, called, calledAll, stateAfter}
 use Rattle.inside.specs.Inside.{Inside, isServed, hasRequest, replyOf, taken, responded, dataIn, clears}
-use Rattle.inside.specs.Lawful.{Lent, Fit, isEnding, Lawful}
+use Rattle.inside.specs.Lawful.{Fit, isEnding, Lawful}
 use Rattle.inside.proofs.Each.{verdict-is}
 
 -- Checks 1 and 2, of every kind: at code 0 there is silence, and nothing but a reset acts.

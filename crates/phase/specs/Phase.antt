@@ -2,7 +2,7 @@
 -- the paper's table.
 use Prim.Native.Nat.{ℕ, _+_, _-_}
 use mathlib.Core.Bool.{Bool, true, false, cond, _&&_, _||_}
-use mathlib.Core.List.{List, [], _∷_}
+use mathlib.Core.List.{List, []}
 use lib.Dec.{ltb, leb, eqb}
 use lib.ListN.{set, take}
 use Rattle.field.specs.Field.{byteFrom}

@@ -5,7 +5,7 @@ use mathlib.Core.Path.{_≡_, refl, sym, _∙_, ap, subst}
 use mathlib.Core.Bool.{Bool, true, false, cond, _&&_, _||_, true≢false, false≢true}
 use mathlib.Core.List.{List, [], _∷_}
 use borrow.Author.Tests.{eqb-true, eq-eqb, ltb-true, lt-ltb}
-use lib.Dec.{ltb, eqb}
+use lib.Dec.{eqb}
 use lib.ListN.{length, getD}
 use Rattle.bus.specs.Bus.{stationStep}
 use Rattle.bus.specs.declared.Station.{Station}
@@ -17,7 +17,7 @@ use Rattle.delivery.specs.Lists.{All, none, also, One, this, that, Has, here, t
 use Rattle.delivery.specs.Promised.{Moment}
 use Rattle.delivery.specs.Stages.{On, rests, submitted, ended, runs, InFrame, begins, sends, hears, waits, Goes, on, answered, unanswered, Spoke, spoke, addressed, movedIn, Sound, Sits, Fresh, idles, selects, Talk, talks, isResponding, answerData}
 use Rattle.delivery.specs.World.{World, Busy, levels, round, Becomes, in-front as first-one, behind, Different, another}
-use Rattle.delivery.proofs.Demand2.{every-run, every-response, changes, on-sound, on-different, on-nibble}
+use Rattle.delivery.proofs.Demand2.{every-run, every-response, changes, on-different, on-nibble}
 use Rattle.delivery.proofs.Frame.{becomes-all, own-kept, fresh-quiet, part-quiet}
 use Rattle.line.specs.declared.Listener.{Listener}
 use Rattle.answer.specs.Answer.{statusOf, countOf}
@@ -288,10 +288,10 @@ module _ (w x : World) (own : ℕ) (q : QuietStart w) (r : Run w x) (busy : Busy
       by (one-frame f found i) = frame-holds f found i
 
 -- A host call leaves a request.
-requests-called : (own i : ℕ) (call : HostCall) {ss : List Station} → All Sound ss → All (Requests own) ss → All (Requests own) (calledAt i call ss)
-requests-called own i call none none = none
-requests-called own zero call (also {x = st} s b) (also p a) = also (λ e. let k = unit-called call st in ap hasRequest (k .inside) ∙ request-called (kindOf (st .unit .own)) (insideOf st) call (p (sym (k .own) ∙ e))) a
-requests-called own (suc i) call (also s b) (also p a) = also p (requests-called own i call b a)
+requests-called : (own i : ℕ) (call : HostCall) {ss : List Station} → All (Requests own) ss → All (Requests own) (calledAt i call ss)
+requests-called own i call none = none
+requests-called own zero call (also {x = st} p a) = also (λ e. let k = unit-called call st in ap hasRequest (k .inside) ∙ request-called (kindOf (st .unit .own)) (insideOf st) call (p (sym (k .own) ∙ e))) a
+requests-called own (suc i) call (also p a) = also p (requests-called own i call a)
 
 -- Service frames of a run that goes on.
 split : (c : Controller) (m : Move) (ms : List Move) → services c (m ∷ ms) ≡ services c (m ∷ []) + services (after c m) ms
@@ -465,8 +465,7 @@ module _ (w v : World) (own : ℕ) (q : QuietStart w) (r : Run w v) where
   call-stand : {x : World} (more : Run v x) (call : Call) → Harmless own (running (x .controller .stage)) → Stand more → Stand (a-call more call)
   call-stand more call calm (handed-over h) = handed-over h
   call-stand {x} more (host i call) calm (waits-on has requests found ok sum) =
-      let sound = on-sound (every-run w x q (further r more)) in
-      waits-on (has-called own i call sound has) (requests-called own i call sound requests) found ok sum
+      waits-on (has-called own i call has) (requests-called own i call requests) found ok sum
   call-stand {x} more (submitsTo c d response p b) calm (waits-on has requests found ok sum) =
       let m = submits c (length d) (length response) in
       move-stand more m (a-call more (submitsTo c d response p b)) refl refl (services-then more (m ∷ [])) (submit-none (x .controller) c (length d) (length response)) refl calm has requests found ok sum
@@ -474,8 +473,7 @@ module _ (w v : World) (own : ℕ) (q : QuietStart w) (r : Run w v) where
       let m = acknowledges code in
       move-stand more m (a-call more (acknowledgesTo code h)) refl refl (services-then more (m ∷ [])) (acknowledge-none (x .controller) code) refl calm has requests found ok sum
   call-stand {x} more (host i call) calm (polled-now has requests run old) =
-      let sound = on-sound (every-run w x q (further r more)) in
-      call-polled more (host i call) has requests run old (has-called own i call sound has) (requests-called own i call sound requests)
+      call-polled more (host i call) has requests run old (has-called own i call has) (requests-called own i call requests)
   call-stand {x} more (submitsTo c d response p b) calm (polled-now has requests run old) = call-polled more (submitsTo c d response p b) has requests run old has requests
   call-stand {x} more (acknowledgesTo code h) calm (polled-now has requests run old) = call-polled more (acknowledgesTo code h) has requests run old has requests
 

@@ -88,11 +88,11 @@ pub has-round : (own : ℕ) (seen : Lines) (hosts : ℕ) {ss : List Station} →
 has-round own seen hosts (it-has {st = st} e) = it-has (own-kept st seen (isOdd hosts) ∙ e)
 has-round own seen hosts (later h) = later (has-round own seen (hosts / 2) h)
 
-pub has-called : (own i : ℕ) (call : HostCall) {ss : List Station} → All Sound ss → HasCode own ss → HasCode own (calledAt i call ss)
-has-called own zero call (also {x = st} s a) (it-has e) = it-has (unit-called call st .own ∙ e)
-has-called own (suc i) call (also s a) (it-has e) = it-has e
-has-called own zero call (also s a) (later h) = later h
-has-called own (suc i) call (also s a) (later h) = later (has-called own i call a h)
+pub has-called : (own i : ℕ) (call : HostCall) {ss : List Station} → HasCode own ss → HasCode own (calledAt i call ss)
+has-called own zero call (it-has {st = st} e) = it-has (unit-called call st .own ∙ e)
+has-called own (suc i) call (it-has e) = it-has e
+has-called own zero call (later h) = later h
+has-called own (suc i) call (later h) = later (has-called own i call h)
 
 becomes-has : {own : ℕ} {seen : Lines} {hosts : ℕ} {ss : List Station} {st after : Station} → Becomes seen hosts ss st after → st .unit .own ≡ own → HasCode own ss
 becomes-has in-front e = it-has e
@@ -102,7 +102,7 @@ took-has : (w v : World) → QuietStart w → (r : Run w v) (own : ℕ) (x : Ins
 took-has w v q start own x t = absurd t
 took-has w _ q (a-round {v = v} r busy) own x (takes-it st after b e now o i) = has-round own (levels v) (busy .there) (becomes-has b o)
 took-has w _ q (a-round {v = v} r busy) own x (took-it i t) = has-round own (levels v) (busy .there) (took-has w v q r own x t)
-took-has w _ q (a-call {v = v} r (host i call)) own x t = has-called own i call (on-sound (every-run w v q r)) (took-has w v q r own x t)
+took-has w _ q (a-call {v = v} r (host i call)) own x t = has-called own i call (took-has w v q r own x t)
 took-has w _ q (a-call {v = v} r (submitsTo k d response y b)) own x t = took-has w v q r own x t
 took-has w _ q (a-call {v = v} r (acknowledgesTo code h)) own x t = took-has w v q r own x t
 
@@ -110,15 +110,15 @@ took-has w _ q (a-call {v = v} r (acknowledgesTo code h)) own x t = took-has w v
 abbrev Coded : Station → Type 0
 Coded st = st .unit .own ≡ 0 → ⊥
 
-coded-at : (i : ℕ) (call : HostCall) {ss : List Station} → All Sound ss → All Coded ss → All Coded (calledAt i call ss)
-coded-at i call none none = none
-coded-at zero call (also {x = st} s b) (also p a) = also (λ e. p (sym (unit-called call st .own) ∙ e)) a
-coded-at (suc i) call (also s b) (also p a) = also p (coded-at i call b a)
+coded-at : (i : ℕ) (call : HostCall) {ss : List Station} → All Coded ss → All Coded (calledAt i call ss)
+coded-at i call none = none
+coded-at zero call (also {x = st} p a) = also (λ e. p (sym (unit-called call st .own) ∙ e)) a
+coded-at (suc i) call (also p a) = also p (coded-at i call a)
 
 every-coded : (w v : World) → QuietStart w → Run w v → All Coded (v .units)
 every-coded w v q start = all-map (λ st n e. n .coded (sym (ap (λ (u : Unit). u .own) (n .is-new)) ∙ e)) (q .units)
 every-coded w _ q (a-round {v = v} r busy) = all-step (levels v) (λ st host p e. p (sym (own-kept st (levels v) host) ∙ e)) (busy .there) (every-coded w v q r)
-every-coded w _ q (a-call {v = v} r (host i call)) = coded-at i call (on-sound (every-run w v q r)) (every-coded w v q r)
+every-coded w _ q (a-call {v = v} r (host i call)) = coded-at i call (every-coded w v q r)
 every-coded w _ q (a-call {v = v} r (submitsTo k d response x b)) = every-coded w v q r
 every-coded w _ q (a-call {v = v} r (acknowledgesTo code h)) = every-coded w v q r
 

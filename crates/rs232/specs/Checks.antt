@@ -13,9 +13,7 @@ use Rattle.serial.specs.declared.Mode.the-variants.{Input, Output, Update}
 use Rattle.serial.specs.declared.Opening.{Opening}
 use Rattle.serial.specs.declared.Opening.the-variants.{Closed, OpenFor}
 use Rattle.serial.specs.declared.Serial.{Serial}
-use Rattle.serial.specs.declared.Reply.{Reply}
 use Rattle.serial.specs.declared.Reply.the-variants.{Status, Opened, Bytes}
-use Rattle.serial.specs.declared.Effect.{Effect}
 use Rattle.serial.specs.declared.Effect.the-variants.{Keeps, Opens, Closes, Enables, Disables, Stores}
 use Rattle.serial.specs.Verdict.{says, status, pollBy}
 use Rattle.serial.specs.declared.Verdict.{Verdict}

@@ -4,7 +4,6 @@ use mathlib.Core.Bool.{Bool, true, false}
 use mathlib.Core.List.{List}
 use Rattle.queue.specs.Queue.{emptyQueue, queueWith, bytesWith, queueWithout}
 use Rattle.queue.specs.declared.Queue.{Queue}
-use Rattle.serial.specs.declared.Mode.{Mode}
 use Rattle.serial.specs.declared.Opening.{Opening}
 use Rattle.serial.specs.declared.Opening.the-variants.{Closed, OpenFor}
 use Rattle.serial.specs.declared.Serial.{Serial}
