@@ -1,13 +1,15 @@
 -- What a call leaves, once its answer is known.
 use Prim.Native.Nat.{ℕ, _<_, _≤_}
-use mathlib.Core.Path.{_≡_, refl, _∙_, ap}
-use mathlib.Core.Bool.{Bool}
+use mathlib.Core.Path.{_≡_, refl, sym, _∙_, ap}
+use mathlib.Core.Bool.{Bool, true, false}
 use mathlib.Core.List.{List, [], _∷_}
 use borrow.Author.Tests.{lt-ltb, le-ltb}
 use lib.ListN.{length}
 use Rattle.host.specs.declared.Looks.{Looks}
 use Rattle.host.specs.declared.Taken.{Taken}
 use Rattle.host.specs.declared.Taken.the-variants.{Byte, Nothing}
+use Rattle.kind.specs.Kinds.{kindOf, isShort}
+use Rattle.kind.specs.declared.Kind.{Kind}
 use Rattle.line.specs.declared.Lines.{Lines}
 use Rattle.message.specs.Answer.{Answer, gives, refused}
 use Rattle.unit.specs.Calls.{stepping, bufferAfter, outputAfter}
@@ -23,6 +25,11 @@ given ws p q = (ap number p, q ∙ ap (λ (a : Answer Unit). unitAfter a ws) p)
 pub kept-words : {a : Answer Unit} {k : ℕ} (ws : List ℕ) → refused k ≡ a → (k ≡ number a) × (ws ≡ unitAfter a ws)
 kept-words ws p = (ap number p, ap (λ (a : Answer Unit). unitAfter a ws) p)
 
+-- Whether a lent buffer is too short for the unit in the words, by its kind.
+pub short-by-kind : (ws buffer : List ℕ) {own : ℕ} {kind : Kind} {short v : Bool} → own ≡ loaded ws .own → kind ≡ kindOf own → short ≡ isShort kind (length buffer)
+    → short ≡ v → isShort (kindOf (loaded ws .own)) (length buffer) ≡ v
+short-by-kind ws buffer p q r t = sym (r ∙ ap (λ (kind : Kind). isShort kind (length buffer)) (q ∙ ap kindOf p)) ∙ t
+
 -- A step: refused with everything as it was, or the round in the words.
 module _ (ws : List ℕ) (seen : Lines) (busy : Bool) (buffer input output : List ℕ) where
   abbrev Steps : ℕ → List ℕ → List ℕ → List ℕ → Type 0
@@ -34,13 +41,13 @@ module _ (ws : List ℕ) (seen : Lines) (busy : Bool) (buffer input output : Lis
   pub level-refused : 15 < seen .nibble → Steps 5 ws buffer output
   level-refused t = rw (lt-ltb 15 (seen .nibble) t) (refl, (refl, (refl, refl)))
 
-  pub buffer-refused : seen .nibble ≤ 15 → length buffer < 256 → Steps 11 ws buffer output
-  buffer-refused f t = rw (le-ltb 15 (seen .nibble) f, lt-ltb (length buffer) 256 t) (refl, (refl, (refl, refl)))
+  pub buffer-refused : seen .nibble ≤ 15 → isShort (kindOf (loaded ws .own)) (length buffer) ≡ true → Steps 11 ws buffer output
+  buffer-refused f t = rw (le-ltb 15 (seen .nibble) f, t) (refl, (refl, (refl, refl)))
 
-  pub steps : {after buffer′ output′ : List ℕ} → seen .nibble ≤ 15 → 256 ≤ length buffer
+  pub steps : {after buffer′ output′ : List ℕ} → seen .nibble ≤ 15 → isShort (kindOf (loaded ws .own)) (length buffer) ≡ false
       → (after ≡ savedIn ws (unitStep (loaded ws) seen busy buffer input)) × ((buffer′ ≡ unitBuffer (loaded ws) seen buffer) × (output′ ≡ unitOutput (loaded ws) seen buffer output))
       → Steps 0 after buffer′ output′
-  steps f g q = rw (le-ltb 15 (seen .nibble) f, le-ltb (length buffer) 256 g) (refl, q)
+  steps f g q = rw (le-ltb 15 (seen .nibble) f, g) (refl, q)
 
 -- A byte that is taken, or nothing.
 pub taken-byte : {t : Taken} (b : ℕ) {v : Unit} (ws : List ℕ) {after : List ℕ} → Byte b v ≡ t → after ≡ savedIn ws v → (b ≡ takenNumber t) × (after ≡ takenWords t ws)

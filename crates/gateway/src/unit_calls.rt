@@ -11,6 +11,7 @@ use host::Raised;
 use host::Taken;
 use line::Lines;
 use serial::Opening;
+use unitwords::OWN;
 use unitwords::Words;
 
 // Makes a new unit with its own code and retry count.
@@ -44,7 +45,7 @@ pub extern "C" fn hexbus_unit_step(
     if 15 < nibble {
         return 5;
     }
-    if command.len() < 256 {
+    if kind::is_short(kind::kind_of(words::number8(unit[OWN])), command.len()) {
         return 11;
     }
     let seen = Lines { bav, hsk, nibble };

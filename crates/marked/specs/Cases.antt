@@ -14,6 +14,7 @@ use Rattle.application.specs.Calls.{controllerSubmitted}
 use Rattle.controller.specs.Controller.{newController, withRing, controllerStep}
 use Rattle.controller.specs.declared.Controller.{Controller}
 use Rattle.header.specs.declared.Command.{Command}
+use Rattle.kind.specs.Kinds.{kindOf, verdictOf}
 use Rattle.line.specs.declared.Lines.{Lines}
 use Rattle.queue.specs.Queue.{contents, emptyQueue}
 use Rattle.reply.specs.Reply.{responseBytes}
@@ -21,7 +22,6 @@ use Rattle.ring.specs.Ring.{entryOf, live, ringOf}
 use Rattle.ring.specs.declared.Entry.{Entry}
 use Rattle.serial.specs.Serial.{newSerial, applied}
 use Rattle.serial.specs.declared.Serial.{Serial}
-use Rattle.verdict.specs.Verdict.{verdictOf}
 
 -- What a case is about: bytes, nibbles, a ring's codes in order, the number of a refusal, or that none came.
 pub data Outcome : Type 0 where
@@ -49,13 +49,13 @@ openData = 0x50 ∷ 0x00 ∷ 0xC0 ∷ []
 abbrev pub openBytes : List ℕ
 openBytes = 0x14 ∷ 0x00 ∷ 0x01 ∷ 0x00 ∷ 0x00 ∷ 0x04 ∷ 0x00 ∷ 0x03 ∷ 0x00 ∷ 0x50 ∷ 0x00 ∷ 0xC0 ∷ []
 
--- The response of a unit in a state, whose input queue has these bytes, to a command with data.
+-- The response of the unit with code 20 in a state, whose input queue has these bytes, to a command with data.
 abbrev pub answerOf : Serial → List ℕ → Command → List ℕ → List ℕ
-answerOf s input c d = responseBytes (contents input (s .input)) (verdictOf s c (length d) d .reply)
+answerOf s input c d = responseBytes (contents input (s .input)) (verdictOf (kindOf 20) s c (length d) d .reply)
 
--- The unit after a command with data; a read of device 20 with a buffer length.
+-- That unit after a command with data; a read of device 20 with a buffer length.
 abbrev pub unitAfter : Serial → Command → List ℕ → Serial
-unitAfter s c d = applied s (verdictOf s c (length d) d .effect) d
+unitAfter s c d = applied s (verdictOf (kindOf 20) s c (length d) d .effect) d
 
 abbrev pub readDevice20 : ℕ → Command
 readDevice20 buffer = record { device = 20; command = 0x03; «logical_unit» = 1; «record_number» = 0; «buffer_length» = buffer }

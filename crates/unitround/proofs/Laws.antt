@@ -28,7 +28,7 @@ use Rattle.reply.specs.Reply.{lastNibble}
 use Rattle.serial.specs.declared.Serial.{Serial}
 use Rattle.unit.specs.Unit.{asks, lowStep, highStep, pullsNibble}
 use Rattle.unit.specs.declared.Unit.{Unit}
-use Rattle.unitwords.specs.Layout.{OWN, RETRY, QUIET, ASKING, PHASE, EAR, HALF, LOW, PLACE, SENDER, WAIT, NIBBLE, NEXT, LAST}
+use Rattle.unitwords.specs.Layout.{OWN, RETRY, QUIET, ASKING, ENABLED, REQUESTING, PHASE, EAR, HALF, LOW, PLACE, SENDER, WAIT, NIBBLE, NEXT, LAST}
 use Rattle.unitwords.specs.Unit.{loadedSerial, serialIn, loadedHeader, lowIn, loadedPartial, partialIn, loadedPhase, listening, phaseIn, movedIn, loaded, rowIn, settingsIn, savedIn}
 use Rattle.unitwords.proofs.Laws.{serial-again, reply-again, value-again}
 use Rattle.words.specs.Words.{at, numberIn, flagOf, flagIn, tagIn, listenerOf, listenerIn, senderOf}
@@ -57,12 +57,12 @@ module _ (ws : List ℕ) where
         (sym (serial-again (rowIn ws (dropped .quiet) (dropped .asking))) ∙ ap (serialIn (rowIn ws (dropped .quiet) (dropped .asking))) (row-serial (dropped .quiet) (dropped .asking)))
         ∙ ap (λ (l : List ℕ). phaseIn (serialIn l (loadedSerial ws)) Idle) (sym row-settings)
 
-    pub high-round : {s : Serial} {r k q x : ℕ} {f a : Bool} {l : List ℕ} → s ≡ loadedSerial ws → r ≡ at ws RETRY % 65536 → k ≡ at ws QUIET % 65536
-        → q ≡ min (k + 1) r → f ≡ flagOf (at ws ASKING) → a ≡ asks f s r q hsk → l ≡ rowIn ws q a → x ≡ tagIn 6 (at l PHASE) 0
+    pub high-round : {r k q x : ℕ} {e g f a : Bool} {l : List ℕ} → e ≡ flagOf (at ws ENABLED) → g ≡ flagOf (at ws REQUESTING) → r ≡ at ws RETRY % 65536
+        → k ≡ at ws QUIET % 65536 → q ≡ min (k + 1) r → f ≡ flagOf (at ws ASKING) → a ≡ asks f e g r q hsk → l ≡ rowIn ws q a → x ≡ tagIn 6 (at l PHASE) 0
         → set l PHASE x ≡ savedIn ws dropped
-    high-round {q = q} {a = a} {l = l} es er ek eq ef ea el ex =
+    high-round {q = q} {a = a} {l = l} ee eg er ek eq ef ea el ex =
         let quiet : q ≡ dropped .quiet = eq ∙ (λ i. min (ek i + 1) (er i)) in
-        let pull : a ≡ dropped .asking = ea ∙ (λ i. asks (ef i) (es i) (er i) (quiet i) hsk) in
+        let pull : a ≡ dropped .asking = ea ∙ (λ i. asks (ef i) (ee i) (eg i) (er i) (quiet i) hsk) in
         ap (set l PHASE) ex ∙ ap (λ (y : List ℕ). phaseIn y Idle) (el ∙ (λ i. rowIn ws (quiet i) (pull i))) ∙ row-saved
 
   -- The row while BAV is seen low: the pull of BAV is written only where there is one.
@@ -99,7 +99,7 @@ module _ (ws : List ℕ) where
           ∙ (λ i. movedIn (e i) (phaseStep (phase-is i) (own-is i % 256) (serial-is i) seen busy buffer input))
           ∙ ap (λ (y : List ℕ). phaseIn (serialIn y (moved .serial)) (moved .phase)) (sym low-settings)
           ∙ sym (rw low),
-      (x .1 .0 ∙ ap (λ (p : Phase). phaseBuffer p seen buffer) phase-is ∙ sym (rw low), x .1 .1 ∙ (λ i. phaseOutput (phase-is i) (serial-is i) seen buffer output) ∙ sym (rw low)),
+      (x .1 .0 ∙ ap (λ (p : Phase). phaseBuffer p seen buffer) phase-is ∙ sym (rw low), x .1 .1 ∙ (λ i. phaseOutput (phase-is i) (own-is i % 256) (serial-is i) seen buffer output) ∙ sym (rw low)),
     )
 
   pub high-done : (seen : Lines) (busy : Bool) (buffer input output : List ℕ) {ws′ : List ℕ} → seen .bav ≡ false
@@ -156,15 +156,15 @@ module _ (ws : List ℕ) where
 
   -- A byte that is there: the last of its message, one before it, and one of the data, which leaves the header as it is.
   module _ (buffer output : List ℕ) (b : ℕ) {h : Header} (e : h ≡ withByte (loadedHeader ws) (at ws PLACE) b) where
-    pub last-of-all : {k : ℕ} {s : Serial} {m : Moved} {ws′ buffer′ output′ : List ℕ} → k ≡ h .«data_length» → buffer′ ≡ bufferWith k (at ws PLACE) b buffer → 8 + k ≤ at ws PLACE
-        → s ≡ loadedSerial ws → (m ≡ answered s h buffer′) × (output′ ≡ stored s h buffer′ output) → ws′ ≡ movedIn ws m
+    pub last-of-all : {k own : ℕ} {s : Serial} {m : Moved} {ws′ buffer′ output′ : List ℕ} → k ≡ h .«data_length» → buffer′ ≡ bufferWith k (at ws PLACE) b buffer → 8 + k ≤ at ws PLACE
+        → own ≡ at ws OWN % 256 → s ≡ loadedSerial ws → (m ≡ answered own s h buffer′) × (output′ ≡ stored own s h buffer′ output) → ws′ ≡ movedIn ws m
         → TakesByte ws b buffer output ws′ buffer′ output′
-    last-of-all {k} {s} {m} {ws′} {buffer′} f g t es x y =
+    last-of-all {k} {own} {s} {m} {ws′} {buffer′} f g t eo es x y =
         let same : k ≡ withByte (loadedHeader ws) (at ws PLACE) b .«data_length» = f ∙ ap (λ (z : Header). z .«data_length») e in
         let put : buffer′ ≡ byteBuffer (loadedPartial ws) b buffer = g ∙ ap (λ (n : ℕ). bufferWith n (at ws PLACE) b buffer) same in
         let beyond : 8 + h .«data_length» ≤ at ws PLACE = subst (λ (n : ℕ). 8 + n ≤ at ws PLACE) f t in (
-          y ∙ ap (movedIn ws) (x .0 ∙ ap (λ (z : Serial). answered z h buffer′) es ∙ last-byte (loadedSerial ws) (loadedPartial ws) b buffer output h e buffer′ put beyond),
-          (put, x .1 ∙ ap (λ (z : Serial). stored z h buffer′ output) es ∙ last-output (loadedSerial ws) (loadedPartial ws) b buffer output h e buffer′ put beyond),
+          y ∙ ap (movedIn ws) (x .0 ∙ (λ i. answered (eo i) (es i) h buffer′) ∙ last-byte (at ws OWN % 256) (loadedSerial ws) (loadedPartial ws) b buffer output h e buffer′ put beyond),
+          (put, x .1 ∙ (λ i. stored (eo i) (es i) h buffer′ output) ∙ last-output (at ws OWN % 256) (loadedSerial ws) (loadedPartial ws) b buffer output h e buffer′ put beyond),
         )
 
     pub more-to-come : {k : ℕ} {ws′ buffer′ : List ℕ} → k ≡ h .«data_length» → buffer′ ≡ bufferWith k (at ws PLACE) b buffer → at ws PLACE < 8 + k
@@ -174,8 +174,8 @@ module _ (ws : List ℕ) where
         let same : k ≡ withByte (loadedHeader ws) (at ws PLACE) b .«data_length» = f ∙ ap (λ (z : Header). z .«data_length») e in
         let put : buffer′ ≡ byteBuffer (loadedPartial ws) b buffer = g ∙ ap (λ (n : ℕ). bufferWith n (at ws PLACE) b buffer) same in
         let short : at ws PLACE < 8 + h .«data_length» = subst (λ (n : ℕ). at ws PLACE < 8 + n) f t in (
-          alone (Receiving Holding (Taking (partial h (at ws PLACE + 1)))) x ∙ ap (movedIn ws) (more-bytes (loadedSerial ws) (loadedPartial ws) b buffer output h e short),
-          (put, more-output (loadedSerial ws) (loadedPartial ws) b buffer output h e short),
+          alone (Receiving Holding (Taking (partial h (at ws PLACE + 1)))) x ∙ ap (movedIn ws) (more-bytes (at ws OWN % 256) (loadedSerial ws) (loadedPartial ws) b buffer output h e short),
+          (put, more-output (at ws OWN % 256) (loadedSerial ws) (loadedPartial ws) b buffer output h e short),
         )
 
   pub header-stays : (b : ℕ) → 9 ≤ at ws PLACE → loadedHeader ws ≡ withByte (loadedHeader ws) (at ws PLACE) b

@@ -25,7 +25,7 @@ Stepped ws seen busy buffer input output ws′ buffer′ output′ =
 abbrev pub Moves : List ℕ → Lines → Bool → List ℕ → List ℕ → List ℕ → List ℕ → List ℕ → List ℕ → Type 0
 Moves ws seen busy buffer input output ws′ buffer′ output′ =
     (ws′ ≡ movedIn ws (phaseStep (loadedPhase ws) (at ws OWN % 256) (loadedSerial ws) seen busy buffer input))
-    × ((buffer′ ≡ phaseBuffer (loadedPhase ws) seen buffer) × (output′ ≡ phaseOutput (loadedPhase ws) (loadedSerial ws) seen buffer output))
+    × ((buffer′ ≡ phaseBuffer (loadedPhase ws) seen buffer) × (output′ ≡ phaseOutput (loadedPhase ws) (at ws OWN % 256) (loadedSerial ws) seen buffer output))
 
 -- Each phase, with what stands in its words.
 abbrev pub selects : List ℕ → Lines → Bool → List ℕ
@@ -33,14 +33,14 @@ selects ws seen busy = phaseIn ws (selectingStep (at ws OWN % 256) (listenerOf (
 
 abbrev pub Takes : List ℕ → Lines → Bool → List ℕ → List ℕ → List ℕ → List ℕ → List ℕ → Type 0
 Takes ws seen busy buffer output ws′ buffer′ output′ =
-    (ws′ ≡ movedIn ws (takingStep (loadedSerial ws) (listenerOf (at ws EAR)) (loadedPartial ws) seen busy buffer))
+    (ws′ ≡ movedIn ws (takingStep (at ws OWN % 256) (loadedSerial ws) (listenerOf (at ws EAR)) (loadedPartial ws) seen busy buffer))
     × ((buffer′ ≡ takingBuffer (listenerOf (at ws EAR)) (loadedPartial ws) seen buffer)
-    × (output′ ≡ takingOutput (loadedSerial ws) (listenerOf (at ws EAR)) (loadedPartial ws) seen buffer output))
+    × (output′ ≡ takingOutput (at ws OWN % 256) (loadedSerial ws) (listenerOf (at ws EAR)) (loadedPartial ws) seen buffer output))
 
 abbrev pub TakesByte : List ℕ → ℕ → List ℕ → List ℕ → List ℕ → List ℕ → List ℕ → Type 0
 TakesByte ws b buffer output ws′ buffer′ output′ =
-    (ws′ ≡ movedIn ws (byteStep (loadedSerial ws) (loadedPartial ws) b buffer))
-    × ((buffer′ ≡ byteBuffer (loadedPartial ws) b buffer) × (output′ ≡ byteOutput (loadedSerial ws) (loadedPartial ws) b buffer output))
+    (ws′ ≡ movedIn ws (byteStep (at ws OWN % 256) (loadedSerial ws) (loadedPartial ws) b buffer))
+    × ((buffer′ ≡ byteBuffer (loadedPartial ws) b buffer) × (output′ ≡ byteOutput (at ws OWN % 256) (loadedSerial ws) (loadedPartial ws) b buffer output))
 
 abbrev pub reply : List ℕ → Reply
 reply ws = replyOf (at ws REPLY) (at ws VALUE)

@@ -13,6 +13,7 @@ use line::Lines;
 use unitwords::ASKING;
 use unitwords::DATA_LENGTH;
 use unitwords::EAR;
+use unitwords::ENABLED;
 use unitwords::HALF;
 use unitwords::INPUT_COUNT;
 use unitwords::INPUT_HEAD;
@@ -25,6 +26,7 @@ use unitwords::PHASE;
 use unitwords::PLACE;
 use unitwords::QUIET;
 use unitwords::REPLY;
+use unitwords::REQUESTING;
 use unitwords::RETRY;
 use unitwords::SENDER;
 use unitwords::VALUE;
@@ -103,10 +105,18 @@ fn pulls_nibble(words: &Words) -> u8
 fn dropped(words: &mut Words, hsk: bool)
     ensures { λ _. ⌜ now (words .exit) ≡ savedIn (now (words .entry)) (highStep (loaded (now (words .entry))) hsk) ⌝ }
 {
-    let serial = unitwords::load_serial(words);
+    let enabled = words::flag(words[ENABLED]);
+    let requesting = words::flag(words[REQUESTING]);
     let retry = words::number16(words[RETRY]);
     let quiet = unit::quiet_after(words::number16(words[QUIET]), retry);
-    let asking = unit::asks(words::flag(words[ASKING]), serial, retry, quiet, hsk);
+    let asking = unit::asks(
+        words::flag(words[ASKING]),
+        enabled,
+        requesting,
+        retry,
+        quiet,
+        hsk,
+    );
     save_row(words, quiet, asking);
     words[PHASE] = words::with_tag(words[PHASE], 6, 0);
 }
@@ -274,8 +284,9 @@ fn take_any(words: &mut Words, b: u8, buffer: &mut [u8], output: &mut [u8; 256])
     let n = header.data_length;
     phase::put(n, place, b, buffer);
     if 8 + n as u32 <= place {
+        let own = words::number8(words[OWN]);
         let serial = unitwords::load_serial(words);
-        unitwords::save_moved(words, phase::answer(serial, header, buffer, output));
+        unitwords::save_moved(words, phase::answer(own, serial, header, buffer, output));
         return;
     }
     words[EAR] = 1;

@@ -4,8 +4,17 @@ use borrow.Author.Needs.{needs}
 use Rattle.unitround.proofs.dropped.Statement.{statement}
 use Rattle.unitround.proofs.dropped.Tie as tie
 
-load-serial-requires : tie.Need-load-serial-requires
-load-serial-requires c κs = search needs
+element-copy-out-flag : tie.Need-element-copy-out-flag
+element-copy-out-flag c = search needs
+
+flag-requires : tie.Need-flag-requires
+flag-requires c κs = search needs
+
+element-copy-out-flag-2 : tie.Need-element-copy-out-flag-2
+element-copy-out-flag-2 c = search needs
+
+flag-requires-2 : tie.Need-flag-requires-2
+flag-requires-2 c κs = search needs
 
 element-copy-out-number16 : tie.Need-element-copy-out-number16
 element-copy-out-number16 c = search needs
@@ -22,11 +31,11 @@ number16-requires-2 c κs = search needs
 quiet-after-requires : tie.Need-quiet-after-requires
 quiet-after-requires c κs = search needs
 
-element-copy-out-flag : tie.Need-element-copy-out-flag
-element-copy-out-flag c = search needs
+element-copy-out-flag-3 : tie.Need-element-copy-out-flag-3
+element-copy-out-flag-3 c = search needs
 
-flag-requires : tie.Need-flag-requires
-flag-requires c κs = search needs
+flag-requires-3 : tie.Need-flag-requires-3
+flag-requires-3 c κs = search needs
 
 asks-requires : tie.Need-asks-requires
 asks-requires c κs = search needs
@@ -44,25 +53,29 @@ element-write-words : tie.Need-element-write-words
 element-write-words c = search needs
 
 returns : tie.Need-returns
-returns c = let a = c .before .before .before .before .before .before .before .before .before .before .before .before .before .before .args in
-    let load-serial-is = c .before .before .before .before .before .before .before .before .before .before .before .before .load-serial .ensures in
+returns c = let a = c .before .before .before .before .before .before .before .before .before .before .before .before .before .before .before .before .args in
+    let enabled-is = c .before .before .before .before .before .before .before .before .before .before .before .before .before .before .flag .ensures in
+    let requesting-is = c .before .before .before .before .before .before .before .before .before .before .before .before .flag2 .ensures in
     let retry-is = c .before .before .before .before .before .before .before .before .before .before .number16 .ensures in
     let quiet-is = c .before .before .before .before .before .before .before .before .number162 .ensures in
     let quiet-after-is = c .before .before .before .before .before .before .before .quiet-after .ensures in
-    high-round (a .words .now) (a .hsk) load-serial-is retry-is quiet-is quiet-after-is (c .before .before .before .before .before .flag .ensures) (c .before .before .before .before .asks .ensures) (c .before .before .save-row .ensures) (c .with-tag .ensures)
+    high-round (a .words .now) (a .hsk) enabled-is requesting-is retry-is quiet-is quiet-after-is (c .before .before .before .before .before .flag3 .ensures) (c .before .before .before .before .asks .ensures) (c .before .before .save-row .ensures) (c .with-tag .ensures)
 
 pub dropped-spec : {M : Type 1} → statement M
 dropped-spec =
     tie.close
     (tie.spec
-    load-serial-requires
+    element-copy-out-flag
+    flag-requires
+    element-copy-out-flag-2
+    flag-requires-2
     element-copy-out-number16
     number16-requires
     element-copy-out-number16-2
     number16-requires-2
     quiet-after-requires
-    element-copy-out-flag
-    flag-requires
+    element-copy-out-flag-3
+    flag-requires-3
     asks-requires
     save-row-requires
     element-copy-out-with-tag

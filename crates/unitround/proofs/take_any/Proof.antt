@@ -27,6 +27,12 @@ cast-if1 c = search needs
 add-if1 : tie.Need-add-if1
 add-if1 c = search needs
 
+element-copy-out-number8 : tie.Need-element-copy-out-number8
+element-copy-out-number8 c = search needs
+
+number8-requires : tie.Need-number8-requires
+number8-requires c κs = search needs
+
 load-serial-requires : tie.Need-load-serial-requires
 load-serial-requires c κs = search needs
 
@@ -40,13 +46,14 @@ same-length : tie.Need-same-length
 same-length c = search needs
 
 returns : tie.Need-returns
-returns c = let a = c .before .before .before .before .before .before .before .before .before .before .before .before .before .before .before .before .before .before .args in
-    let with-is = c .before .before .before .before .before .before .before .before .before .before .before .before .with .ensures in
-    let load-header-is = c .before .before .before .before .before .before .before .before .before .before .before .before .before .before .load-header .ensures in
-    let wide-is = c .before .before .before .before .before .before .before .before .before .before .before .before .before .wide .ensures in
-    let put-is = c .before .before .before .before .before .before .before .before .before .before .put .ensures in
+returns c = let a = c .before .before .before .before .before .before .before .before .before .before .before .before .before .before .before .before .before .before .before .before .args in
+    let with-is = c .before .before .before .before .before .before .before .before .before .before .before .before .before .before .with .ensures in
+    let load-header-is = c .before .before .before .before .before .before .before .before .before .before .before .before .before .before .before .before .load-header .ensures in
+    let wide-is = c .before .before .before .before .before .before .before .before .before .before .before .before .before .before .before .wide .ensures in
+    let put-is = c .before .before .before .before .before .before .before .before .before .before .before .before .put .ensures in
+    let own-is = c .before .before .before .before .before .before .before .number8 .ensures in
     let load-serial-is = c .before .before .before .before .before .load-serial .ensures in
-    last-of-all (a .words .now) (a .buffer .now) (a .output .now) (a .b) (with-is ∙ (λ i. withByte (load-header-is i) (wide-is i) (a .b))) refl put-is (c .before .before .before .before .before .before .before .if1 .taken) load-serial-is (c .before .answer .ensures) (c .save-moved .ensures)
+    last-of-all (a .words .now) (a .buffer .now) (a .output .now) (a .b) (with-is ∙ (λ i. withByte (load-header-is i) (wide-is i) (a .b))) refl put-is (c .before .before .before .before .before .before .before .before .before .if1 .taken) own-is load-serial-is (c .before .answer .ensures) (c .save-moved .ensures)
 
 element-write-words : tie.Need-element-write-words
 element-write-words c = search needs
@@ -82,6 +89,8 @@ take-any-spec =
     put-requires
     cast-if1
     add-if1
+    element-copy-out-number8
+    number8-requires
     load-serial-requires
     answer-requires
     save-moved-requires
