@@ -1,6 +1,7 @@
 pub mod Replies
 pub mod Calls
-pub mod Each
+pub mod Ors
+pub mod Queues
 pub mod SerialUnit
 pub mod Lawful
 pub mod Round

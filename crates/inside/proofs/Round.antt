@@ -41,9 +41,6 @@ came Idle own x seen busy buffer = as-it-was refl
 came (Selecting ear half low) own x seen busy buffer = as-it-was refl
 came (Receiving ear (Taking p)) own x seen busy buffer = by (takenOf ear (seen .hsk)) (p .half) (isLast (h .«data_length») (p .place)) _ _ _
   where
-    b : ℕ
-    b = byteFrom (p .low) (seen .nibble)
-
     h : Header
     h = withByte (p .header) (p .place) (byteFrom (p .low) (seen .nibble))
 

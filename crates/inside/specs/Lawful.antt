@@ -18,35 +18,46 @@ use Rattle.whole.specs.Back.{Answered}
 use Rattle.inside.specs.Calls.{HostCall, called, calledAll}
 use Rattle.inside.specs.Inside.{Inside, isServed, hasRequest, replyOf, taken, responded, dataIn, clears}
 
--- The memory that a unit of a kind is lent: 256 bytes for the input of a serial unit.
-abbrev pub Lent : Kind → Inside → Type 0
-Lent SerialUnit x = (length (x .input) ≡ 256) × Below 256 (x .input)
+-- A unit with queues is lent 256 bytes for its input. Inside it holds from a quiet start on: that memory, and a request only while service
+-- is enabled.
+abbrev pub QueueLent : Inside → Type 0
+QueueLent x = (length (x .input) ≡ 256) × Below 256 (x .input)
 
--- What holds inside it from a quiet start on: that memory, and a request only while service is enabled.
+abbrev pub QueueFit : Inside → Type 0
+QueueFit x = QueueLent x × (hasRequest x ≡ true → isServed x ≡ true)
+
+-- So by kind: the memory that it is lent, and what holds inside it.
+abbrev pub Lent : Kind → Inside → Type 0
+Lent SerialUnit = QueueLent
+
 abbrev pub Fit : Kind → Inside → Type 0
-Fit SerialUnit x = Lent SerialUnit x × (hasRequest x ≡ true → isServed x ≡ true)
+Fit SerialUnit = QueueFit
 
 -- The commands that end a request.
 abbrev pub isEnding : ℕ → Bool
 isEnding code = eqb code 0x01 || (eqb code 0x09 || eqb code 0xFF)
 
-pub record Lawful (kind : Kind) : Type 0 where
+-- Of a kind whose units are so lent memory, and so fit.
+pub record LawfulBy (kind : Kind) (lent fit : Inside → Type 0) : Type 0 where
   -- What fits goes on to, whatever comes.
-  pub fit-new : (x : Inside) → x .state ≡ newSerial → Lent kind x → Fit kind x
-  pub fit-taken : (x : Inside) (c : Command) (n : ℕ) (d : List ℕ) → Fit kind x → Fit kind (taken kind x c n d)
-  pub fit-ended : (x : Inside) (r : Reply) → Fit kind x → Fit kind (responded x r)
-  pub fit-called : (x : Inside) (call : HostCall) → Fit kind x → Fit kind (called kind call x)
+  pub fit-new : (x : Inside) → x .state ≡ newSerial → lent x → fit x
+  pub fit-taken : (x : Inside) (c : Command) (n : ℕ) (d : List ℕ) → fit x → fit (taken kind x c n d)
+  pub fit-ended : (x : Inside) (r : Reply) → fit x → fit (responded x r)
+  pub fit-called : (x : Inside) (call : HostCall) → fit x → fit (called kind call x)
   -- The response is one, and its data fits the buffer length field.
-  pub answers : (x : Inside) (c : Command) (n : ℕ) (d : List ℕ) → Fit kind x → Answered (dataIn x (replyOf kind x c n d)) (replyStatus (replyOf kind x c n d)) (c .«buffer_length»)
+  pub answers : (x : Inside) (c : Command) (n : ℕ) (d : List ℕ) → fit x → Answered (dataIn x (replyOf kind x c n d)) (replyStatus (replyOf kind x c n d)) (c .«buffer_length»)
   -- Its data, and so its length, stays the same under the effects of its own command and under calls in mid-answer.
-  pub stands : (x : Inside) (c : Command) (n : ℕ) (d : List ℕ) (calls : List HostCall) → Fit kind x → dataIn (calledAll kind calls (taken kind x c n d)) (replyOf kind x c n d) ≡ dataIn x (replyOf kind x c n d)
+  pub stands : (x : Inside) (c : Command) (n : ℕ) (d : List ℕ) (calls : List HostCall) → fit x → dataIn (calledAll kind calls (taken kind x c n d)) (replyOf kind x c n d) ≡ dataIn x (replyOf kind x c n d)
   -- At code 0 there is silence, and nothing but a reset acts.
   pub zero-silent : (x : Inside) (c : Command) (n : ℕ) (d : List ℕ) → c .device ≡ 0 → isSilent (replyOf kind x c n d) ≡ true
   pub zero-keeps : (x : Inside) (c : Command) (n : ℕ) (d : List ℕ) → c .device ≡ 0 → eqb (c .command) 0xFF ≡ false → taken kind x c n d ≡ x
   -- A poll is answered 00 if service is enabled and a request is held, else 0A; nothing else has an answer that clears a request.
-  pub polled : (x : Inside) (own : ℕ) → Fit kind x → (own ≡ 0 → ⊥) → replyStatus (replyOf kind x (pollOf own .command) 0 []) ≡ cond (isServed x && hasRequest x) 0x00 0x0A
-  pub speaks : (x : Inside) (own : ℕ) → Fit kind x → (own ≡ 0 → ⊥) → isSilent (replyOf kind x (pollOf own .command) 0 []) ≡ false
+  pub polled : (x : Inside) (own : ℕ) → fit x → (own ≡ 0 → ⊥) → replyStatus (replyOf kind x (pollOf own .command) 0 []) ≡ cond (isServed x && hasRequest x) 0x00 0x0A
+  pub speaks : (x : Inside) (own : ℕ) → fit x → (own ≡ 0 → ⊥) → isSilent (replyOf kind x (pollOf own .command) 0 []) ≡ false
   pub clears-poll : (x : Inside) (c : Command) (n : ℕ) (d : List ℕ) → clears (replyOf kind x c n d) ≡ true → eqb (c .command) 0x0A ≡ true
   -- A request is held only while service is enabled, and no other command ends it.
-  pub served : (x : Inside) → Fit kind x → hasRequest x ≡ true → isServed x ≡ true
+  pub served : (x : Inside) → fit x → hasRequest x ≡ true → isServed x ≡ true
   pub request-taken : (x : Inside) (c : Command) (n : ℕ) (d : List ℕ) → isEnding (c .command) ≡ false → hasRequest (taken kind x c n d) ≡ hasRequest x
+
+abbrev pub Lawful : Kind → Type 0
+Lawful kind = LawfulBy kind (Lent kind) (Fit kind)

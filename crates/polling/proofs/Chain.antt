@@ -27,7 +27,7 @@ use Rattle.polling.proofs.Handing.{Shape, a-command, a-poll, a-null, Sh
 use Rattle.delivery.proofs.Part.{low-step}
 use Rattle.delivery.proofs.Rest.{high-step}
 use Rattle.delivery.proofs.Run.{in-frame-called}
-use Rattle.inside.proofs.Each.{or-left}
+use Rattle.inside.proofs.Ors.{or-left}
 use Rattle.delivery.proofs.Lists.{has-all, all-map, all-zip, all-step, all-becomes}
 use Rattle.frame.specs.Frame.{pollOf, dataOf, over}
 use Rattle.frame.specs.declared.Frame.{Frame}

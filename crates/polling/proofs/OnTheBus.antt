@@ -38,7 +38,7 @@ use Rattle.inside.specs.Calls.{HostCall}
 use Rattle.inside.specs.Inside.{Inside, isServed, hasRequest, replyFor}
 use Rattle.inside.specs.Lawful.{Fit}
 use Rattle.inside.proofs.Calls.{unit-called}
-use Rattle.inside.proofs.Each.{or-left}
+use Rattle.inside.proofs.Ors.{or-left}
 use Rattle.inside.proofs.Lawful.{every-lawful}
 use Rattle.inside.proofs.Replies.{silent-status}
 use Rattle.kind.specs.Kinds.{kindOf}
