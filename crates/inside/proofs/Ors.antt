@@ -1,6 +1,7 @@
--- An or, by one side.
+-- An or, by one side; and either way of a test.
 use mathlib.Core.Path.{_≡_, refl, sym, _∙_, ap}
-use mathlib.Core.Bool.{Bool, true, false, _||_, false≢true}
+use mathlib.Core.Bool.{Bool, true, false, cond, _||_, false≢true}
+use Rattle.serial.specs.declared.Verdict.{Verdict}
 
 -- One that holds, by one side where the other does not.
 pub or-right : (a : Bool) {b : Bool} → a ≡ false → (a || b) ≡ true → b ≡ true
@@ -18,3 +19,8 @@ or-first false b e = absurd (false≢true e)
 pub or-second : (a b : Bool) → b ≡ true → (a || b) ≡ true
 or-second true b e = refl
 or-second false b e = e
+
+-- Either way of a test.
+pub by-test : (P : Verdict → Type 0) (t : Bool) (v w : Verdict) → (t ≡ true → P v) → (t ≡ false → P w) → P (cond t v w)
+by-test P true v w p q = p refl
+by-test P false v w p q = q refl

@@ -5,7 +5,7 @@ use native.Mathlib.Omega.{arith}
 use mathlib.Core.Path.{_≡_, refl, sym, _∙_, ap, subst}
 use mathlib.Core.Bool.{Bool, true, false, cond, _&&_, _||_, true≢false, false≢true}
 use mathlib.Core.List.{List, [], _∷_, _++_, append-nil}
-use borrow.Author.Tests.{eqb-false, eq-eqb}
+use borrow.Author.Tests.{eqb-false, eq-eqb, ne-eqb}
 use lib.Dec.{eqb, leb, lit<}
 use lib.ListN.{length, take, length-take}
 use lib.Seq.{take-append-le}
@@ -36,7 +36,7 @@ use Rattle.whole.specs.Back.{Answered}
 use Rattle.inside.specs.Calls.{HostCall, feeds, takes, raises, called, calledAll, stateAfter}
 use Rattle.inside.specs.Inside.{Inside, isServed, hasRequest, replyOf, taken, responded, dataIn, clears}
 use Rattle.inside.specs.Lawful.{QueueLent, QueueFit, isEnding, LawfulBy}
-use Rattle.inside.proofs.Ors.{or-first, or-second}
+use Rattle.inside.proofs.Ors.{or-first, or-second, by-test}
 
 -- Checks 1 and 2, of every kind: at code 0 there is silence, and nothing but a reset acts.
 pub zero-silent : (kind : Kind) (x : Inside) (c : Command) (n : ℕ) (d : List ℕ) → c .device ≡ 0 → isSilent (replyOf kind x c n d) ≡ true
@@ -310,8 +310,17 @@ request-kept s c d not-ending = record {
     ends : {t : Bool} → isEnding (c .command) ≡ true → t ≡ s .requesting
     ends e = absurd (true≢false (sym e ∙ not-ending))
 
--- A kind is lawful whose verdicts are all of these, and that answers a poll as all do.
-module _ (kind : Kind) (verdicts : (s : Serial) (c : Command) (P : Verdict → Type 0) → Each s c P → (n : ℕ) (d : List ℕ) → P (verdictOf kind s c n d)) (polls : (x : Inside) (own : ℕ) → (own ≡ 0 → ⊥) → replyOf kind x (pollOf own .command) 0 [] ≡ pollBy (isServed x) (hasRequest x) .reply) where
+-- A kind is lawful whose checks give nothing but these, and that answers a poll as all do.
+module _ (kind : Kind) (checks : (s : Serial) (c : Command) (P : Verdict → Type 0) → Each s c P → (n : ℕ) (d : List ℕ) → P (checksOf kind s c n d)) (polls : (s : Serial) (own : ℕ) → checksOf kind s (pollOf own .command) 0 [] .reply ≡ pollBy (s .enabled) (s .requesting) .reply) where
+  verdicts : (s : Serial) (c : Command) (P : Verdict → Type 0) → Each s c P → (n : ℕ) (d : List ℕ) → P (verdictOf kind s c n d)
+  verdicts s c P each n d =
+      by-test P (eqb (c .command) 0xFE) _ _ (λ _. each .silent) (λ _.
+      by-test P (eqb (c .command) 0xFF) _ _ (λ e. each .resets e) (λ _.
+      by-test P (eqb (c .device) 0) _ _ (λ _. each .silent) (λ _. checks s c P each n d)))
+
+  poll-reply : (x : Inside) (own : ℕ) → (own ≡ 0 → ⊥) → replyOf kind x (pollOf own .command) 0 [] ≡ pollBy (isServed x) (hasRequest x) .reply
+  poll-reply x own nonzero = ap (λ (t : Bool). cond t (says Silent Keeps) (checksOf kind (x .state) (pollOf own .command) 0 []) .reply) (ne-eqb own 0 nonzero) ∙ polls (x .state) own
+
   fit-taken : (x : Inside) (c : Command) (n : ℕ) (d : List ℕ) → QueueFit x → QueueFit (taken kind x c n d)
   fit-taken x c n d f = (f .0, served-applied (x .state) (verdictOf kind (x .state) c n d .effect) d (f .1))
 
@@ -330,8 +339,8 @@ module _ (kind : Kind) (verdicts : (s : Serial) (c : Command) (P : Verdict → T
         all-stands kind y (replyOf kind x c n d) calls (fit-taken x c n d f) (good x c n d f .holds d (y .output)) .1 .0 ∙ good x c n d f .stands d (y .output);
     zero-silent = zero-silent kind;
     zero-keeps = zero-keeps kind;
-    polled = λ x own f nonzero. ap replyStatus (polls x own nonzero) ∙ poll-status (isServed x && hasRequest x);
-    speaks = λ x own f nonzero. ap isSilent (polls x own nonzero) ∙ poll-speaks (isServed x && hasRequest x);
+    polled = λ x own f nonzero. ap replyStatus (poll-reply x own nonzero) ∙ poll-status (isServed x && hasRequest x);
+    speaks = λ x own f nonzero. ap isSilent (poll-reply x own nonzero) ∙ poll-speaks (isServed x && hasRequest x);
     clears-poll = λ x c n d. verdicts (x .state) c (λ (v : Verdict). clears (v .reply) ≡ true → eqb (c .command) 0x0A ≡ true) (only-a-poll (x .state) c) n d;
     served = λ x f. f .1;
     request-taken = λ x c n d e. verdicts (x .state) c (λ (v : Verdict). applied (x .state) (v .effect) d .requesting ≡ x .state .requesting) (request-kept (x .state) c d e) n d;

@@ -1,16 +1,16 @@
 -- The serial unit is lawful: its checks are walked through once.
 use Prim.Native.Nat.{ℕ, _/_, _%_, _<_, min}
 use native.Mathlib.Nat.{min-le-left, min-le-right, le-trans}
-use mathlib.Core.Bool.{Bool, true, false, cond, _&&_}
+use mathlib.Core.Bool.{Bool, true, false, _&&_}
 use mathlib.Core.List.{List, [], _∷_}
-use mathlib.Core.Path.{_≡_, refl, _∙_, ap}
-use borrow.Author.Tests.{ltb-false, ne-eqb}
+use mathlib.Core.Path.{_≡_, refl}
+use borrow.Author.Tests.{ltb-false}
 use lib.Dec.{ltb, eqb, lit<}
 use lib.ListN.{getD}
 use Rattle.field.specs.Field.{valueOf}
 use Rattle.frame.specs.Frame.{pollOf}
 use Rattle.header.specs.declared.Command.{Command}
-use Rattle.kind.specs.Kinds.{verdictOf}
+use Rattle.kind.specs.Kinds.{checksOf}
 use Rattle.kind.specs.declared.Kind.the-variants.{Serial as SerialUnit}
 use Rattle.queue.specs.Queue.{held, room}
 use Rattle.rs232.specs.Checks.{modeOf, acceptedOf, openBy, readBy, writeBy, openedBy, commandBy, supported}
@@ -20,29 +20,23 @@ use Rattle.serial.specs.declared.Mode.{Mode}
 use Rattle.serial.specs.declared.Mode.the-variants.{Input, Output, Update}
 use Rattle.serial.specs.declared.Opening.{Opening}
 use Rattle.serial.specs.declared.Opening.the-variants.{Closed, OpenFor}
-use Rattle.serial.specs.declared.Reply.the-variants.{Silent, Bytes}
+use Rattle.serial.specs.declared.Reply.the-variants.{Bytes}
 use Rattle.serial.specs.declared.Serial.{Serial}
 use Rattle.serial.specs.declared.Verdict.{Verdict}
-use Rattle.inside.specs.Inside.{Inside, isServed, hasRequest, replyOf}
 use Rattle.inside.specs.Lawful.{Lawful}
-use Rattle.inside.proofs.Ors.{or-left, or-right}
+use Rattle.inside.proofs.Ors.{or-left, or-right, by-test}
 use Rattle.inside.proofs.Queues.{queues-lawful, Each}
 
--- Either way of every test.
+-- Its checks, both ways of every test.
 module _ (s : Serial) (c : Command) (P : Verdict → Type 0) (each : Each s c P) where
-  -- Either way of a test.
-  by-test : (t : Bool) (v w : Verdict) → (t ≡ true → P v) → (t ≡ false → P w) → P (cond t v w)
-  by-test true v w p q = p refl
-  by-test false v w p q = q refl
-
   each-open : (n requested attributes : ℕ) → P (openBy (c .«buffer_length») n requested attributes)
   each-open n requested attributes =
-      by-test (ltb n 3) _ _ (λ _. each .refuses 0x02 (lit< tt)) (λ _.
-      by-test (eqb (attributes / 64) 0) _ _ (λ _. each .refuses 0x13 (lit< tt)) (λ _.
-      by-test (eqb (attributes / 32 % 2) 1) _ _ (λ _. each .refuses 0x11 (lit< tt)) (λ _.
-      by-test (ltb 128 requested) _ _ (λ _. each .refuses 0x0C (lit< tt)) (λ _.
-      by-test (ltb (c .«buffer_length») 4) _ _ (λ _. each .refuses 0x0C (lit< tt)) (λ e.
-      by-test (ltb 3 n) _ _ (λ _. each .refuses 0x01 (lit< tt)) (λ _. each .opens (modeOf attributes) (acceptedOf requested) (ltb-false (c .«buffer_length») 4 e)))))))
+      by-test P (ltb n 3) _ _ (λ _. each .refuses 0x02 (lit< tt)) (λ _.
+      by-test P (eqb (attributes / 64) 0) _ _ (λ _. each .refuses 0x13 (lit< tt)) (λ _.
+      by-test P (eqb (attributes / 32 % 2) 1) _ _ (λ _. each .refuses 0x11 (lit< tt)) (λ _.
+      by-test P (ltb 128 requested) _ _ (λ _. each .refuses 0x0C (lit< tt)) (λ _.
+      by-test P (ltb (c .«buffer_length») 4) _ _ (λ _. each .refuses 0x0C (lit< tt)) (λ e.
+      by-test P (ltb 3 n) _ _ (λ _. each .refuses 0x01 (lit< tt)) (λ _. each .opens (modeOf attributes) (acceptedOf requested) (ltb-false (c .«buffer_length») 4 e)))))))
 
   each-bytes : (accepted : ℕ) → P (says (Bytes (min (held (s .input)) (min (c .«buffer_length») accepted))) Keeps)
   each-bytes accepted =
@@ -56,44 +50,41 @@ module _ (s : Serial) (c : Command) (P : Verdict → Type 0) (each : Each s c P)
 
   each-write : (m : Mode) (n room : ℕ) → P (writeBy m n room)
   each-write Input n room = each .refuses 0x0E (lit< tt)
-  each-write Output n room = by-test (ltb room n) _ _ (λ _. each .refuses 0x08 (lit< tt)) (λ _. each .stores)
-  each-write Update n room = by-test (ltb room n) _ _ (λ _. each .refuses 0x08 (lit< tt)) (λ _. each .stores)
+  each-write Output n room = by-test P (ltb room n) _ _ (λ _. each .refuses 0x08 (lit< tt)) (λ _. each .stores)
+  each-write Update n room = by-test P (ltb room n) _ _ (λ _. each .refuses 0x08 (lit< tt)) (λ _. each .stores)
 
   each-poll : eqb (c .command) 0x0A ≡ true → (a b : Bool) → P (pollBy a b)
-  each-poll e a b = by-test (a && b) _ _ (λ _. each .polled e) (λ _. each .refuses 0x0A (lit< tt))
+  each-poll e a b = by-test P (a && b) _ _ (λ _. each .polled e) (λ _. each .refuses 0x0A (lit< tt))
 
   -- What is neither open, poll, close, read, write nor enabling is the disabling.
   each-in : (m : Mode) (accepted n : ℕ) → supported (c .command) ≡ true → eqb (c .command) 0x00 ≡ false → eqb (c .command) 0x0A ≡ false → P (openedBy m accepted s c n)
   each-in m accepted n known a b =
-      by-test (eqb (c .command) 0x01) _ _ (λ e. each .closes e) (λ x1.
-      by-test (eqb (c .command) 0x03) _ _ (λ _. each-read m accepted) (λ x3.
-      by-test (eqb (c .command) 0x04) _ _ (λ _. each-write m n (room (s .output))) (λ x4.
-      by-test (eqb (c .command) 0x08) _ _ (λ _. each .enables) (λ x8.
+      by-test P (eqb (c .command) 0x01) _ _ (λ e. each .closes e) (λ x1.
+      by-test P (eqb (c .command) 0x03) _ _ (λ _. each-read m accepted) (λ x3.
+      by-test P (eqb (c .command) 0x04) _ _ (λ _. each-write m n (room (s .output))) (λ x4.
+      by-test P (eqb (c .command) 0x08) _ _ (λ _. each .enables) (λ x8.
       each .disables (or-left (eqb (c .command) 0x09) (eqb (c .command) 0x0A) b
       (or-right (eqb (c .command) 0x08) x8 (or-right (eqb (c .command) 0x04) x4 (or-right (eqb (c .command) 0x03) x3 (or-right (eqb (c .command) 0x01) x1 (or-right (eqb (c .command) 0x00) a known))))))))))
 
   each-command : (o : Opening) (n : ℕ) (d : List ℕ) → supported (c .command) ≡ true → P (commandBy o s c n d)
   each-command Closed n d known =
-      by-test (eqb (c .command) 0x00) _ _ (λ _. each-open n (valueOf (getD d 0 0 ∷ getD d 1 0 ∷ [])) (getD d 2 0)) (λ _.
-      by-test (eqb (c .command) 0x0A) _ _ (λ e. each-poll e (s .enabled) (s .requesting)) (λ _. each .refuses 0x04 (lit< tt)))
+      by-test P (eqb (c .command) 0x00) _ _ (λ _. each-open n (valueOf (getD d 0 0 ∷ getD d 1 0 ∷ [])) (getD d 2 0)) (λ _.
+      by-test P (eqb (c .command) 0x0A) _ _ (λ e. each-poll e (s .enabled) (s .requesting)) (λ _. each .refuses 0x04 (lit< tt)))
   each-command (OpenFor m accepted) n d known =
-      by-test (eqb (c .command) 0x00) _ _ (λ _. each .refuses 0x05 (lit< tt)) (λ a.
-      by-test (eqb (c .command) 0x0A) _ _ (λ e. each-poll e (s .enabled) (s .requesting)) (λ b. each-in m accepted n known a b))
+      by-test P (eqb (c .command) 0x00) _ _ (λ _. each .refuses 0x05 (lit< tt)) (λ a.
+      by-test P (eqb (c .command) 0x0A) _ _ (λ e. each-poll e (s .enabled) (s .requesting)) (λ b. each-in m accepted n known a b))
 
-  pub serial-verdicts : (n : ℕ) (d : List ℕ) → P (verdictOf SerialUnit s c n d)
-  serial-verdicts n d =
-      by-test (eqb (c .command) 0xFE) _ _ (λ _. each .silent) (λ _.
-      by-test (eqb (c .command) 0xFF) _ _ (λ e. each .resets e) (λ _.
-      by-test (eqb (c .device) 0) _ _ (λ _. each .silent) (λ _.
-      by-test (supported (c .command)) _ _ (λ known. by-test (ltb 256 n) _ _ (λ _. each .refuses 0x08 (lit< tt)) (λ _. each-command (s .opening) n d known)) (λ _. each .refuses 0x0D (lit< tt)))))
+  pub serial-checks : (n : ℕ) (d : List ℕ) → P (checksOf SerialUnit s c n d)
+  serial-checks n d =
+      by-test P (supported (c .command)) _ _ (λ known. by-test P (ltb 256 n) _ _ (λ _. each .refuses 0x08 (lit< tt)) (λ _. each-command (s .opening) n d known)) (λ _. each .refuses 0x0D (lit< tt))
 
 -- It answers a poll whether it is open or not.
-poll-reply : (x : Inside) (own : ℕ) → (own ≡ 0 → ⊥) → replyOf SerialUnit x (pollOf own .command) 0 [] ≡ pollBy (isServed x) (hasRequest x) .reply
-poll-reply x own nonzero = ap (λ (t : Bool). cond t (says Silent Keeps) (commandBy (x .state .opening) (x .state) (pollOf own .command) 0 []) .reply) (ne-eqb own 0 nonzero) ∙ by (x .state .opening)
+serial-polls : (s : Serial) (own : ℕ) → checksOf SerialUnit s (pollOf own .command) 0 [] .reply ≡ pollBy (s .enabled) (s .requesting) .reply
+serial-polls s own = by (s .opening)
   where
-    by : (o : Opening) → commandBy o (x .state) (pollOf own .command) 0 [] .reply ≡ pollBy (isServed x) (hasRequest x) .reply
+    by : (o : Opening) → commandBy o s (pollOf own .command) 0 [] .reply ≡ pollBy (s .enabled) (s .requesting) .reply
     by Closed = refl
     by (OpenFor m accepted) = refl
 
 pub serial-lawful : Lawful SerialUnit
-serial-lawful = queues-lawful SerialUnit serial-verdicts poll-reply
+serial-lawful = queues-lawful SerialUnit serial-checks serial-polls
