@@ -9,7 +9,7 @@ use lib.Dec.{ltb}
 use lib.ListN.{length}
 use Rattle.bus.specs.declared.Station.{Station}
 use Rattle.header.specs.declared.Command.{Command}
-use Rattle.inside.specs.Inside.{Inside, insideOf}
+use Rattle.inside.specs.Inside.{Inside, insideOf, withState}
 use Rattle.inside.proofs.Round.{insideAfter}
 use Rattle.line.specs.Line.{hearOf, sendOf, sentOf}
 use Rattle.line.specs.declared.Lines.{Lines}
@@ -28,7 +28,6 @@ use Rattle.phase.specs.declared.Phase.the-variants.{Receiving, Responding, Sitt
 use Rattle.phase.specs.declared.Progress.the-variants.{Answered}
 use Rattle.serial.specs.Serial.{finished}
 use Rattle.serial.specs.declared.Reply.{Reply}
-use Rattle.serial.specs.declared.Serial.{Serial}
 use Rattle.unit.specs.Unit.{pullsHsk}
 use Rattle.whole.specs.Whole.{bytesFor, Sent}
 use Rattle.whole.proofs.Whole.{length-bytes}
@@ -79,10 +78,6 @@ module _ (c : Command) (d : List ℕ) {st st′ : Station} {seen : Lines} {busy 
   abbrev done : Reply → Moved
   done r = moves (SittingOut false) (finished (st .unit .serial) r)
 
-  -- What is inside it, with another state.
-  abbrev withState : Serial → Inside
-  withState s = record { state = s; input = st .input; output = st .output }
-
   responds-by : (r : Reply) (j : ℕ) (sender : Sender) (wait sent more : Bool) → addressed c (st .unit .own) ≡ true → st .unit .phase ≡ Responding r j sender wait
       → sentOf sender (seen .hsk) ≡ sent → ltb j (lastNibble (st .unit .serial .input) r) ≡ more → Changed c d st st′
   responds-by r j sender true sent more a e s m = unchanged (inside-at e) (λ now. absurd (true≢false (sym now ∙ ap isAnswered (phase-at e))))
@@ -91,8 +86,8 @@ module _ (c : Command) (d : List ℕ) {st st′ : Station} {seen : Lines} {busy 
       moved : Bool → Bool → Moved
       moved t u = cond t (cond u (later r j) (done r)) (ready r j sender)
 
-      comes : {t u : Bool} → sentOf sender (seen .hsk) ≡ t → ltb j (lastNibble (st .unit .serial .input) r) ≡ u → (st′ .unit .phase ≡ moved t u .phase) × (insideOf st′ ≡ withState (moved t u .serial))
-      comes x y = (phase-at e ∙ (λ k. moved (x k) (y k) .phase), inside-at e ∙ (λ k. withState (moved (x k) (y k) .serial)))
+      comes : {t u : Bool} → sentOf sender (seen .hsk) ≡ t → ltb j (lastNibble (st .unit .serial .input) r) ≡ u → (st′ .unit .phase ≡ moved t u .phase) × (insideOf st′ ≡ withState (insideOf st) (moved t u .serial))
+      comes x y = (phase-at e ∙ (λ k. moved (x k) (y k) .phase), inside-at e ∙ (λ k. withState (insideOf st) (moved (x k) (y k) .serial)))
 
       by : (t u : Bool) → sentOf sender (seen .hsk) ≡ t → ltb j (lastNibble (st .unit .serial .input) r) ≡ u → Changed c d st st′
       by false u x y = unchanged (comes x y .1) (λ now. absurd (true≢false (sym now ∙ ap isAnswered (comes x y .0))))

@@ -9,7 +9,7 @@ use lib.Dec.{eqb}
 use lib.ListN.{length}
 use Rattle.field.specs.Field.{byteFrom}
 use Rattle.inside.specs.Inside.{Inside, replyOf, taken, replyFor, takenFor}
-use Rattle.inside.proofs.Round.{insideAfter}
+use Rattle.inside.proofs.Round.{insideAfter, inside-by}
 use Rattle.kind.specs.Kinds.{kindOf}
 use Rattle.line.specs.Line.{sendOf, sentOf, hearOf, takenOf}
 use Rattle.line.specs.declared.Lines.{Lines}
@@ -121,11 +121,6 @@ module _ (c : Command) (d : List ℕ) (ok : Sent c d) (own : ℕ) (x : Inside) (
         ∙ ap (λ (n : ℕ). outputBy j (withByte (headAt bytes j) j n) n buffer) (byte-from j (seen .nibble) seen-high)
         ∙ ap (λ (h : Header). outputBy j h (byteAt bytes j) buffer) (next-header c d j ok)
 
-    -- What it leaves inside, from the phase's round and the output.
-    inside-by : {m : Moved} {o : List ℕ} → phaseStep (halfAt j) own s seen busy buffer (x .input) ≡ m → phaseOutput (halfAt j) own s seen buffer (x .output) ≡ o
-        → insideAfter (halfAt j) own x seen busy buffer ≡ record { state = m .serial; input = x .input; output = o }
-    inside-by m o = λ k. record { state = m k .serial; input = x .input; output = o k }
-
     -- It is not the last byte.
     byte-goes-on : isLast (headAt bytes (suc j) .«data_length») j ≡ false
         → Round (halfAt j) own x seen busy buffer (Receiving Holding (Taking (partial (headAt bytes (suc j)) (suc j)))) x (bufferWith (headAt bytes (suc j) .«data_length») j (byteAt bytes j) buffer)
@@ -134,7 +129,7 @@ module _ (c : Command) (d : List ℕ) (ok : Sent c d) (own : ℕ) (x : Inside) (
         let m : phaseStep (halfAt j) own s seen busy buffer (x .input) ≡ moves (Receiving Holding (Taking (partial (headAt bytes (suc j)) (suc j)))) s =
         byte-moved ∙ rw (e, next) in
         let o : phaseOutput (halfAt j) own s seen buffer (x .output) ≡ x .output = byte-output ∙ rw e in
-        record { phase = ap (λ (y : Moved). y .phase) m; inside = inside-by m o; buffer = byte-buffer }
+        record { phase = ap (λ (y : Moved). y .phase) m; inside = inside-by (halfAt j) own x seen busy buffer m o; buffer = byte-buffer }
 
     -- It is the last.
     byte-ends : (b : List ℕ) → isLast (headAt bytes (suc j) .«data_length») j ≡ true → headAt bytes (suc j) ≡ headerFor c d → bufferWith (headAt bytes (suc j) .«data_length») j (byteAt bytes j) buffer ≡ withData d b
@@ -149,7 +144,7 @@ module _ (c : Command) (d : List ℕ) (ok : Sent c d) (own : ℕ) (x : Inside) (
         let o : phaseOutput (halfAt j) own s seen buffer (x .output) ≡ stored own s (headerFor c d) (withData d b) (x .output) = byte-output ∙ last-output ∙ (λ k. stored own s (whole k) (full k) (x .output)) in
         record {
           phase = ap (λ (y : Moved). y .phase) m ∙ ap (λ (e : List ℕ). Receiving Holding (Answered (replyOf (kindOf own) x c (length d) e))) z;
-          inside = inside-by m o ∙ ap (taken (kindOf own) x c (length d)) z;
+          inside = inside-by (halfAt j) own x seen busy buffer m o ∙ ap (taken (kindOf own) x c (length d)) z;
         }
 
   -- The device code is the unit's own or 0.

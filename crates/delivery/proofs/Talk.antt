@@ -15,7 +15,7 @@ use Rattle.frame.specs.Frame.{listeningStep, listeningBuffer, over, stays, wait
 use Rattle.frame.specs.declared.Frame.{Frame}
 use Rattle.frame.specs.declared.Moved.{Moved}
 use Rattle.frame.specs.declared.Stage.the-variants.{Listening}
-use Rattle.inside.specs.Inside.{Inside, insideOf, responded}
+use Rattle.inside.specs.Inside.{Inside, insideOf, withState, responded}
 use Rattle.inside.proofs.Round.{insideAfter}
 use Rattle.line.specs.Line.{sendOf, sentOf, hearOf, takenOf, isReady, listenerHsk, senderHsk, senderNibble}
 use Rattle.line.specs.declared.Lines.{Lines}
@@ -32,7 +32,6 @@ use Rattle.queue.specs.Queue.{contents}
 use Rattle.reply.specs.Reply.{replyStatus, responseBytes, lastNibble}
 use Rattle.serial.specs.Serial.{finished}
 use Rattle.serial.specs.declared.Reply.{Reply}
-use Rattle.serial.specs.declared.Serial.{Serial}
 use Rattle.unit.specs.Unit.{pullsHsk, pullsNibble}
 use Rattle.whole.specs.Back.{takenAt, storedAt, lengthOf, received}
 use Rattle.whole.proofs.Back.{response-completes, not-over-before, data-received}
@@ -154,10 +153,6 @@ module _ (T : Moment) (f : Frame) (d found : List ℕ) (timeout : ℕ) (eight : 
   not-asking : st .unit .asking ≡ false → st′ .unit .asking ≡ false
   not-asking e = step .asking ∙ ap (λ (b : Bool). b && not (seen .hsk)) e
 
-  -- What is inside the unit, with another state.
-  abbrev withState : Serial → Inside
-  withState s = record { state = s; input = st .input; output = st .output }
-
   same-own : addressed (f .command) (st .unit .own) ≡ true → addressed (f .command) (st′ .unit .own) ≡ true
   same-own e = ap (addressed (f .command)) (step .own) ∙ e
 
@@ -168,7 +163,7 @@ module _ (T : Moment) (f : Frame) (d found : List ℕ) (timeout : ℕ) (eight : 
     phase-is : st′ .unit .phase ≡ stepped .phase
     phase-is = step .phase ∙ ap (λ (x : Phase). phaseStep x (st .unit .own) (st .unit .serial) seen busy (st .buffer) (st .input) .phase) e
 
-    inside-is : insideOf st′ ≡ withState (stepped .serial)
+    inside-is : insideOf st′ ≡ withState (insideOf st) (stepped .serial)
     inside-is = step .inside ∙ ap (λ (x : Phase). insideAfter x (st .unit .own) (insideOf st) seen busy (st .buffer)) e
 
   abbrev after : Listener → Response → ℕ → Moved
@@ -221,7 +216,7 @@ module _ (T : Moment) (f : Frame) (d found : List ℕ) (timeout : ℕ) (eight : 
     not-sent : sentOf sender (seen .hsk) ≡ false → (st′ .unit .phase ≡ Responding r j (sendOf sender (seen .hsk) n) false) × (insideOf st′ ≡ insideOf st)
     not-sent s = (
       phase-is r j sender false e ∙ ap (λ (t : Bool). cond t whenSent whenNot .phase) s ∙ ap (λ (x : ℕ). Responding r j (sendOf sender (seen .hsk) x) false) own-nibble,
-      inside-is r j sender false e ∙ ap (λ (t : Bool). withState (cond t whenSent whenNot .serial)) s,
+      inside-is r j sender false e ∙ ap (λ (t : Bool). withState (insideOf st) (cond t whenSent whenNot .serial)) s,
     )
 
     rests-on : takenOf ear (seen .hsk) ≡ false → sentOf sender (seen .hsk) ≡ false → Fits n (sendOf sender (seen .hsk) n) (hearOf ear (seen .hsk) host) t
@@ -298,8 +293,8 @@ module _ (T : Moment) (f : Frame) (d found : List ℕ) (timeout : ℕ) (eight : 
           ∙ ap (λ (x : Bool). cond x (moves (Responding r (j + 1) Next false) (st .unit .serial)) (moves (SittingOut false) (finished (st .unit .serial) r)) .phase) m
           ∙ ap (λ (x : ℕ). Responding r x Next false) k′ in
           let inside : insideOf st′ ≡ insideOf st =
-          inside-is r j sender false e ∙ ap (λ (x : Bool). withState (cond x whenSent whenNot .serial)) s
-          ∙ ap (λ (x : Bool). withState (cond x (moves (Responding r (j + 1) Next false) (st .unit .serial)) (moves (SittingOut false) (finished (st .unit .serial) r)) .serial)) m in
+          inside-is r j sender false e ∙ ap (λ (x : Bool). withState (insideOf st) (cond x whenSent whenNot .serial)) s
+          ∙ ap (λ (x : Bool). withState (insideOf st) (cond x (moves (Responding r (j + 1) Next false) (st .unit .serial)) (moves (SittingOut false) (finished (st .unit .serial) r)) .serial)) m in
           still Ready taken 1 (listened ∙ waits-on Ready taken 1 (omega arith) (ap (λ (x : Bool). x && true) on))
           (talks r (suc j) 0 Next false phase (carried T (step .own) inside p) f-next (g ∙ ap (takenAt (answerBytes p) limit) k) (buffer-kept ear taken buffer a ∙ b ∙ ap (λ (x : ℕ). storedAt (answerBytes p) limit stores x found) k) (omega arith) (λ x. absurd (false≢true x)) (omega arith) (not-asking q) (same-own own))
           (λ free.
@@ -317,8 +312,8 @@ module _ (T : Moment) (f : Frame) (d found : List ℕ) (timeout : ℕ) (eight : 
           phase-is r j sender false e ∙ ap (λ (x : Bool). cond x whenSent whenNot .phase) s
           ∙ ap (λ (x : Bool). cond x (moves (Responding r (j + 1) Next false) (st .unit .serial)) (moves (SittingOut false) (finished (st .unit .serial) r)) .phase) m in
           let inside : insideOf st′ ≡ responded (insideOf st) r =
-          inside-is r j sender false e ∙ ap (λ (x : Bool). withState (cond x whenSent whenNot .serial)) s
-          ∙ ap (λ (x : Bool). withState (cond x (moves (Responding r (j + 1) Next false) (st .unit .serial)) (moves (SittingOut false) (finished (st .unit .serial) r)) .serial)) m in
+          inside-is r j sender false e ∙ ap (λ (x : Bool). withState (insideOf st) (cond x whenSent whenNot .serial)) s
+          ∙ ap (λ (x : Bool). withState (insideOf st) (cond x (moves (Responding r (j + 1) Next false) (st .unit .serial)) (moves (SittingOut false) (finished (st .unit .serial) r)) .serial)) m in
           let full : waited f Ready (Complete (replyStatus r) (length (answerData p))) timeout 1 ≡ over f (Complete (replyStatus r) (length (answerData p))) =
           ap (λ (x : Bool). cond (x || true) (over f (Complete (replyStatus r) (length (answerData p)))) (stays (Listening f Ready (Complete (replyStatus r) (length (answerData p))) 1))) (lt-leb timeout 1 (omega arith)) in
           done r j sender e p (listened ∙ ap (λ (x : Response). waited f Ready x timeout 1) all ∙ full)

@@ -10,7 +10,7 @@ use Rattle.answer.specs.Answer.{nothingTaken}
 use Rattle.answer.specs.declared.Response.{Response}
 use Rattle.answer.specs.declared.Response.the-variants.{Complete}
 use Rattle.bus.specs.declared.Station.{Station}
-use Rattle.controller.specs.Controller.{controllerOf, ringAfter, frameOf}
+use Rattle.controller.specs.Controller.{controllerOf, controllerMoved, frameOf}
 use Rattle.frame.specs.Frame.{begun, dataOf, isSubmitted, lentTo, over}
 use Rattle.frame.specs.declared.Frame.{Frame}
 use Rattle.frame.specs.declared.Lent.the-variants.{Fits as AsLent}
@@ -178,7 +178,7 @@ abbrev pub movedIn : World → Busy → Moved
 movedIn w busy = frameOf (w .controller) (levels w) (busy .here) (w .lent)
 
 abbrev pub Finishes : World → Busy → Type 0
-Finishes w busy = round w busy .controller ≡ controllerOf (w .controller .timeout) (movedIn w busy .stage) (ringAfter (w .controller .ring) (movedIn w busy .end))
+Finishes w busy = round w busy .controller ≡ controllerMoved (w .controller) (movedIn w busy)
 
 pub data Goes (T : Moment) (f : Frame) (found : List ℕ) (w : World) (busy : Busy) : Type 0 where
   on : round w busy .controller .ring ≡ w .controller .ring → InFrame T f found (round w busy) → Speaking w busy → (busy ≡ quietly → left (round w busy) < left w) → Goes T f found w busy

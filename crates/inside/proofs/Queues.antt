@@ -34,7 +34,7 @@ use Rattle.serial.specs.declared.Serial.{Serial}
 use Rattle.serial.specs.declared.Verdict.{Verdict}
 use Rattle.whole.specs.Back.{Answered}
 use Rattle.inside.specs.Calls.{HostCall, feeds, takes, raises, called, calledAll, stateAfter}
-use Rattle.inside.specs.Inside.{Inside, isServed, hasRequest, replyOf, taken, responded, dataIn, clears}
+use Rattle.inside.specs.Inside.{Inside, withState, isServed, hasRequest, replyOf, taken, responded, dataIn, clears}
 use Rattle.inside.specs.Lawful.{QueueLent, QueueFit, isEnding, LawfulBy}
 use Rattle.inside.proofs.Ors.{or-first, or-second, by-test}
 
@@ -197,12 +197,12 @@ call-grown : (kind : Kind) (x : Inside) (call : HostCall) → length (x .input) 
 call-grown kind x (feeds b h) m = feed-by x b h m (isFed kind (x .state .opening)) (eqb (room (x .state .input)) 0) refl
 call-grown kind x takes m = by (popped (x .output) (x .state .output))
   where
-    by : (p : Popped) → Grown x (record { state = takingIn (x .state) p; input = x .input; output = x .output })
+    by : (p : Popped) → Grown x (withState x (takingIn (x .state) p))
     by (Byte b rest) = same-queue x _ refl refl
     by Nothing = same-queue x _ refl refl
 call-grown kind x raises m = by (x .state .enabled)
   where
-    by : (t : Bool) → Grown x (record { state = stateAfter (cond t (gives (withRequest (x .state) true)) (refused 7)) (x .state); input = x .input; output = x .output })
+    by : (t : Bool) → Grown x (withState x (stateAfter (cond t (gives (withRequest (x .state) true)) (refused 7)) (x .state)))
     by true = same-queue x _ refl refl
     by false = same-queue x _ refl refl
 

@@ -13,13 +13,14 @@ use Rattle.line.specs.Line.{sentOf, takenOf}
 use Rattle.line.specs.declared.Lines.{Lines}
 use Rattle.line.specs.declared.Sender.{Sender}
 use Rattle.phase.specs.Phase.{phaseStep, phaseOutput, moves, answered, stored, storedData, withByte, isLast, bufferWith}
+use Rattle.phase.specs.declared.Moved.{Moved}
 use Rattle.phase.specs.declared.Phase.{Phase}
 use Rattle.phase.specs.declared.Phase.the-variants.{Idle, Selecting, Receiving, Responding, SittingOut}
 use Rattle.phase.specs.declared.Progress.the-variants.{Taking, Answered}
 use Rattle.reply.specs.Reply.{lastNibble}
 use Rattle.serial.specs.Serial.{finished}
 use Rattle.serial.specs.declared.Reply.{Reply}
-use Rattle.inside.specs.Inside.{Inside, taken, responded}
+use Rattle.inside.specs.Inside.{Inside, withState, taken, responded}
 use Rattle.inside.specs.Lawful.{Fit}
 use Rattle.inside.proofs.Lawful.{every-lawful}
 
@@ -30,6 +31,12 @@ insideAfter p own x seen busy buffer = record {
   input = x .input;
   output = phaseOutput p own (x .state) seen buffer (x .output);
 }
+
+-- It follows from what the round makes of the state and of the lent memory.
+pub inside-by : (p : Phase) (own : ℕ) (x : Inside) (seen : Lines) (busy : Bool) (buffer : List ℕ) {m : Moved} {o : List ℕ}
+    → phaseStep p own (x .state) seen busy buffer (x .input) ≡ m → phaseOutput p own (x .state) seen buffer (x .output) ≡ o
+    → insideAfter p own x seen busy buffer ≡ record { state = m .serial; input = x .input; output = o }
+inside-by p own x seen busy buffer m o = λ k. record { state = m k .serial; input = x .input; output = o k }
 
 pub data Came (p : Phase) (own : ℕ) (x : Inside) (p′ : Phase) (y : Inside) : Type 0 where
   as-it-was : y ≡ x → Came p own x p′ y
@@ -65,7 +72,7 @@ came (Responding r j sender false) own x seen busy buffer = by (sentOf sender (s
   where
     by : (sent more : Bool) (next on : Phase)
         → Came (Responding r j sender false) own x (cond sent (cond more (moves next (x .state)) (moves (SittingOut false) (finished (x .state) r))) (moves on (x .state)) .phase)
-        (record { state = cond sent (cond more (moves next (x .state)) (moves (SittingOut false) (finished (x .state) r))) (moves on (x .state)) .serial; input = x .input; output = x .output })
+        (withState x (cond sent (cond more (moves next (x .state)) (moves (SittingOut false) (finished (x .state) r))) (moves on (x .state)) .serial))
     by true true next on = as-it-was refl
     by true false next on = of-its-response r j sender refl refl refl
     by false more next on = as-it-was refl

@@ -11,7 +11,7 @@ use Rattle.message.specs.Answer.{Answer, gives, refused, kept}
 use Rattle.queue.specs.Queue.{bytesWith, popped}
 use Rattle.serial.specs.declared.Serial.{Serial}
 use Rattle.unit.specs.declared.Unit.{Unit}
-use Rattle.inside.specs.Inside.{Inside}
+use Rattle.inside.specs.Inside.{Inside, withState}
 
 pub data HostCall : Type 0 where
   feeds : (b : ℕ) → b < 256 → HostCall
@@ -39,8 +39,8 @@ called kind (feeds b h) x = record {
   input = kept (feedingIn kind (x .state) b) (bytesWith (x .input) (x .state .input) (b ∷ [])) (x .input);
   output = x .output;
 }
-called kind takes x = record { state = takingIn (x .state) (popped (x .output) (x .state .output)); input = x .input; output = x .output }
-called kind raises x = record { state = stateAfter (raisingIn (x .state)) (x .state); input = x .input; output = x .output }
+called kind takes x = withState x (takingIn (x .state) (popped (x .output) (x .state .output)))
+called kind raises x = withState x (stateAfter (raisingIn (x .state)) (x .state))
 
 -- Calls one after the other, the latest in front.
 abbrev pub calledAll : Kind → List HostCall → Inside → Inside

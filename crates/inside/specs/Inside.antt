@@ -24,6 +24,10 @@ pub record Inside : Type 0 where
 abbrev pub insideOf : Station → Inside
 insideOf st = record { state = st .unit .serial; input = st .input; output = st .output }
 
+-- The same with another state.
+abbrev pub withState : Inside → Serial → Inside
+withState x s = record { state = s; input = x .input; output = x .output }
+
 -- Whether service is enabled, and whether a request is held.
 abbrev pub isServed : Inside → Bool
 isServed x = x .state .enabled
@@ -48,7 +52,7 @@ taken kind x c n d = record {
 
 -- What waits until the last response nibble is done.
 abbrev pub responded : Inside → Reply → Inside
-responded x r = record { state = finished (x .state) r; input = x .input; output = x .output }
+responded x r = withState x (finished (x .state) r)
 
 -- The data of the response.
 abbrev pub dataIn : Inside → Reply → List ℕ

@@ -16,11 +16,11 @@ use Rattle.controller.specs.declared.Controller.{Controller}
 use Rattle.header.specs.declared.Command.{Command}
 use Rattle.kind.specs.Kinds.{kindOf, verdictOf}
 use Rattle.line.specs.declared.Lines.{Lines}
-use Rattle.queue.specs.Queue.{contents, emptyQueue}
+use Rattle.queue.specs.Queue.{contents}
 use Rattle.reply.specs.Reply.{responseBytes}
 use Rattle.ring.specs.Ring.{entryOf, live, ringOf}
 use Rattle.ring.specs.declared.Entry.{Entry}
-use Rattle.serial.specs.Serial.{newSerial, applied}
+use Rattle.serial.specs.Serial.{newSerial, applied, withInput}
 use Rattle.serial.specs.declared.Serial.{Serial}
 
 -- What a case is about: bytes, nibbles, a ring's codes in order, the number of a refusal, or that none came.
@@ -62,13 +62,7 @@ readDevice20 buffer = record { device = 20; command = 0x03; «logical_unit» = 1
 
 -- A unit that is open by M1, with the three bytes 41 42 43 in its input queue.
 abbrev pub withThree : Serial
-withThree = record {
-  opening = unitAfter newSerial openDevice20 openData .opening;
-  enabled = false;
-  requesting = false;
-  input = record { head = 0; count = 3 };
-  output = emptyQueue;
-}
+withThree = withInput (unitAfter newSerial openDevice20 openData) (record { head = 0; count = 3 })
 
 abbrev pub three : List ℕ
 three = 0x41 ∷ 0x42 ∷ 0x43 ∷ []
