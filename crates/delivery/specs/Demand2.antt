@@ -100,8 +100,9 @@ Steps =
     × All (λ (st : Station). (u : Unit) × (unitStepping (st .unit) (levels v) busy (st .buffer) (st .input) ≡ gives u)) (v .units)
 
 -- Each round of a frame leads on in it, or ends it: with the status, the data and the count that the whole-message definition gives for
--- what was inside the addressed unit when the last nibble was taken, at the front of the response buffer that the frame found, and what waited
--- done; or with nothing taken (FF), where no response is defined. T is whatever is known of the moments in which last nibbles are taken:
+-- what was inside the addressed unit when the last nibble was taken, at the front of the response buffer that the frame found, and what
+-- waited done; or with nothing taken (FF), where no response is defined. T is whatever is known of the moments in which last nibbles are
+-- taken:
 abbrev pub Frames : Type 1
 Frames = (T : Moment) (f : Frame) (found : List ℕ) (w : World) → (busy : Busy) → Noted T w busy → InFrame T f found w → Goes T f found w busy
 
