@@ -1,3 +1,4 @@
 pub mod Inside
 pub mod Calls
 pub mod Lawful
+pub mod Last

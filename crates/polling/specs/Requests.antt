@@ -9,12 +9,11 @@ use Rattle.bus.specs.Bus.{unitAfter}
 use Rattle.header.specs.declared.Command.{Command}
 use Rattle.host.specs.Calls.{feeding, taking, raising}
 use Rattle.inside.specs.Calls.{unitTaken}
-use Rattle.inside.specs.Inside.{stateTaken, clears}
+use Rattle.inside.specs.Inside.{clears}
+use Rattle.inside.specs.Last.{TakesLast, SendsLast}
 use Rattle.inside.specs.Lawful.{isEnding}
 use Rattle.kind.specs.Kinds.{kindOf, isShort}
 use Rattle.line.specs.declared.Lines.{Lines}
-use Rattle.line.specs.declared.Sender.{Sender}
-use Rattle.phase.specs.declared.Phase.the-variants.{Responding, SittingOut}
 use Rattle.serial.specs.declared.Reply.{Reply}
 use Rattle.unit.specs.Calls.{stepping}
 use Rattle.unit.specs.Unit.{newUnit}
@@ -37,26 +36,31 @@ abbrev pub movedAll : Unit → List UnitMove → Unit
 movedAll u [] = u
 movedAll u (m ∷ ms) = movedAll (moved u m) ms
 
--- What ends a request: 01, 09 or FF, as its last nibble is taken; or that its answer 00 has gone out.
-pub data Ends (u after : Unit) : Type 0 where
-  by-a-command : (k : Command) (n : ℕ) (d : List ℕ) → isEnding (k .command) ≡ true → after .serial ≡ stateTaken (kindOf (u .own)) (u .serial) k n d → Ends u after
-  by-its-answer : (r : Reply) (j : ℕ) (sender : Sender) → clears r ≡ true → u .phase ≡ Responding r j sender false → after .phase ≡ SittingOut false → Ends u after
+-- A refused step sees nothing.
+abbrev pub isSeen : ℕ → Lines → List ℕ → Bool
+isSeen own seen buffer = cond (ltb 15 (seen .nibble)) false (cond (isShort (kindOf own) (length buffer)) false true)
 
-pub data Stands (u after : Unit) : Type 0 where
-  stands : after .serial .requesting ≡ true → Stands u after
-  ends : Ends u after → Stands u after
+-- What ends a request: in this step, with BAV seen low, the last nibble of a 01, 09 or FF is taken; or that of its answer 00 is done.
+pub data Ends (u : Unit) : UnitMove → Type 0 where
+  by-a-command :
+      {seen : Lines} {busy : Bool} {buffer input : List ℕ} (k : Command) (n : ℕ) (d : List ℕ) → isSeen (u .own) seen buffer ≡ true → seen .bav ≡ true → TakesLast (u .phase) seen buffer k n d
+      → isEnding (k .command) ≡ true → Ends u (steps seen busy buffer input)
+  by-its-answer :
+      {seen : Lines} {busy : Bool} {buffer input : List ℕ} (r : Reply) → isSeen (u .own) seen buffer ≡ true → seen .bav ≡ true → SendsLast (u .phase) (u .serial .input) seen r
+      → clears r ≡ true → Ends u (steps seen busy buffer input)
+
+pub data Stands (u : Unit) (m : UnitMove) : Type 0 where
+  stands : moved u m .serial .requesting ≡ true → Stands u m
+  ends : Ends u m → Stands u m
 
 -- A raise leaves a request, and it stands until then.
 abbrev pub Raised : Type 0
 Raised = (u : Unit) → u .serial .enabled ≡ true → moved u raises .serial .requesting ≡ true
 
 abbrev pub RequestStands : Type 0
-RequestStands = (u : Unit) (m : UnitMove) → u .serial .requesting ≡ true → Stands u (moved u m)
+RequestStands = (u : Unit) (m : UnitMove) → u .serial .requesting ≡ true → Stands u m
 
--- For how many rounds in a row BAV was seen high by the unit with this code, at the end of these calls. A refused step sees nothing.
-abbrev pub isSeen : ℕ → Lines → List ℕ → Bool
-isSeen own seen buffer = cond (ltb 15 (seen .nibble)) false (cond (isShort (kindOf own) (length buffer)) false true)
-
+-- For how many rounds in a row the unit with this code has seen BAV high, at the end of these calls.
 abbrev pub rowAfter : ℕ → ℕ → UnitMove → ℕ
 rowAfter own row (steps seen busy buffer input) = cond (isSeen own seen buffer) (cond (seen .bav) 0 (suc row)) row
 rowAfter own row (feeds b) = row
@@ -91,3 +95,23 @@ HoldsBav =
     → isSeen (u .own) seen buffer ≡ true
     → u .asking ≡ true
     → moved u (steps seen busy buffer input) .asking ≡ not (seen .hsk)
+
+-- It pulls BAV for a request alone, and only while it is enabled;
+abbrev pub PullsForIt : Type 0
+PullsForIt =
+    (own retry : ℕ) (ms : List UnitMove)
+    → let u = unitSince own retry ms in
+    u .asking ≡ true
+    → (u .serial .enabled ≡ true) × (u .serial .requesting ≡ true)
+
+-- and it begins to in no other call than a step that sees BAV high and fills its row.
+pub data Fills (own retry row : ℕ) : UnitMove → Type 0 where
+  fills : {seen : Lines} {busy : Bool} {buffer input : List ℕ} → isSeen own seen buffer ≡ true → seen .bav ≡ false → leb retry (suc row) ≡ true → Fills own retry row (steps seen busy buffer input)
+
+abbrev pub PullsNotBefore : Type 0
+PullsNotBefore =
+    (own retry : ℕ) (ms : List UnitMove) (m : UnitMove)
+    → let u = unitSince own retry ms in
+    u .asking ≡ false
+    → moved u m .asking ≡ true
+    → Fills own retry (rowOf own 0 ms) m
