@@ -18,6 +18,8 @@ use Rattle.inside.specs.Inside.{Inside, insideOf, isServed, hasRequest}
 
 pub record Called (call : HostCall) (st after : Station) : Type 0 where
   pub own : after .unit .own ≡ st .unit .own
+  pub retry : after .unit .retry ≡ st .unit .retry
+  pub quiet : after .unit .quiet ≡ st .unit .quiet
   pub asking : after .unit .asking ≡ st .unit .asking
   pub phase : after .unit .phase ≡ st .unit .phase
   pub buffer : after .buffer ≡ st .buffer
@@ -27,18 +29,18 @@ pub unit-called : (call : HostCall) (st : Station) → Called call st (calledBy 
 unit-called (feeds b h) st = by (feedingIn (kindOf (st .unit .own)) (st .unit .serial) b) refl
   where
     by : (a : Answer Serial) → feedingIn (kindOf (st .unit .own)) (st .unit .serial) b ≡ a → Called (feeds b h) st (calledBy (feeds b h) st)
-    by (gives s) e = record { own = rw e; asking = rw e; phase = rw e; buffer = refl; inside = rw e }
-    by (refused k) e = record { own = rw e; asking = rw e; phase = rw e; buffer = refl; inside = rw e }
+    by (gives s) e = record { own = rw e; retry = rw e; quiet = rw e; asking = rw e; phase = rw e; buffer = refl; inside = rw e }
+    by (refused k) e = record { own = rw e; retry = rw e; quiet = rw e; asking = rw e; phase = rw e; buffer = refl; inside = rw e }
 unit-called takes st = by (popped (st .output) (st .unit .serial .output)) refl
   where
     by : (p : Popped) → popped (st .output) (st .unit .serial .output) ≡ p → Called takes st (calledBy takes st)
-    by (Byte b q) e = record { own = rw e; asking = rw e; phase = rw e; buffer = refl; inside = rw e }
-    by Nothing e = record { own = rw e; asking = rw e; phase = rw e; buffer = refl; inside = rw e }
+    by (Byte b q) e = record { own = rw e; retry = rw e; quiet = rw e; asking = rw e; phase = rw e; buffer = refl; inside = rw e }
+    by Nothing e = record { own = rw e; retry = rw e; quiet = rw e; asking = rw e; phase = rw e; buffer = refl; inside = rw e }
 unit-called raises st = by (raisingIn (st .unit .serial)) refl
   where
     by : (a : Answer Serial) → raisingIn (st .unit .serial) ≡ a → Called raises st (calledBy raises st)
-    by (gives s) e = record { own = rw e; asking = rw e; phase = rw e; buffer = refl; inside = rw e }
-    by (refused k) e = record { own = rw e; asking = rw e; phase = rw e; buffer = refl; inside = rw e }
+    by (gives s) e = record { own = rw e; retry = rw e; quiet = rw e; asking = rw e; phase = rw e; buffer = refl; inside = rw e }
+    by (refused k) e = record { own = rw e; retry = rw e; quiet = rw e; asking = rw e; phase = rw e; buffer = refl; inside = rw e }
 
 -- A raise leaves a request where service is enabled; no call ends one.
 pub raised : (kind : Kind) (x : Inside) → isServed x ≡ true → hasRequest (called kind raises x) ≡ true
