@@ -42,7 +42,7 @@ use Rattle.delivery.specs.Lists.{All, One, Has}
 use Rattle.delivery.specs.Promised.{Moment, Promised}
 use Rattle.delivery.specs.World.{World, Busy, levels, round, Becomes, Different}
 
--- A unit whose lent memory is long enough, and inside which all is as its kind has it.
+-- A unit whose lent memory is long enough, and whose inside fits its kind.
 pub record Sound (st : Station) : Type 0 where
   pub room : isShort (kindOf (st .unit .own)) (length (st .buffer)) ≡ false
   pub fit : Fit (kindOf (st .unit .own)) (insideOf st)

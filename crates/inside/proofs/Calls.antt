@@ -14,7 +14,7 @@ use Rattle.queue.specs.declared.Popped.the-variants.{Byte, Nothing}
 use Rattle.serial.specs.Serial.{withInput, withRequest}
 use Rattle.serial.specs.declared.Serial.{Serial}
 use Rattle.inside.specs.Calls.{HostCall, feeds, takes, raises, calledBy, called, stateAfter}
-use Rattle.inside.specs.Inside.{Inside, insideOf, isServed, hasRequest}
+use Rattle.inside.specs.Inside.{Inside, insideOf, hasRequest}
 
 pub record Called (call : HostCall) (st after : Station) : Type 0 where
   pub own : after .unit .own ≡ st .unit .own
@@ -42,10 +42,7 @@ unit-called raises st = by (raisingIn (st .unit .serial)) refl
     by (gives s) e = record { own = rw e; retry = rw e; quiet = rw e; asking = rw e; phase = rw e; buffer = refl; inside = rw e }
     by (refused k) e = record { own = rw e; retry = rw e; quiet = rw e; asking = rw e; phase = rw e; buffer = refl; inside = rw e }
 
--- A raise leaves a request where service is enabled; no call ends one.
-pub raised : (kind : Kind) (x : Inside) → isServed x ≡ true → hasRequest (called kind raises x) ≡ true
-raised kind x e = rw e
-
+-- No call ends a request.
 pub request-called : (kind : Kind) (x : Inside) (call : HostCall) → hasRequest x ≡ true → hasRequest (called kind call x) ≡ true
 request-called kind x (feeds b h) r = by (isFed kind (x .state .opening)) (eqb (room (x .state .input)) 0)
   where

@@ -39,7 +39,7 @@ use Rattle.inside.specs.Lawful.{QueueLent, QueueFit, isEnding, LawfulBy}
 use Rattle.inside.proofs.Ors.{or-first, or-second, by-test}
 
 -- Checks 1 and 2, of every kind: at code 0 there is silence, and nothing but a reset acts.
-pub zero-silent : (kind : Kind) (x : Inside) (c : Command) (n : ℕ) (d : List ℕ) → c .device ≡ 0 → isSilent (replyOf kind x c n d) ≡ true
+zero-silent : (kind : Kind) (x : Inside) (c : Command) (n : ℕ) (d : List ℕ) → c .device ≡ 0 → isSilent (replyOf kind x c n d) ≡ true
 zero-silent kind x c n d e = by (eqb (c .command) 0xFE) (eqb (c .command) 0xFF) (eqb (c .device) 0) (eq-eqb (c .device) 0 e)
   where
     by : (a b t : Bool) → t ≡ true → isSilent (cond a (says Silent Keeps) (cond b (says Silent Resets) (cond t (says Silent Keeps) (checksOf kind (x .state) c n d))) .reply) ≡ true
@@ -48,7 +48,7 @@ zero-silent kind x c n d e = by (eqb (c .command) 0xFE) (eqb (c .command) 0xFF) 
     by false false true z = refl
     by false false false z = absurd (false≢true z)
 
-pub zero-keeps : (kind : Kind) (x : Inside) (c : Command) (n : ℕ) (d : List ℕ) → c .device ≡ 0 → eqb (c .command) 0xFF ≡ false → taken kind x c n d ≡ x
+zero-keeps : (kind : Kind) (x : Inside) (c : Command) (n : ℕ) (d : List ℕ) → c .device ≡ 0 → eqb (c .command) 0xFF ≡ false → taken kind x c n d ≡ x
 zero-keeps kind x c n d e f = by (eqb (c .command) 0xFE) refl
   where
     by : (a : Bool) → eqb (c .command) 0xFE ≡ a → taken kind x c n d ≡ x

@@ -40,12 +40,9 @@ abbrev pub replyOf : Kind → Inside → Command → ℕ → List ℕ → Reply
 replyOf kind x c n d = verdictOf kind (x .state) c n d .reply
 
 -- The effects, which happen then.
-abbrev pub stateTaken : Kind → Serial → Command → ℕ → List ℕ → Serial
-stateTaken kind s c n d = applied s (verdictOf kind s c n d .effect) d
-
 abbrev pub taken : Kind → Inside → Command → ℕ → List ℕ → Inside
 taken kind x c n d = record {
-  state = stateTaken kind (x .state) c n d;
+  state = applied (x .state) (verdictOf kind (x .state) c n d .effect) d;
   input = x .input;
   output = outputAfter (x .state) (verdictOf kind (x .state) c n d .effect) d (x .output);
 }

@@ -1,5 +1,5 @@
--- Document 01, "Lines and rounds": the two moments in which something inside a unit changes, read off its phase and the lines, while BAV is
--- seen low.
+-- Document 01, "Lines and rounds": the two moments in which a step changes something inside a unit, read off its phase and the lines, while
+-- BAV is seen low.
 use Prim.Native.Nat.{ℕ}
 use mathlib.Core.Path.{_≡_}
 use mathlib.Core.Bool.{true, false}

@@ -18,15 +18,15 @@ use Rattle.whole.specs.Back.{Answered}
 use Rattle.inside.specs.Calls.{HostCall, called, calledAll}
 use Rattle.inside.specs.Inside.{Inside, isServed, hasRequest, replyOf, taken, responded, dataIn, clears}
 
--- A unit with queues is lent 256 bytes for its input. Inside it holds from a quiet start on: that memory, and a request only while service
--- is enabled.
+-- A unit with queues is lent 256 bytes for its input. From a quiet start on two things hold inside it: it has that memory, and it holds a
+-- request only while service is enabled.
 abbrev pub QueueLent : Inside → Type 0
 QueueLent x = (length (x .input) ≡ 256) × Below 256 (x .input)
 
 abbrev pub QueueFit : Inside → Type 0
 QueueFit x = QueueLent x × (hasRequest x ≡ true → isServed x ≡ true)
 
--- So by kind: the memory that it is lent, and what holds inside it.
+-- By kind: the memory that a unit is lent, and what holds inside it.
 abbrev pub Lent : Kind → Inside → Type 0
 Lent SerialUnit = QueueLent
 
@@ -37,9 +37,9 @@ Fit SerialUnit = QueueFit
 abbrev pub isEnding : ℕ → Bool
 isEnding code = eqb code 0x01 || (eqb code 0x09 || eqb code 0xFF)
 
--- Of a kind whose units are so lent memory, and so fit.
+-- The laws of a kind. `lent` says which memory its units are lent, `fit` what holds inside them.
 pub record LawfulBy (kind : Kind) (lent fit : Inside → Type 0) : Type 0 where
-  -- What fits goes on to, whatever comes.
+  -- A new unit fits, and stays fit whatever comes.
   pub fit-new : (x : Inside) → x .state ≡ newSerial → lent x → fit x
   pub fit-taken : (x : Inside) (c : Command) (n : ℕ) (d : List ℕ) → fit x → fit (taken kind x c n d)
   pub fit-ended : (x : Inside) (r : Reply) → fit x → fit (responded x r)
