@@ -16,3 +16,5 @@ pub mod Run
 pub mod Changes
 pub mod Left
 pub mod Demand2
+pub mod Deeds
+pub mod Spoken

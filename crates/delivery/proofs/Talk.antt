@@ -43,7 +43,7 @@ use Rattle.delivery.proofs.Heard.{Pair, rests, takes, sends, pair}
 use Rattle.delivery.proofs.Part.{Stepped}
 use Rattle.delivery.proofs.Promise.{last-is, bytes-are, answer-fits, carried}
 
-sees : {n t : ℕ} {sender : Sender} {ear : Listener} (seen : Lines) → Fits n sender ear t → seen .hsk ≡ (listenerHsk ear || senderHsk sender) → seen .nibble ≡ senderNibble sender → Sees sender ear (seen .hsk) (seen .nibble)
+pub sees : {n t : ℕ} {sender : Sender} {ear : Listener} (seen : Lines) → Fits n sender ear t → seen .hsk ≡ (listenerHsk ear || senderHsk sender) → seen .nibble ≡ senderNibble sender → Sees sender ear (seen .hsk) (seen .nibble)
 sees seen f-next h q = h
 sees seen f-placed h q = (h, q)
 sees seen f-holds h q = h

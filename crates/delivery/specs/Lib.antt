@@ -6,3 +6,5 @@ pub mod Calls
 pub mod Ends
 pub mod Stages
 pub mod Demand2
+pub mod Log
+pub mod Deliver

@@ -12,3 +12,7 @@ pub data One {ℓ κ} {A : Type ℓ} (P Q : A → Type κ) : List A → Type (�
 pub data Has {ℓ} {A : Type ℓ} (x : A) : List A → Type ℓ where
   here : {xs : List A} → Has x (x ∷ xs)
   there : {y : A} {xs : List A} → Has x xs → Has x (y ∷ xs)
+
+pub data Pairs {ℓ κ} {A B : Type ℓ} (P : A → B → Type κ) : List A → List B → Type (ℓ ⊔ κ) where
+  no-pair : Pairs P [] []
+  a-pair : {x : A} {y : B} {xs : List A} {ys : List B} → P x y → Pairs P xs ys → Pairs P (x ∷ xs) (y ∷ ys)
