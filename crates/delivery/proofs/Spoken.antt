@@ -82,8 +82,8 @@ spoke-no : {x : Inside} (xs : List ℕ) → Has (settled x) (map spoke xs) → �
 spoke-no (n ∷ xs) (there h) = spoke-no xs h
 
 settled-first : {x y : Inside} {rest : List Deed} → Has (settled y) (settled x ∷ rest) → (Has (settled y) rest → ⊥) → y ≡ x
-settled-first here no = refl
-settled-first (there h) no = absurd (no h)
+settled-first here else = refl
+settled-first (there h) else = absurd (else h)
 
 pub only : {c : Command} {d : List ℕ} {own : ℕ} {r : Reply} {j : ℕ} {e : List Deed} (s : Stands c d own r j e) (y : Inside) → Has (settled y) e → y ≡ s .given
 only {c} {d} {own} {r} {j} s y h = settled-first (took-no (nibblesFor c d) (subst (Has (settled y)) (s .deeds) h)) (spoke-no (take j (answerFor c d own (s .given))))
