@@ -206,7 +206,7 @@ pub delivery : Delivery
 delivery w v f i sender q r e = on-delivers f i sender e (every-run w v q r)
 
 -- No step is refused: the nibble that is seen is one, what is lent fits, and each unit has room for a command.
-in-frame-nibble : {T : Moment} {f : Frame} {found : List ℕ} {w : World} → InFrame T f found w → levels w .nibble < 16
+pub in-frame-nibble : {T : Moment} {f : Frame} {found : List ℕ} {w : World} → InFrame T f found w → levels w .nibble < 16
 in-frame-nibble (begins framed d a) = begin-nibble a
 in-frame-nibble {T} {f} (sends i sender {units = units} {lent = lent} framed d s l a) = sent-nibble T (f .command) (dataOf f lent) (framed .sent) i sender units 0 s a
 in-frame-nibble {T} {f} {found} (hears ear taken quiet {timeout = timeout} {units = units} {lent = lent} {response = response} framed d l o) = heard-nibble T f (dataOf f lent) found timeout (framed .eight) (framed .room) false 0 ear taken quiet response units o
@@ -303,7 +303,7 @@ frames-end T f found w x = ends-in (longest f (w .controller .timeout)) f found 
 talk-addressed : {T : Moment} {c : Command} {d : List ℕ} {stores : Bool} {found : List ℕ} {ear : Listener} {taken : Response} {quiet : ℕ} {buffer : List ℕ} (st : Station) → Talk T c d stores found ear taken quiet buffer st → addressed c (st .unit .own) ≡ true
 talk-addressed st (talks r j t sender wait e p fits g b l w c q own) = own
 
-in-frame-low : {T : Moment} {f : Frame} {found : List ℕ} {w : World} → InFrame T f found w → levels w .bav ≡ true
+pub in-frame-low : {T : Moment} {f : Frame} {found : List ℕ} {w : World} → InFrame T f found w → levels w .bav ≡ true
 in-frame-low (begins {units = units} framed d a) = bav-kept (sending Next) units refl
 in-frame-low (sends i sender {units = units} framed d s l a) = bav-kept (sending sender) units refl
 in-frame-low (hears ear taken quiet {units = units} framed d l o) = bav-kept (hearing ear) units refl
@@ -384,7 +384,7 @@ same-unit (another a d) in-front (behind b) e = absurd (becomes-all a b (sym e))
 same-unit (another a d) (behind b) in-front e = absurd (becomes-all a b e)
 same-unit (another a d) (behind b) (behind b′) e = same-unit d b b′ e
 
-in-frame-different : {T : Moment} {f : Frame} {found : List ℕ} {w : World} → InFrame T f found w → Different (w .units)
+pub in-frame-different : {T : Moment} {f : Frame} {found : List ℕ} {w : World} → InFrame T f found w → Different (w .units)
 in-frame-different (begins framed d a) = d
 in-frame-different (sends i sender framed d s l a) = d
 in-frame-different (hears ear taken quiet framed d l o) = d

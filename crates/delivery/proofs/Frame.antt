@@ -84,7 +84,7 @@ pub begin-high : {units : List Station} → All (λ (st : Station). Fresh st × 
 begin-high a = hsk-high (sending Next) refl (all-map (λ st p. fresh-hsk (p .0)) a)
 
 -- A step of the controller in a frame that is not refused.
-control : (c : Controller) (seen : Lines) (host : Bool) (lent response : List ℕ) → seen .nibble < 16 → lentAt (c .stage) (length lent) (length response) ≡ AsLent → isIdle (c .stage) ≡ false
+pub control : (c : Controller) (seen : Lines) (host : Bool) (lent response : List ℕ) → seen .nibble < 16 → lentAt (c .stage) (length lent) (length response) ≡ AsLent → isIdle (c .stage) ≡ false
     → controllerStepped c seen host lent response ≡ controllerOf (c .timeout) (frameOf c seen host lent .stage) (ringAfter (c .ring) (frameOf c seen host lent .end))
 control c seen host lent response n e i = let a : ltb 15 (seen .nibble) ≡ false = le-ltb 15 (seen .nibble) (omega arith) in rw (a, e, i)
 

@@ -18,3 +18,5 @@ pub mod Left
 pub mod Demand2
 pub mod Deeds
 pub mod Spoken
+pub mod Logs
+pub mod Story

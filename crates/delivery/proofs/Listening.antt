@@ -67,7 +67,7 @@ fits-nibble h f-placed = h
 fits-nibble h f-holds = h
 fits-nibble h f-waits = h
 
-talk-nibble : {T : Moment} {c : Command} {d : List ℕ} {stores : Bool} {found : List ℕ} {ear : Listener} {taken : Response} {quiet : ℕ} {buffer : List ℕ} {st : Station} → Talk T c d stores found ear taken quiet buffer st → pullsNibble (st .unit .phase) < 16
+pub talk-nibble : {T : Moment} {c : Command} {d : List ℕ} {stores : Bool} {found : List ℕ} {ear : Listener} {taken : Response} {quiet : ℕ} {buffer : List ℕ} {st : Station} → Talk T c d stores found ear taken quiet buffer st → pullsNibble (st .unit .phase) < 16
 talk-nibble (talks r j t sender wait e p fits g b l w c q own) = subst (λ (x : ℕ). x < 16) (sym (ap pullsNibble e)) (fits-nibble (nibble-below (answerBytes p) j) fits)
 
 -- A unit that sits out goes on to.

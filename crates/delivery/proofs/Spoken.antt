@@ -35,7 +35,7 @@ use Rattle.delivery.specs.Heard.{Fits, f-next, f-placed, f-holds, f-wait
 use Rattle.delivery.specs.Log.{Act, sent, heard, Deed, took, settled, spoke, done, deedsBy, doneBy}
 use Rattle.delivery.specs.Lists.{Has, here, there}
 use Rattle.delivery.specs.Promised.{Moment, Promised}
-use Rattle.delivery.specs.Stages.{Talk, talks, answerData, answerBytes}
+use Rattle.delivery.specs.Stages.{addressed, Talk, talks, answerData, answerBytes}
 use Rattle.delivery.proofs.Deeds.{nibblesFor, answerFor, Stands, Did, one-more, map-append}
 use Rattle.delivery.proofs.Heard.{Pair, rests, takes, sends, pair}
 use Rattle.delivery.proofs.Part.{Stepped}
@@ -74,14 +74,14 @@ pub data Answering (phase : Phase) (r : Reply) (j : ℕ) : Type 0 where
   answering : (sender : Sender) (wait : Bool) → phase ≡ Responding r j sender wait → Answering phase r j
 
 -- What was inside a unit as it took the last nibble is told once.
-took-no : {x : Inside} (xs : List ℕ) {rest : List Deed} → Has (settled x) (map took xs ++ rest) → Has (settled x) rest
+pub took-no : {x : Inside} (xs : List ℕ) {rest : List Deed} → Has (settled x) (map took xs ++ rest) → Has (settled x) rest
 took-no [] h = h
 took-no (n ∷ xs) (there h) = took-no xs h
 
 spoke-no : {x : Inside} (xs : List ℕ) → Has (settled x) (map spoke xs) → ⊥
 spoke-no (n ∷ xs) (there h) = spoke-no xs h
 
-settled-first : {x y : Inside} {rest : List Deed} → Has (settled y) (settled x ∷ rest) → (Has (settled y) rest → ⊥) → y ≡ x
+pub settled-first : {x y : Inside} {rest : List Deed} → Has (settled y) (settled x ∷ rest) → (Has (settled y) rest → ⊥) → y ≡ x
 settled-first here else = refl
 settled-first (there h) else = absurd (else h)
 
@@ -103,6 +103,14 @@ pub data Spoken (c : Command) (d : List ℕ) (own : ℕ) (r : Reply) (given : In
   is-done :
       after ≡ SittingOut false → e ≡ map took (nibblesFor c d) ++ (settled given ∷ (map spoke (answerFor c d own given) ++ (done ∷ [])))
       → a ≡ map sent (nibblesFor c d) ++ map heard (answerFor c d own given) → Spoken c d own r given after ear e a
+
+pub record Speech (c : Command) (d : List ℕ) (own : ℕ) (after : Phase) (ear : Listener) (e : List Deed) (a : List Act) : Type 0 where
+  pub reply : Reply
+  pub given : Inside
+  pub meant : addressed c own ≡ true
+  pub said : reply ≡ replyFor own given c d
+  pub speaks : isSilent reply ≡ false
+  pub spoken : Spoken c d own reply given after ear e a
 
 module _ (T : Moment) (c : Command) (d : List ℕ) {st st′ : Station} {seen : Lines} {busy : Bool} (step : Stepped st seen busy st′) (host : Bool) (e : List Deed) (a : List Act) (ear : Listener) where
   abbrev own : ℕ
@@ -238,15 +246,15 @@ module _ (T : Moment) (c : Command) (d : List ℕ) {st st′ : Station} {seen : 
       → seen .hsk ≡ (listenerHsk ear || pullsHsk (st .unit .phase)) → seen .nibble ≡ pullsNibble (st .unit .phase)
       → Did c d own (st .unit .phase) e → ((y : Inside) → T own y → Has (settled y) e)
       → ((r : Reply) (j : ℕ) (s : Stands c d own r j e) → Answering (st .unit .phase) r j → HeardOf c d (answerFor c d own (s .given)) (j + count ear) a)
-      → (r : Reply) × (given : Inside) × ((r ≡ replyFor own given c d) × (Spoken c d own r given (st′ .unit .phase) (hearOf ear (seen .hsk) host) (e ++ newly) (a ++ hearing ear seen)))
+      → Speech c d own (st′ .unit .phase) (hearOf ear (seen .hsk) host) (e ++ newly) (a ++ hearing ear seen)
   talk-spoken (talks r j t sender wait z p fits g b l w q k meant) h v did known was =
       let s : Stands c d own r j e × (isSilent r ≡ false) = subst (λ (x : Phase). Did c d own x e) z did in
       let view = sees seen fits (h ∙ ap (λ (y : Phase). listenerHsk ear || pullsHsk y) z) (v ∙ ap pullsNibble z) in
-      (
-        r,
-        s .0 .given,
-        (
-          s .0 .said,
-          spoken-by r j t sender wait z p fits l (λ y. w y .0) (s .0) (only (s .0) (p .given) (known (p .given) (p .took))) (was r j (s .0) (answering sender wait z)) (pair (seen .hsk) (seen .nibble) host fits view),
-        ),
-      )
+      record {
+        reply = r;
+        given = s .0 .given;
+        meant = s .0 .meant;
+        said = s .0 .said;
+        speaks = s .1;
+        spoken = spoken-by r j t sender wait z p fits l (λ y. w y .0) (s .0) (only (s .0) (p .given) (known (p .given) (p .took))) (was r j (s .0) (answering sender wait z)) (pair (seen .hsk) (seen .nibble) host fits view);
+      }
