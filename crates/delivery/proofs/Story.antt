@@ -36,6 +36,7 @@ use Rattle.message.specs.Nibbles.{nibbleIn}
 use Rattle.phase.specs.declared.Phase.{Phase}
 use Rattle.phase.specs.declared.Phase.the-variants.{Idle, Selecting, Receiving, Responding, SittingOut}
 use Rattle.reply.specs.Reply.{isSilent}
+use Rattle.ring.specs.declared.Ring.{Ring}
 use Rattle.serial.specs.declared.Reply.{Reply}
 use Rattle.serial.specs.declared.Reply.the-variants.{Silent}
 use Rattle.unit.specs.Unit.{pullsHsk}
@@ -45,7 +46,7 @@ use Rattle.delivery.specs.Demand2.{inFrame}
 use Rattle.delivery.specs.Lists.{All, none, also, One, this, that, Has, here, there}
 use Rattle.delivery.specs.Log.{Act, sent, heard, told, Deed, took, settled, spoke, done, Mark, acts, deedsBy, unitsMarks, stageMarks, roundMarks, endedBy, Capture, actsIn, deedsIn}
 use Rattle.delivery.specs.Promised.{Moment, Promised}
-use Rattle.delivery.specs.Stages.{Fresh, idles, selects, Sits, Sound, Sends, s-next, s-placed, s-kept, Part, Talk, talks, InFrame, begins, sends, hears, waits, Goes, on, answered, unanswered, movedIn, isResponding, Spoke, spoke, Framed}
+use Rattle.delivery.specs.Stages.{Fresh, idles, selects, Sits, Sound, Sends, s-next, s-placed, s-kept, Part, Talk, talks, InFrame, begins, sends, hears, waits, Goes, on, answered, unanswered, movedIn, isResponding, Spoke, spoke, Framed, world}
 use Rattle.delivery.specs.World.{World, Busy, levels, round, Becomes, in-front, behind, Different}
 use Rattle.delivery.proofs.Deeds.{nibblesFor, answerFor, Hush, Stands, Did, one-more, part-did, sits-did, fresh-did}
 use Rattle.delivery.proofs.Demand2.{in-frame-nibble, in-frame-low, in-frame-different}
@@ -53,7 +54,7 @@ use Rattle.delivery.proofs.Frame.{control, own-kept, begin-high, become
 use Rattle.delivery.proofs.Lines.{hsk-own}
 use Rattle.delivery.proofs.Lists.{all-map, all-zip, all-becomes, one-all}
 use Rattle.delivery.proofs.Logs.{acts-append, deeds-append, units-no-acts, units-deeds, stage-no-deeds, grown}
-use Rattle.delivery.proofs.Part.{Stepped, low-step, Turned, speaks, silent, part-over}
+use Rattle.delivery.proofs.Part.{Shows, Stepped, low-step, Turned, speaks, silent, part-over}
 use Rattle.delivery.proofs.Rest.{spoke-moved}
 use Rattle.delivery.proofs.Spoken.{Answering, answering, count, hearing, HeardOf, Spoken, goes-on, is-done, talk-spoken, only}
 use Rattle.delivery.proofs.Stage.{sending, shows, nibble-below}
@@ -138,6 +139,20 @@ not-answering e (answering sender wait z) = true≢false (sym (ap isResponding z
 answers-at : {phase : Phase} {r r′ : Reply} {j j′ : ℕ} {sender : Sender} {wait : Bool} → phase ≡ Responding r j sender wait → Answering phase r′ j′ → j′ ≡ j
 answers-at e (answering sender wait z) = sym (ap indexOf z) ∙ ap indexOf e
 
+abbrev placeIn : Stage → ℕ
+placeIn Free = 0
+placeIn (Resting first) = 0
+placeIn (Waiting f) = 0
+placeIn (Sending f i sender wait) = i
+placeIn (Listening f ear taken quiet) = 0
+
+abbrev isSending : Stage → Bool
+isSending Free = false
+isSending (Resting first) = false
+isSending (Waiting f) = false
+isSending (Sending f i sender wait) = true
+isSending (Listening f ear taken quiet) = false
+
 abbrev isEnd : End → Bool
 isEnd NotYet = false
 isEnd (Over f status count) = true
@@ -178,3 +193,85 @@ module _ {T : Moment} (l : Capture) {found : List ℕ} where
       all-becomes (levels v) (busy .there) (λ st host b p.
       did-now l v busy (in-frame-different x) (in-frame-low x) b (own-kept st (levels v) host) d
       (fresh-did (l .frame .command) d (step-in x st host (p .0 .1)) (deedsIn (st .unit .own) (l .marks)) high (p .0 .0) (fresh-nothing (l .frame .command) d (st .unit .own) (p .0 .0) (p .1)))) (all-zip a did)
+
+  -- A round in which the command is sent.
+  module _ (i : ℕ) (sender : Sender) (timeout : ℕ) (ring : Ring) (units : List Station) (lent : List ℕ) (framed : Framed (l .frame) lent found timeout) (different : Different units) (s : Sends (nibbleIn (bytesFor (l .frame .command) (dataOf (l .frame) lent)) i) sender) (less : i < 2 * length (bytesFor (l .frame .command) (dataOf (l .frame) lent))) (a : All (λ (st : Station). Part (Promised T (st .unit .own) (l .frame .command) (dataOf (l .frame) lent)) (l .frame .command) (dataOf (l .frame) lent) i sender st × Sound st) units) (busy : Busy) where
+    abbrev c : Command
+    c = l .frame .command
+
+    abbrev d : List ℕ
+    d = dataOf (l .frame) lent
+
+    abbrev v : World
+    v = world timeout (Sending (l .frame) i sender false) ring units lent found
+
+    x : InFrame T (l .frame) found v
+    x = sends i sender framed different s less a
+
+    abbrev seen : Lines
+    seen = levels v
+
+    shown : Shows sender seen
+    shown = shows sender units (nibble-below (bytesFor c d) i) s a
+
+    pub sends-did : All (DidAt l d) units → All (DidAt (laterOf l v busy) d) (round v busy .units)
+    sends-did did =
+        all-becomes seen (busy .there) (λ st host b p.
+        did-now l v busy different (in-frame-low x) b (own-kept st seen host) d
+        (part-did c d (step-in x st host (p .0 .0 .1)) (deedsIn (st .unit .own) (l .marks)) (Promised T (st .unit .own) c d) (framed .sent) i sender shown (p .1) less (p .0 .0 .0) (p .0 .1)))
+        (all-zip (all-zip a did) (hsk-own (sending sender) units))
+
+    stage-now : round v busy .controller .stage ≡ cond (sentOf sender (seen .hsk)) (nextNibble (l .frame) i) (Sending (l .frame) i (sendOf sender (seen .hsk) (nibbleIn (bytesFor c d) i)) false)
+    stage-now = ap (λ (y : Controller). y .stage) (control (v .controller) seen (busy .here) lent found (in-frame-nibble x) (framed .fits) refl)
+
+    twice : length (nibblesFor c d) ≡ 2 * length (bytesFor c d)
+    twice = let n = length-nibbles (bytesFor c d) in omega arith
+
+    acts-are : actsIn (laterOf l v busy .marks) ≡ actsIn (l .marks) ++ cond (sentOf sender (seen .hsk)) (sent (senderNibble sender) ∷ []) []
+    acts-are = acts-now l v busy different (in-frame-low x) ∙ ap (λ (y : List Act). actsIn (l .marks) ++ y) (sent-acts (sentOf sender (seen .hsk)) (senderNibble sender))
+
+    module _ (was : actsIn (l .marks) ≡ map sent (take i (nibblesFor c d))) where
+      one-sent : sentOf sender (seen .hsk) ≡ true → actsIn (laterOf l v busy .marks) ≡ map sent (take (suc i) (nibblesFor c d))
+      one-sent e =
+          let t = twice in
+          acts-are ∙ ap (λ (b : Bool). actsIn (l .marks) ++ cond b (sent (senderNibble sender) ∷ []) []) e
+          ∙ one-more sent (nibblesFor c d) i (senderNibble sender) (actsIn (l .marks)) (omega arith) (sends-nibble (seen .hsk) s e) was
+
+      last-tells : sentOf sender (seen .hsk) ≡ true → suc i ≡ 2 * length (bytesFor c d) → actsIn (laterOf l v busy .marks) ≡ map sent (nibblesFor c d) → All (TellsAt (laterOf l v busy) d Ready) (round v busy .units)
+      last-tells e all whole =
+          all-becomes seen (busy .there) (λ st host b p.
+          let nine = length-bytes c d in
+          tells-now l v busy different (in-frame-low x) b (own-kept st seen host) d Ready whole
+          (by st host (deedsIn (st .unit .own) (l .marks) ++ deedsBy (st .unit .phase) (stationStep st seen host .unit .phase) (insideOf st) seen)
+          (part-over (Promised T (st .unit .own) c d) c d i sender st (stationStep st seen host) seen host (step-in x st host (p .0 .1)) shown (p .1) e all (omega arith) (p .0 .0)))) (all-zip a (hsk-own (sending sender) units))
+        where
+          none-yet : (answer : List ℕ) (j : ℕ) → j ≡ 0 → HeardOf c d answer (j + 0) (map sent (nibblesFor c d))
+          none-yet answer j z = sym (ap (λ (k : ℕ). map sent (nibblesFor c d) ++ map heard (take k answer)) (zero-too j z) ∙ append-nil (map sent (nibblesFor c d)))
+            where
+              zero-too : (j : ℕ) → j ≡ 0 → j + 0 ≡ 0
+              zero-too j z = omega arith
+
+          by : (st : Station) (host : Bool) (e : List Deed) → Turned (Promised T (st .unit .own) c d) c (stationStep st seen host) → TellsBy c d Ready (map sent (nibblesFor c d)) (st .unit .own) (stationStep st seen host .unit .phase) e
+          by st host e (speaks r z m phase q k) r′ j k′ answers = none-yet (answerFor c d (st .unit .own) (k′ .given)) j (answers-at phase answers)
+          by st host e (silent phase q k) r′ j k′ answers = absurd (not-answering (ap isResponding phase) answers)
+
+      acted-by : (t u : Bool) → sentOf sender (seen .hsk) ≡ t → ltb i (lastNibble (l .frame)) ≡ u → Acted (laterOf l v busy) d (round v busy .controller .stage) (round v busy .units)
+      acted-by false u e f =
+          sending-so i (sendOf sender (seen .hsk) (nibbleIn (bytesFor c d) i)) false (stage-now ∙ rw e)
+          (acts-are ∙ ap (λ (b : Bool). actsIn (l .marks) ++ cond b (sent (senderNibble sender) ∷ []) []) e ∙ append-nil (actsIn (l .marks)) ∙ was)
+      acted-by true true e f =
+          let k : suc i ≡ i + 1 = omega arith in
+          sending-so (i + 1) Next false (stage-now ∙ rw (e, f)) (one-sent e ∙ ap (λ (n : ℕ). map sent (take n (nibblesFor c d))) k)
+      acted-by true false e f =
+          let n = length-bytes c d in
+          let m : l .frame .«data_length» ≡ length d = framed .announced in
+          let all : lastNibble (l .frame) ≤ i = ltb-false i (lastNibble (l .frame)) f in
+          let last : suc i ≡ 2 * length (bytesFor c d) = omega arith in
+          let t = twice in
+          let whole : actsIn (laterOf l v busy .marks) ≡ map sent (nibblesFor c d) = one-sent e ∙ ap (map sent) (take-all (suc i) (nibblesFor c d) (omega arith)) in
+          listening-so Ready nothingTaken 0 (stage-now ∙ rw (e, f)) (last-tells e last whole) (λ still. whole)
+
+    pub sends-acted : Acted l d (v .controller .stage) units → Acted (laterOf l v busy) d (round v busy .controller .stage) (round v busy .units)
+    sends-acted (sending-so j k w e was) =
+        acted-by (was ∙ ap (λ (n : ℕ). map sent (take n (nibblesFor c d))) (sym (ap placeIn e))) (sentOf sender (seen .hsk)) (ltb i (lastNibble (l .frame))) refl refl
+    sends-acted (listening-so ear taken quiet e tells nobody) = absurd (true≢false (ap isSending e))
