@@ -20,3 +20,5 @@ pub mod Deeds
 pub mod Spoken
 pub mod Logs
 pub mod Story
+pub mod Completed
+pub mod Listened

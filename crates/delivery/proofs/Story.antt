@@ -1,23 +1,22 @@
 -- A frame as it runs, and its log: what every unit has done goes by its phase, what the controller has done by its stage. Each round leads on
 -- so, or completes the frame.
-use Prim.Native.Nat.{ℕ, zero, suc, _+_, _*_, _<_, _≤_}
+use Prim.Native.Nat.{ℕ, suc, _+_, _*_, _<_, _≤_}
 use native.Mathlib.Omega.{arith}
 use mathlib.Core.Path.{_≡_, refl, sym, _∙_, ap, subst}
-use mathlib.Core.Bool.{Bool, true, false, cond, _||_, true≢false, false≢true}
-use mathlib.Core.List.{List, [], _∷_, _++_, map, append-nil, append-assoc}
-use borrow.Author.Tests.{ltb-true, ltb-false}
+use mathlib.Core.Bool.{Bool, true, false, cond, true≢false, false≢true}
+use mathlib.Core.List.{List, [], _∷_, _++_, map, append-nil}
+use borrow.Author.Tests.{ltb-false}
 use lib.Dec.{ltb}
-use lib.ListN.{length, take, drop}
+use lib.ListN.{length, take}
 use lib.Seq.{take-all}
-use Rattle.answer.specs.Answer.{nothingTaken, statusOf, countOf}
+use Rattle.answer.specs.Answer.{nothingTaken}
 use Rattle.answer.specs.declared.Response.{Response}
-use Rattle.answer.specs.declared.Response.the-variants.{Complete as Whole}
-use Rattle.bus.specs.Bus.{stationStep, isOdd, levelsWith}
+use Rattle.bus.specs.Bus.{stationStep}
 use Rattle.bus.specs.declared.Station.{Station}
-use Rattle.controller.specs.Controller.{eventIn, frameOf, controllerMoved}
+use Rattle.controller.specs.Controller.{eventIn}
 use Rattle.controller.specs.declared.Controller.{Controller}
 use Rattle.field.proofs.Laws.{length-nibbles}
-use Rattle.frame.specs.Frame.{dataOf, isSubmitted, nextNibble, stays, over, lastNibble, listeningStep, frameStep}
+use Rattle.frame.specs.Frame.{dataOf, nextNibble, stays, over, lastNibble}
 use Rattle.frame.specs.declared.End.{End}
 use Rattle.frame.specs.declared.End.the-variants.{NotYet, Over}
 use Rattle.frame.specs.declared.Frame.{Frame}
@@ -25,8 +24,8 @@ use Rattle.frame.specs.declared.Moved.{Moved}
 use Rattle.frame.specs.declared.Stage.{Stage}
 use Rattle.frame.specs.declared.Stage.the-variants.{Free, Resting, Waiting, Sending, Listening}
 use Rattle.header.specs.declared.Command.{Command}
-use Rattle.inside.specs.Inside.{Inside, insideOf, replyFor}
-use Rattle.line.specs.Line.{hearOf, sendOf, sentOf, takenOf, senderNibble, listenerHsk}
+use Rattle.inside.specs.Inside.{Inside, insideOf}
+use Rattle.line.specs.Line.{sendOf, sentOf, senderNibble}
 use Rattle.line.specs.declared.Lines.{Lines}
 use Rattle.line.specs.declared.Listener.{Listener}
 use Rattle.line.specs.declared.Listener.the-variants.{Ready}
@@ -35,28 +34,24 @@ use Rattle.line.specs.declared.Sender.the-variants.{Next}
 use Rattle.message.specs.Nibbles.{nibbleIn}
 use Rattle.phase.specs.declared.Phase.{Phase}
 use Rattle.phase.specs.declared.Phase.the-variants.{Idle, Selecting, Receiving, Responding, SittingOut}
-use Rattle.reply.specs.Reply.{isSilent}
 use Rattle.ring.specs.declared.Ring.{Ring}
 use Rattle.serial.specs.declared.Reply.{Reply}
 use Rattle.serial.specs.declared.Reply.the-variants.{Silent}
-use Rattle.unit.specs.Unit.{pullsHsk}
 use Rattle.whole.specs.Whole.{bytesFor}
 use Rattle.whole.proofs.Whole.{length-bytes}
-use Rattle.delivery.specs.Demand2.{inFrame}
-use Rattle.delivery.specs.Lists.{All, none, also, One, this, that, Has, here, there}
-use Rattle.delivery.specs.Log.{Act, sent, heard, told, Deed, took, settled, spoke, done, Mark, acts, deedsBy, unitsMarks, stageMarks, roundMarks, endedBy, Capture, actsIn, deedsIn}
+use Rattle.delivery.specs.Lists.{All, Has, here, there}
+use Rattle.delivery.specs.Log.{Act, sent, heard, told, Deed, took, settled, spoke, done, Mark, acts, deedsBy, unitsMarks, stageMarks, roundMarks, Capture, actsIn, deedsIn}
 use Rattle.delivery.specs.Promised.{Moment, Promised}
-use Rattle.delivery.specs.Stages.{Fresh, idles, selects, Sits, Sound, Sends, s-next, s-placed, s-kept, Part, Talk, talks, InFrame, begins, sends, hears, waits, Goes, on, answered, unanswered, movedIn, isResponding, Spoke, spoke, Framed, world}
-use Rattle.delivery.specs.World.{World, Busy, levels, round, Becomes, in-front, behind, Different}
-use Rattle.delivery.proofs.Deeds.{nibblesFor, answerFor, Hush, Stands, Did, one-more, part-did, sits-did, fresh-did}
+use Rattle.delivery.specs.Stages.{Fresh, idles, selects, Sound, Sends, s-next, s-placed, s-kept, Part, InFrame, sends, on, isResponding, spoke, Framed, world}
+use Rattle.delivery.specs.World.{World, Busy, levels, round, Becomes, behind, Different}
+use Rattle.delivery.proofs.Deeds.{nibblesFor, answerFor, Stands, Did, one-more, part-did, fresh-did}
 use Rattle.delivery.proofs.Demand2.{in-frame-nibble, in-frame-low, in-frame-different}
-use Rattle.delivery.proofs.Frame.{control, own-kept, begin-high, becomes-all}
+use Rattle.delivery.proofs.Frame.{control, own-kept}
 use Rattle.delivery.proofs.Lines.{hsk-own}
-use Rattle.delivery.proofs.Lists.{all-map, all-zip, all-becomes, one-all}
+use Rattle.delivery.proofs.Lists.{all-zip, all-becomes}
 use Rattle.delivery.proofs.Logs.{acts-append, deeds-append, units-no-acts, units-deeds, stage-no-deeds, grown}
 use Rattle.delivery.proofs.Part.{Shows, Stepped, low-step, Turned, speaks, silent, part-over}
-use Rattle.delivery.proofs.Rest.{spoke-moved}
-use Rattle.delivery.proofs.Spoken.{Answering, answering, count, hearing, HeardOf, Spoken, goes-on, is-done, talk-spoken, only}
+use Rattle.delivery.proofs.Spoken.{Answering, answering, count, HeardOf}
 use Rattle.delivery.proofs.Stage.{sending, shows, nibble-below}
 
 -- What is known of a unit, and of the controller beside it.
@@ -133,10 +128,10 @@ replyOf (Receiving ear progress) = Silent
 replyOf (Responding r j sender wait) = r
 replyOf (SittingOut last) = Silent
 
-not-answering : {phase : Phase} {r : Reply} {j : ℕ} → isResponding phase ≡ false → Answering phase r j → ⊥
+pub not-answering : {phase : Phase} {r : Reply} {j : ℕ} → isResponding phase ≡ false → Answering phase r j → ⊥
 not-answering e (answering sender wait z) = true≢false (sym (ap isResponding z) ∙ e)
 
-answers-at : {phase : Phase} {r r′ : Reply} {j j′ : ℕ} {sender : Sender} {wait : Bool} → phase ≡ Responding r j sender wait → Answering phase r′ j′ → j′ ≡ j
+pub answers-at : {phase : Phase} {r r′ : Reply} {j j′ : ℕ} {sender : Sender} {wait : Bool} → phase ≡ Responding r j sender wait → Answering phase r′ j′ → j′ ≡ j
 answers-at e (answering sender wait z) = sym (ap indexOf z) ∙ ap indexOf e
 
 abbrev placeIn : Stage → ℕ
@@ -157,7 +152,7 @@ abbrev isEnd : End → Bool
 isEnd NotYet = false
 isEnd (Over f status count) = true
 
-not-over : {stage : Stage} {f : Frame} (r : Response) → stays stage ≡ over f r → ⊥
+pub not-over : {stage : Stage} {f : Frame} (r : Response) → stays stage ≡ over f r → ⊥
 not-over r e = false≢true (ap (λ (m : Moved). isEnd (m .end)) e)
 
 -- Both tell the same of the moment in which the answer was fixed.
@@ -183,7 +178,7 @@ fresh-nothing c d own {st} {e} (idles z) q = subst (λ (x : Phase). Did c d own 
 fresh-nothing c d own {st} {e} (selects z) q = subst (λ (x : Phase). Did c d own x e) z q
 
 module _ {T : Moment} (l : Capture) {found : List ℕ} where
-  step-in : {v : World} → InFrame T (l .frame) found v → (st : Station) (host : Bool) → Sound st → Stepped st (levels v) host (stationStep st (levels v) host)
+  pub step-in : {v : World} → InFrame T (l .frame) found v → (st : Station) (host : Bool) → Sound st → Stepped st (levels v) host (stationStep st (levels v) host)
   step-in {v} x st host s = low-step st (levels v) host (in-frame-nibble x) (s .room) (in-frame-low x)
 
   -- The round in which the units see BAV low.

@@ -10,7 +10,7 @@ use lib.Dec.{eqb}
 use lib.ListN.{length, take, drop}
 use Rattle.bus.specs.declared.Station.{Station}
 use Rattle.field.specs.Field.{nibbles}
-use Rattle.frame.specs.Frame.{dataOf, isSubmitted, submittedFrame, bare}
+use Rattle.frame.specs.Frame.{isSubmitted, submittedFrame, bare}
 use Rattle.frame.specs.declared.Frame.{Frame}
 use Rattle.header.specs.declared.Command.{Command}
 use Rattle.inside.specs.Calls.{HostCall, called}
@@ -32,18 +32,15 @@ abbrev pub Front : {A : Type 0} → List A → List A → Type 0
 Front {A} xs ys = (rest : List A) × (ys ≡ xs ++ rest)
 
 -- A frame's message. Own code or code 0 is addressed.
-abbrev pub lentTo : Capture → List ℕ
-lentTo l = dataOf (l .frame) (l .lent)
-
 abbrev pub message : Capture → List ℕ
-message l = nibbles (bytesFor (l .frame .command) (lentTo l))
+message l = nibbles (bytesFor (l .frame .command) (l .lent))
 
 abbrev pub isAddressed : Capture → ℕ → Bool
 isAddressed l own = eqb (l .frame .command .device) own || eqb (l .frame .command .device) 0
 
 -- The one response of the unit with a code in which x is inside as it takes the last nibble.
 abbrev pub replyTo : Capture → ℕ → Inside → Reply
-replyTo l own x = replyFor own x (l .frame .command) (lentTo l)
+replyTo l own x = replyFor own x (l .frame .command) (l .lent)
 
 abbrev pub response : Capture → ℕ → Inside → List ℕ
 response l own x = nibbles (responseFor (dataIn x (replyTo l own x)) (replyStatus (replyTo l own x)))
@@ -149,7 +146,7 @@ doing own u (spoke n) = u
 doing own u done = withInside u (responded (u .inside) (u .reply))
 
 abbrev pub following : ℕ → Whole → Mark → Whole
-following own u (begins f lent found) = record { inside = u .inside; command = f .command; lent = dataOf f lent; reply = u .reply }
+following own u (begins f lent found) = record { inside = u .inside; command = f .command; lent = lent; reply = u .reply }
 following own u (acts a) = u
 following own u (does code e) = cond (eqb code own) (doing own u e) u
 following own u (asks code call) = cond (eqb code own) (withInside u (called (kindOf own) call (u .inside))) u

@@ -9,7 +9,7 @@ use Rattle.application.specs.Calls.{Done, submitting}
 use Rattle.bus.specs.Bus.{stationStep, isOdd}
 use Rattle.bus.specs.declared.Station.{Station}
 use Rattle.controller.specs.Controller.{eventIn}
-use Rattle.frame.specs.Frame.{isSubmitted}
+use Rattle.frame.specs.Frame.{dataOf, isSubmitted}
 use Rattle.frame.specs.declared.Frame.{Frame}
 use Rattle.frame.specs.declared.Stage.{Stage}
 use Rattle.frame.specs.declared.Stage.the-variants.{Free, Resting, Waiting, Sending, Listening}
@@ -42,7 +42,7 @@ pub data Deed : Type 0 where
   spoke : ℕ → Deed
   done : Deed
 
--- A frame begins, lent this data and response buffer; the controller acts; the unit with a code does; a call of its host; a submission that is
+-- A frame begins, with its data and the response buffer that is lent to it; the controller acts; the unit with a code does; a call of its host; a submission that is
 -- accepted.
 pub data Mark : Type 0 where
   begins : Frame → (lent found : List ℕ) → Mark
@@ -56,7 +56,7 @@ abbrev pub begunBy : Stage → List ℕ → List ℕ → List Mark
 begunBy Free lent response = []
 begunBy (Resting first) lent response = []
 begunBy (Waiting f) lent response = []
-begunBy (Sending f i sender wait) lent response = begins f lent response ∷ []
+begunBy (Sending f i sender wait) lent response = begins f (dataOf f lent) response ∷ []
 begunBy (Listening f ear taken quiet) lent response = []
 
 abbrev pub endedBy : Stage → Act → List Mark

@@ -1,0 +1,182 @@
+-- A frame's log while the controller listens.
+use Prim.Native.Nat.{ℕ, _+_, _/_}
+use mathlib.Core.Path.{_≡_, refl, sym, _∙_, ap, subst}
+use mathlib.Core.Bool.{Bool, true, false, cond, _||_, true≢false, false≢true}
+use mathlib.Core.List.{List, [], _∷_, _++_, append-nil}
+use lib.ListN.{length}
+use Rattle.answer.specs.Answer.{takenWith}
+use Rattle.answer.specs.declared.Response.{Response}
+use Rattle.bus.specs.Bus.{stationStep, unitsAfter, isOdd}
+use Rattle.bus.specs.declared.Station.{Station}
+use Rattle.controller.specs.Controller.{eventIn}
+use Rattle.controller.specs.declared.Controller.{Controller}
+use Rattle.frame.specs.Frame.{dataOf, isSubmitted, stays, over, ends, quietAfter, listeningStep, lentTo}
+use Rattle.frame.specs.declared.Frame.{Frame}
+use Rattle.frame.specs.declared.Stage.the-variants.{Listening}
+use Rattle.header.specs.declared.Command.{Command}
+use Rattle.inside.specs.Inside.{Inside, insideOf}
+use Rattle.line.specs.Line.{hearOf, takenOf, listenerHsk}
+use Rattle.line.specs.declared.Lines.{Lines}
+use Rattle.line.specs.declared.Listener.{Listener}
+use Rattle.phase.specs.declared.Phase.{Phase}
+use Rattle.ring.specs.declared.Ring.{Ring}
+use Rattle.serial.specs.declared.Reply.{Reply}
+use Rattle.unit.specs.Unit.{pullsHsk, pullsNibble}
+use Rattle.delivery.specs.Demand2.{inFrame}
+use Rattle.delivery.specs.Lists.{All, none, also, One, this, that, Has, here, there}
+use Rattle.delivery.specs.Log.{Act, heard, told, Deed, settled, Mark, acts, deedsBy, endedBy, Capture, actsIn, deedsIn}
+use Rattle.delivery.specs.Promised.{Moment}
+use Rattle.delivery.specs.Stages.{Sits, Sound, Talk, talks, InFrame, hears, on, isResponding, Speaking, Framed, world}
+use Rattle.delivery.specs.World.{World, Busy, levels, round, Becomes, in-front, behind, Different}
+use Rattle.delivery.proofs.Deeds.{answerFor, Stands, Did, sits-did}
+use Rattle.delivery.proofs.Demand2.{in-frame-nibble, in-frame-low}
+use Rattle.delivery.proofs.Frame.{control, own-kept}
+use Rattle.delivery.proofs.Lists.{all-map, all-zip, all-becomes, one-all}
+use Rattle.delivery.proofs.Listening.{hearing as lines, one-seen, talk-nibble, sits-step}
+use Rattle.delivery.proofs.Part.{speaks}
+use Rattle.delivery.proofs.Spoken.{count, hearing, HeardOf, Spoken, goes-on, is-done, Speech, talk-spoken, only}
+use Rattle.delivery.proofs.Story.{DidAt, TellsBy, TellsAt, Still, Acted, listening-so, laterOf, acts-now, did-now, tells-now, not-answering, answers-at, stands-has, step-in}
+
+-- While the controller listens: it goes on to, or the frame ends.
+pub listening-next : (f : Frame) (ear : Listener) (taken : Response) (quiet timeout : ℕ) (seen : Lines) (host : Bool) → inFrame (listeningStep f ear taken quiet timeout seen host .stage) ≡ true
+    → (taken′ : Response) × (quiet′ : ℕ) × (listeningStep f ear taken quiet timeout seen host .stage ≡ Listening f (hearOf ear (seen .hsk) host) taken′ quiet′)
+listening-next f ear taken quiet timeout seen host = by (takenOf ear (seen .hsk)) (ends (hearOf ear (seen .hsk) host) taken timeout (quietAfter quiet (seen .hsk))) refl refl
+  where
+    by : (t u : Bool) → takenOf ear (seen .hsk) ≡ t → ends (hearOf ear (seen .hsk) host) taken timeout (quietAfter quiet (seen .hsk)) ≡ u → inFrame (listeningStep f ear taken quiet timeout seen host .stage) ≡ true
+        → (taken′ : Response) × (quiet′ : ℕ) × (listeningStep f ear taken quiet timeout seen host .stage ≡ Listening f (hearOf ear (seen .hsk) host) taken′ quiet′)
+    by true u e g h = (takenWith taken (seen .nibble) (f .command .«buffer_length»), 0, rw e)
+    by false true e g h = absurd (false≢true ((λ k. inFrame (cond (sym e k) (stays (Listening f (hearOf ear (seen .hsk) host) (takenWith taken (seen .nibble) (f .command .«buffer_length»)) 0)) (cond (sym g k) (over f taken) (stays (Listening f (hearOf ear (seen .hsk) host) taken (quietAfter quiet (seen .hsk))))) .stage)) ∙ h))
+    by false false e g h = (taken, quietAfter quiet (seen .hsk), rw (e, g))
+
+heard-acts : (t : Bool) (n : ℕ) (rest : List Mark) → actsIn (cond t (acts (heard n) ∷ []) [] ++ rest) ≡ cond t (heard n ∷ []) [] ++ actsIn rest
+heard-acts true n rest = refl
+heard-acts false n rest = refl
+
+-- Both stand at the same moment.
+pub same-given : {c : Command} {d : List ℕ} {own : ℕ} {r r′ : Reply} {j j′ : ℕ} {e : List Deed} (s : Stands c d own r j e) (s′ : Stands c d own r′ j′ e) → s′ .given ≡ s .given
+same-given s s′ = only s (s′ .given) (stands-has s′)
+
+becomes-after : {P : Station → Type 0} {seen : Lines} {hosts : ℕ} {ss : List Station} {st after : Station} → Becomes seen hosts ss st after → All P (unitsAfter seen hosts ss) → P after
+becomes-after in-front (also p a) = p
+becomes-after (behind b) (also p a) = becomes-after b a
+
+-- A unit while the controller listens.
+pub data Role (T : Moment) (c : Command) (d : List ℕ) (stores : Bool) (found : List ℕ) (ear : Listener) (taken : Response) (quiet : ℕ) (buffer : List ℕ) (seen : Lines) (st : Station) : Type 0 where
+  talking : Talk T c d stores found ear taken quiet buffer st → seen .hsk ≡ (listenerHsk ear || pullsHsk (st .unit .phase)) → seen .nibble ≡ pullsNibble (st .unit .phase) → Role T c d stores found ear taken quiet buffer seen st
+  sitting : Sits st → Role T c d stores found ear taken quiet buffer seen st
+
+talk-responds : {T : Moment} {c : Command} {d : List ℕ} {stores : Bool} {found : List ℕ} {ear : Listener} {taken : Response} {quiet : ℕ} {buffer : List ℕ} {st : Station} → Talk T c d stores found ear taken quiet buffer st → isResponding (st .unit .phase) ≡ true
+talk-responds (talks r j t sender wait e p fits g b l w z q own) = ap isResponding e
+
+pub all-becoming : (seen : Lines) (hosts : ℕ) (ss : List Station) → All (λ (st : Station). (host : Bool) × (Becomes seen hosts ss st (stationStep st seen host))) ss
+all-becoming seen hosts [] = none
+all-becoming seen hosts (st ∷ ss) = also (isOdd hosts, in-front) (all-map (λ x p. (p .0, behind (p .1))) (all-becoming seen (hosts / 2) ss))
+
+-- What is known of the log while a frame runs.
+pub record Known (T : Moment) (l : Capture) (d : List ℕ) (ear : Listener) (units : List Station) : Type 0 where
+  pub did : All (DidAt l d) units
+  pub tells : All (TellsAt l d ear) units
+  pub moments : (own : ℕ) (y : Inside) → T own y → Has (settled y) (deedsIn own (l .marks))
+
+module _ {T : Moment} (l : Capture) {found : List ℕ} (ear : Listener) (taken : Response) (quiet timeout : ℕ) (ring : Ring) (units : List Station) (lent response : List ℕ) (framed : Framed (l .frame) lent found timeout) (different : Different units) (long : length response ≡ length found) (o : One (λ (st : Station). Talk T (l .frame .command) (dataOf (l .frame) lent) (isSubmitted (l .frame .kind)) found ear taken quiet response st × Sound st) (λ (st : Station). Sits st × Sound st) units) (busy : Busy) (known : Known T l (dataOf (l .frame) lent) ear units) where
+  abbrev c : Command
+  c = l .frame .command
+
+  abbrev d : List ℕ
+  d = dataOf (l .frame) lent
+
+  abbrev v : World
+  v = world timeout (Listening (l .frame) ear taken quiet) ring units lent response
+
+  x : InFrame T (l .frame) found v
+  x = hears ear taken quiet framed different long o
+
+  abbrev seen : Lines
+  seen = levels v
+
+  abbrev ear′ : Listener
+  ear′ = hearOf ear (seen .hsk) (busy .here)
+
+  abbrev later : Capture
+  later = laterOf l v busy
+
+  abbrev RoleOf : Station → Type 0
+  RoleOf st = Role T c d (isSubmitted (l .frame .kind)) found ear taken quiet response seen st × Sound st
+
+  roles : All RoleOf units
+  roles = one-all (λ st p. (talking (p .0 .0) (p .1 .0) (p .1 .1), p .0 .1)) (λ st p. (sitting (p .0), p .1)) (one-seen (lines ear) refl (λ st p. talk-nibble (p .0)) o)
+
+  pub frame-acts : actsIn (later .marks) ≡ actsIn (l .marks) ++ (hearing ear seen ++ actsIn (endedBy (round v busy .controller .stage) (told (eventIn (v .controller) seen (busy .here) lent) (cond (isSubmitted (l .frame .kind)) (round v busy .response) []))))
+  frame-acts =
+      acts-now l v busy different (in-frame-low x)
+      ∙ ap (λ (y : List Act). actsIn (l .marks) ++ y) (heard-acts (takenOf ear (seen .hsk)) (seen .nibble) (endedBy (round v busy .controller .stage) (told (eventIn (v .controller) seen (busy .here) lent) (cond (isSubmitted (l .frame .kind)) (round v busy .response) []))))
+
+  -- What the unit that responds does.
+  module _ (st : Station) (host : Bool) (sound : Sound st) where
+    abbrev e : List Deed
+    e = deedsIn (st .unit .own) (l .marks)
+
+    abbrev newly : List Deed
+    newly = deedsBy (st .unit .phase) (stationStep st seen host .unit .phase) (insideOf st) seen
+
+    abbrev SpeechOf : Type 0
+    SpeechOf = Speech c d (st .unit .own) (stationStep st seen host .unit .phase) ear′ (e ++ newly) (actsIn (l .marks) ++ hearing ear seen)
+
+    speech : Talk T c d (isSubmitted (l .frame .kind)) found ear taken quiet response st → seen .hsk ≡ (listenerHsk ear || pullsHsk (st .unit .phase)) → seen .nibble ≡ pullsNibble (st .unit .phase) → DidAt l d st → TellsAt l d ear st → SpeechOf
+    speech t h n did tells = talk-spoken T c d (step-in l x st host sound) (busy .here) e (actsIn (l .marks)) ear t h n did (known .moments (st .unit .own)) tells
+
+    -- It goes on to.
+    spoken-did : isResponding (stationStep st seen host .unit .phase) ≡ true → SpeechOf → Did c d (st .unit .own) (stationStep st seen host .unit .phase) (e ++ newly)
+    spoken-did going s = by (s .spoken)
+      where
+        by : Spoken c d (st .unit .own) (s .reply) (s .given) (stationStep st seen host .unit .phase) ear′ (e ++ newly) (actsIn (l .marks) ++ hearing ear seen) → Did c d (st .unit .own) (stationStep st seen host .unit .phase) (e ++ newly)
+        by (goes-on j sender wait p n q a) =
+            subst (λ (y : Phase). Did c d (st .unit .own) y (e ++ newly)) (sym p) (record { given = s .given; meant = s .meant; said = s .said; deeds = q }, s .speaks)
+        by (is-done p q a) = absurd (true≢false (sym going ∙ ap isResponding p))
+
+    spoken-tells : isResponding (stationStep st seen host .unit .phase) ≡ true → SpeechOf → TellsBy c d ear′ (actsIn (l .marks) ++ hearing ear seen) (st .unit .own) (stationStep st seen host .unit .phase) (e ++ newly)
+    spoken-tells going s r j s′ answers = by (s .spoken)
+      where
+        by : Spoken c d (st .unit .own) (s .reply) (s .given) (stationStep st seen host .unit .phase) ear′ (e ++ newly) (actsIn (l .marks) ++ hearing ear seen) → HeardOf c d (answerFor c d (st .unit .own) (s′ .given)) (j + count ear′) (actsIn (l .marks) ++ hearing ear seen)
+        by (goes-on k sender wait p n q a) =
+            let mine : Stands c d (st .unit .own) (s .reply) k (e ++ newly) = record { given = s .given; meant = s .meant; said = s .said; deeds = q } in
+            let same = same-given mine s′ in
+            let at = answers-at p answers in
+            subst (λ (y : Inside). HeardOf c d (answerFor c d (st .unit .own) y) (j + count ear′) (actsIn (l .marks) ++ hearing ear seen)) (sym same)
+            (subst (λ (n : ℕ). HeardOf c d (answerFor c d (st .unit .own) (s .given)) (n + count ear′) (actsIn (l .marks) ++ hearing ear seen)) (sym at) a)
+        by (is-done p q a) = absurd (true≢false (sym going ∙ ap isResponding p))
+
+  -- Each goes on in its role.
+  module _ (speaking : Speaking v busy) where
+    role-did : (st : Station) (host : Bool) → Becomes seen (busy .there) units st (stationStep st seen host) → RoleOf st → DidAt l d st → TellsAt l d ear st → Did c d (st .unit .own) (stationStep st seen host .unit .phase) (deedsIn (st .unit .own) (l .marks) ++ deedsBy (st .unit .phase) (stationStep st seen host .unit .phase) (insideOf st) seen)
+    role-did st host b (talking t h n, s) did tells = spoken-did st host s (speaking st (stationStep st seen host) b (talk-responds t)) (speech st host s t h n did tells)
+    role-did st host b (sitting q, s) did tells = sits-did c d (step-in l x st host s) (deedsIn (st .unit .own) (l .marks)) (q .0) did
+
+    role-tells : (st : Station) (host : Bool) → Becomes seen (busy .there) units st (stationStep st seen host) → RoleOf st → DidAt l d st → TellsAt l d ear st → TellsBy c d ear′ (actsIn (l .marks) ++ hearing ear seen) (st .unit .own) (stationStep st seen host .unit .phase) (deedsIn (st .unit .own) (l .marks) ++ deedsBy (st .unit .phase) (stationStep st seen host .unit .phase) (insideOf st) seen)
+    role-tells st host b (talking t h n, s) did tells = spoken-tells st host s (speaking st (stationStep st seen host) b (talk-responds t)) (speech st host s t h n did tells)
+    role-tells st host b (sitting q, s) did tells = λ r j k answers. absurd (not-answering (ap isResponding (sits-step seen (in-frame-low x) (in-frame-nibble x) st host (q, s) .0 .0)) answers)
+
+    abbrev facts : All (λ (st : Station). (RoleOf st × DidAt l d st) × TellsAt l d ear st) units
+    facts = all-zip (all-zip roles (known .did)) (known .tells)
+
+    pub hears-did : All (DidAt later d) (round v busy .units)
+    hears-did = all-becomes seen (busy .there) (λ st host b p. did-now l v busy different (in-frame-low x) b (own-kept st seen host) d (role-did st host b (p .0 .0) (p .0 .1) (p .1))) facts
+
+    pub hears-acted : inFrame (round v busy .controller .stage) ≡ true → Acted later d (round v busy .controller .stage) (round v busy .units)
+    hears-acted going =
+        let stage = ap (λ (y : Controller). y .stage) (control (v .controller) seen (busy .here) lent response (in-frame-nibble x) (ap (lentTo (l .frame) (length lent)) long ∙ framed .fits) refl) in
+        let next = listening-next (l .frame) ear taken quiet timeout seen (busy .here) (sym (ap inFrame stage) ∙ going) in
+        let at = stage ∙ next .2 in
+        let now : actsIn (later .marks) ≡ actsIn (l .marks) ++ hearing ear seen =
+        frame-acts ∙ (λ k. actsIn (l .marks) ++ (hearing ear seen ++ actsIn (endedBy (at k) (told (eventIn (v .controller) seen (busy .here) lent) (cond (isSubmitted (l .frame .kind)) (round v busy .response) [])))))
+        ∙ ap (λ (y : List Act). actsIn (l .marks) ++ y) (append-nil (hearing ear seen)) in
+        listening-so ear′ (next .0) (next .1) at
+        (all-becomes seen (busy .there) (λ st host b p. tells-now l v busy different (in-frame-low x) b (own-kept st seen host) d ear′ now (role-tells st host b (p .0 .0) (p .0 .1) (p .1))) facts)
+        (λ still. absurd (nobody-still still))
+      where
+        nobody-still : All Still (round v busy .units) → ⊥
+        nobody-still still = by o (all-becoming seen (busy .there) units)
+          where
+            by : {ss : List Station} → One (λ (st : Station). Talk T c d (isSubmitted (l .frame .kind)) found ear taken quiet response st × Sound st) (λ (st : Station). Sits st × Sound st) ss → All (λ (st : Station). (host : Bool) × (Becomes seen (busy .there) units st (stationStep st seen host))) ss → ⊥
+            by (this {x = st} p a) (also b bs) = true≢false (sym (speaking st (stationStep st seen (b .0)) (b .1) (talk-responds (p .0))) ∙ becomes-after (b .1) still)
+            by (that q more) (also b bs) = by more bs
