@@ -36,6 +36,28 @@ use Rattle.delivery.proofs.Listening.{hearing as lines, one-seen, talk-
 use Rattle.delivery.proofs.Part.{speaks}
 use Rattle.delivery.proofs.Spoken.{count, hearing, HeardOf, Spoken, goes-on, is-done, Speech, talk-spoken, only}
 use Rattle.delivery.proofs.Story.{DidAt, TellsBy, TellsAt, Still, Acted, listening-so, laterOf, acts-now, did-now, tells-now, not-answering, answers-at, stands-has, step-in}
+use Rattle.answer.specs.declared.Response.the-variants.{Complete as Whole}
+use Rattle.controller.specs.Controller.{eventAfter}
+use Rattle.inside.specs.Inside.{dataIn}
+use Rattle.reply.specs.Reply.{isSilent, replyStatus}
+use Rattle.turn.specs.Turn.{eventOf}
+use Rattle.whole.specs.Back.{received}
+use Rattle.delivery.specs.Deliver.{unit, actsOf, endBy, codesOf}
+use Rattle.delivery.specs.Stages.{addressed, Finishes, movedIn, Spoke, spoke as spoke-it, answerData}
+use Rattle.delivery.proofs.Completed.{Complete, codes-after, all-codes, one-codes, one-both, one-zip, has-one, hush-hushes, hush-part, spoken-has, spoken-part}
+use Rattle.delivery.proofs.Deeds.{Hush}
+use Rattle.delivery.proofs.Listening.{Seen}
+use Rattle.delivery.proofs.Spoken.{took-no, spoke-no, settled-first}
+use Rattle.delivery.specs.Log.{sent, took, spoke, done}
+use Rattle.delivery.specs.Promised.{Promised}
+use Rattle.frame.specs.declared.Stage.the-variants.{Resting}
+use Rattle.inside.specs.Inside.{replyFor}
+use lib.ListN.{drop}
+use mathlib.Core.List.{append-assoc}
+use mathlib.Core.List.{map}
+use Rattle.delivery.proofs.Story.{deeds-now}
+use Rattle.delivery.proofs.Deeds.{nibblesFor}
+use Rattle.frame.specs.declared.Moved.{Moved}
 
 -- While the controller listens: it goes on to, or the frame ends.
 pub listening-next : (f : Frame) (ear : Listener) (taken : Response) (quiet timeout : ℕ) (seen : Lines) (host : Bool) → inFrame (listeningStep f ear taken quiet timeout seen host .stage) ≡ true
@@ -59,6 +81,10 @@ same-given s s′ = only s (s′ .given) (stands-has s′)
 becomes-after : {P : Station → Type 0} {seen : Lines} {hosts : ℕ} {ss : List Station} {st after : Station} → Becomes seen hosts ss st after → All P (unitsAfter seen hosts ss) → P after
 becomes-after in-front (also p a) = p
 becomes-after (behind b) (also p a) = becomes-after b a
+
+spoke-done-no : {y : Inside} (xs : List ℕ) → Has (settled y) (map spoke xs ++ (done ∷ [])) → ⊥
+spoke-done-no [] (there h) = spoke-no [] h
+spoke-done-no (n ∷ xs) (there h) = spoke-done-no xs h
 
 -- A unit while the controller listens.
 pub data Role (T : Moment) (c : Command) (d : List ℕ) (stores : Bool) (found : List ℕ) (ear : Listener) (taken : Response) (quiet : ℕ) (buffer : List ℕ) (seen : Lines) (st : Station) : Type 0 where
@@ -180,3 +206,99 @@ module _ {T : Moment} (l : Capture) {found : List ℕ} (ear : Listener) (taken :
             by : {ss : List Station} → One (λ (st : Station). Talk T c d (isSubmitted (l .frame .kind)) found ear taken quiet response st × Sound st) (λ (st : Station). Sits st × Sound st) ss → All (λ (st : Station). (host : Bool) × (Becomes seen (busy .there) units st (stationStep st seen host))) ss → ⊥
             by (this {x = st} p a) (also b bs) = true≢false (sym (speaking st (stationStep st seen (b .0)) (b .1) (talk-responds (p .0))) ∙ becomes-after (b .1) still)
             by (that q more) (also b bs) = by more bs
+
+  -- The frame ends answered: the one unit that responded has done its part, the others have sat out.
+  abbrev ended : Capture
+  ended = record { frame = l .frame; lent = d; found = l .found; marks = later .marks }
+
+  record DoneAt (own : ℕ) (y : Inside) (st : Station) : Type 0 where
+    code : st .unit .own ≡ own
+    responding : isResponding (st .unit .phase) ≡ true
+    meant : addressed c (st .unit .own) ≡ true
+    defined : isSilent (replyFor (st .unit .own) y c d) ≡ false
+    deeds : deedsIn (st .unit .own) (later .marks) ≡ map took (nibblesFor c d) ++ (settled y ∷ (map spoke (answerFor c d (st .unit .own) y) ++ (done ∷ [])))
+    heards : actsIn (l .marks) ++ hearing ear seen ≡ map sent (nibblesFor c d) ++ map heard (answerFor c d (st .unit .own) y)
+
+  abbrev HushAt : Station → Type 0
+  HushAt st = Still st × Hush c d (st .unit .own) (deedsIn (st .unit .own) (later .marks))
+
+  abbrev MovedAt : Station → Type 0
+  MovedAt st = ((host : Bool) × (Becomes seen (busy .there) units st (stationStep st seen host))) × (DidAt l d st × TellsAt l d ear st)
+
+  module _ (still : All Still (round v busy .units)) where
+    hush-at : (st : Station) → Sits st → MovedAt st → HushAt st
+    hush-at st q m = (
+      ap isResponding (q .0),
+      subst (Hush c d (st .unit .own)) (sym (deeds-now l v busy different (in-frame-low x) (m .0 .1) ∙ ap (λ (y : List Deed). deedsIn (st .unit .own) (l .marks) ++ y) (ap (λ (y : Phase). deedsBy y (stationStep st seen (m .0 .0) .unit .phase) (insideOf st) seen) (q .0)) ∙ append-nil (deedsIn (st .unit .own) (l .marks))))
+          (subst (λ (y : Phase). Did c d (st .unit .own) y (deedsIn (st .unit .own) (l .marks))) (q .0) (m .1 .0)),
+    )
+
+    done-at : (st : Station) → Talk T c d (isSubmitted (l .frame .kind)) found ear taken quiet response st → Sound st → seen .hsk ≡ (listenerHsk ear || pullsHsk (st .unit .phase)) → seen .nibble ≡ pullsNibble (st .unit .phase) → MovedAt st → (y : Inside) × DoneAt (st .unit .own) y st
+    done-at st t sound h n m = by (speech st (m .0 .0) sound t h n (m .1 .0) (m .1 .1))
+      where
+        by : SpeechOf st (m .0 .0) sound → (y : Inside) × DoneAt (st .unit .own) y st
+        by s = at (s .spoken)
+          where
+            at : Spoken c d (st .unit .own) (s .reply) (s .given) (stationStep st seen (m .0 .0) .unit .phase) ear′ (deedsIn (st .unit .own) (l .marks) ++ deedsBy (st .unit .phase) (stationStep st seen (m .0 .0) .unit .phase) (insideOf st) seen) (actsIn (l .marks) ++ hearing ear seen) → (y : Inside) × DoneAt (st .unit .own) y st
+            at (goes-on j sender wait p k q a) = absurd (true≢false (sym (ap isResponding p) ∙ becomes-after (m .0 .1) still))
+            at (is-done p q a) = (s .given, record { code = refl; responding = talk-responds t; meant = s .meant; defined = sym (ap isSilent (s .said)) ∙ s .speaks; deeds = deeds-now l v busy different (in-frame-low x) (m .0 .1) ∙ q; heards = a })
+
+    all-done : {ss : List Station} → One (λ (st : Station). ((Talk T c d (isSubmitted (l .frame .kind)) found ear taken quiet response st × Sound st) × Seen seen (listenerHsk ear) st) × MovedAt st) (λ (st : Station). (Sits st × Sound st) × MovedAt st) ss
+        → (own : ℕ) × (y : Inside) × One (DoneAt own y) HushAt ss
+    all-done (this {x = st} p a) = let k = done-at st (p .0 .0 .0) (p .0 .0 .1) (p .0 .1 .0) (p .0 .1 .1) (p .1) in (st .unit .own, k .0, this (k .1) (all-map (λ z q. hush-at z (q .0 .0) (q .1)) a))
+    all-done (that {x = st} q o) = let k = all-done o in (k .0, k .1, that (hush-at st (q .0 .0) (q .1)) (k .2))
+
+    who-answered : (own : ℕ) × (y : Inside) × One (DoneAt own y) HushAt units
+    who-answered = all-done (one-zip (one-seen (lines ear) refl (λ st p. talk-nibble (p .0)) o) (all-zip (all-becoming seen (busy .there) units) (all-zip (known .did) (known .tells))))
+
+    -- What the round that ends it tells.
+    module _ {T′ : Moment} (moments : (own : ℕ) (y : Inside) → T′ own y → Has (settled y) (deedsIn own (later .marks))) (kept : isSubmitted (l .frame .kind) ≡ true → found ≡ l .found) (fin : Finishes v busy) where
+      abbrev told-now : Act
+      told-now = told (eventIn (v .controller) seen (busy .here) lent) (cond (isSubmitted (l .frame .kind)) (round v busy .response) [])
+
+      spoke-data : {own : ℕ} {y : Inside} (st : Station) (r : Reply) → DoneAt own y st → (p : Promised T′ (st .unit .own) c d r (insideOf st)) → (p .given ≡ y) × (r ≡ replyFor own y c d)
+      spoke-data {own} {y} st r k p =
+          let same : p .given ≡ y = settled-first (took-no (nibblesFor c d) (subst (Has (settled (p .given))) (k .deeds) (moments (st .unit .own) (p .given) (p .took)))) (spoke-done-no (answerFor c d (st .unit .own) y)) in
+          (same, p .said ∙ (λ i. replyFor (k .code i) (same i) c d))
+
+      buffer-by : (t : Bool) (f e : List ℕ) → isSubmitted (l .frame .kind) ≡ t → f ≡ found → cond t (received t e f) [] ≡ cond t (e ++ drop (length e) (l .found)) []
+      buffer-by true f e s z = ap (λ (b : List ℕ). e ++ drop (length e) b) (z ∙ kept s)
+      buffer-by false f e s z = refl
+
+      spoke-end : {own : ℕ} {y : Inside} (st : Station) (r : Reply) → DoneAt own y st → (p : Promised T′ (st .unit .own) c d r (insideOf st)) → movedIn v busy ≡ over (l .frame) (Whole (replyStatus r) (length (answerData p))) → round v busy .response ≡ received (isSubmitted (l .frame .kind)) (answerData p) found
+          → actsIn (later .marks) ≡ actsOf ended (unit own y)
+      spoke-end {own} {y} st r k p m b =
+          let same = spoke-data st r k p in
+          let stage : round v busy .controller .stage ≡ Resting true = ap (λ (q : Controller). q .stage) fin ∙ ap (λ (q : Moved). q .stage) m in
+          let event : eventIn (v .controller) seen (busy .here) lent ≡ eventOf (l .frame) (replyStatus r) (length (answerData p)) = ap (λ (q : Moved). eventAfter (q .end)) m in
+          let end : told-now ≡ told (eventOf (l .frame) (replyStatus r) (length (answerData p))) (cond (isSubmitted (l .frame .kind)) (answerData p ++ drop (length (answerData p)) (l .found)) []) =
+          (λ i. told (event i) (cond (isSubmitted (l .frame .kind)) (b i) [])) ∙ ap (told (eventOf (l .frame) (replyStatus r) (length (answerData p)))) (buffer-by (isSubmitted (l .frame .kind)) found (answerData p) refl refl) in
+          let its : told (eventOf (l .frame) (replyStatus r) (length (answerData p))) (cond (isSubmitted (l .frame .kind)) (answerData p ++ drop (length (answerData p)) (l .found)) []) ≡ endBy ended (unit own y) =
+          λ i. told (eventOf (l .frame) (replyStatus (same .1 i)) (length (dataIn (same .0 i) (same .1 i)))) (cond (isSubmitted (l .frame .kind)) (dataIn (same .0 i) (same .1 i) ++ drop (length (dataIn (same .0 i) (same .1 i))) (l .found)) []) in
+          let heards : actsIn (l .marks) ++ hearing ear seen ≡ map sent (nibblesFor c d) ++ map heard (answerFor c d own y) = k .heards ∙ ap (λ (n : ℕ). map sent (nibblesFor c d) ++ map heard (answerFor c d n y)) (k .code) in
+          frame-acts
+          ∙ (λ i. actsIn (l .marks) ++ (hearing ear seen ++ actsIn (endedBy (stage i) ((end ∙ its) i))))
+          ∙ sym (append-assoc (actsIn (l .marks)) (hearing ear seen) (endBy ended (unit own y) ∷ []))
+          ∙ ap (λ (a : List Act). a ++ (endBy ended (unit own y) ∷ [])) heards
+          ∙ append-assoc (map sent (nibblesFor c d)) (map heard (answerFor c d own y)) (endBy ended (unit own y) ∷ [])
+
+      end-of : {own : ℕ} {y : Inside} {ss : List Station} → One (DoneAt own y) HushAt units → One (λ (st : Station). Spoke T′ (l .frame) d found (movedIn v busy) (round v busy .response) units st × Sound st) (λ (st : Station). Sits st × Sound st) ss → actsIn (later .marks) ≡ actsOf ended (unit own y)
+      end-of k (this (spoke-it r j sender before has z own m p e b inside sits, s) a) = spoke-end before r (has-one k has (λ q. true≢false (sym (ap isResponding z) ∙ q .0))) p e b
+      end-of k (that q o) = end-of k o
+
+      pub hears-complete : One (λ (st : Station). Spoke T′ (l .frame) d found (movedIn v busy) (round v busy .response) units st × Sound st) (λ (st : Station). Sits st × Sound st) (round v busy .units) → Complete (codesOf (round v busy .units)) ended
+      hears-complete spoken =
+          let w = who-answered in
+          subst (λ (codes : List ℕ). Complete codes ended) (sym (codes-after seen (busy .there) units)) (record {
+            answerer = unit (w .0) (w .1);
+            acted = end-of (w .2) spoken;
+            answers = one-codes (one-both (λ st k.
+            let own = k .code in
+            record {
+              named = own;
+              meant = subst (λ (n : ℕ). addressed c n ≡ true) own (k .meant);
+              inside = subst (λ (n : ℕ). Has (settled (w .1)) (deedsIn n (later .marks))) own (spoken-has ended (st .unit .own) (w .1) (map spoke (answerFor c d (st .unit .own) (w .1)) ++ (done ∷ [])) (k .deeds));
+              defined = subst (λ (n : ℕ). isSilent (replyFor n (w .1) c d) ≡ false) own (k .defined);
+            }) (λ st q. hush-hushes ended (st .unit .own) (q .1)) (w .2));
+            parts = all-codes (one-all (λ st k. (w .1, spoken-part ended (st .unit .own) (w .1) (k .meant) (k .defined) (k .deeds))) (λ st q. hush-part ended (st .unit .own) (w .1) (q .1)) (w .2));
+          })

@@ -78,7 +78,7 @@ pub took-no : {x : Inside} (xs : List ℕ) {rest : List Deed} → Has (settled x
 took-no [] h = h
 took-no (n ∷ xs) (there h) = took-no xs h
 
-spoke-no : {x : Inside} (xs : List ℕ) → Has (settled x) (map spoke xs) → ⊥
+pub spoke-no : {x : Inside} (xs : List ℕ) → Has (settled x) (map spoke xs) → ⊥
 spoke-no (n ∷ xs) (there h) = spoke-no xs h
 
 pub settled-first : {x y : Inside} {rest : List Deed} → Has (settled y) (settled x ∷ rest) → (Has (settled y) rest → ⊥) → y ≡ x
