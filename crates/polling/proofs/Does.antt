@@ -2,9 +2,9 @@
 use Prim.Native.Nat.{ℕ, _<_}
 use native.Mathlib.Omega.{arith}
 use mathlib.Core.Path.{_≡_, refl, sym, _∙_, ap, subst}
-use mathlib.Core.Bool.{Bool, true, false, cond, _&&_}
+use mathlib.Core.Bool.{Bool, true, false, cond, _&&_, true≢false}
 use mathlib.Core.List.{List, [], _∷_}
-use borrow.Author.Tests.{eqb-false}
+use borrow.Author.Tests.{eqb-true, eqb-false}
 use lib.Dec.{eqb, ltb}
 use lib.ListN.{length}
 use Rattle.answer.specs.Answer.{takenWith, statusOf, countOf}
@@ -54,9 +54,9 @@ pub data Onward (before now : Stage) : Type 0 where
   same-frame : held now ≡ held before → Onward before now
   no-more : held now ≡ [] → Onward before now
 
--- It settles no unit's request.
-abbrev Unsettled : Controller → Move → Type 0
-Unsettled c m = (own : ℕ) → settles own c m ≡ false
+-- It settles nothing of a unit with a mark.
+abbrev pub Unsettled : Controller → Move → Type 0
+Unsettled c m = (own : ℕ) → isMarked own (live (c .ring)) ≡ true → settles own c m ≡ false
 
 pub data Does (c : Controller) (m : Move) : Type 0 where
   keeps : after c m .ring ≡ c .ring → begins c m ≡ false → eventOf c m ≡ Nothing → Unsettled c m → Onward (c .stage) (after c m .stage) → Does c m
@@ -81,10 +81,6 @@ still (Listening f ear response quiet) = refl
 pub and-false : (b : Bool) → (b && false) ≡ false
 and-false true = refl
 and-false false = refl
-
-and-true : (b : Bool) → (b && true) ≡ b
-and-true true = refl
-and-true false = refl
 
 unchanged : (c : Controller) (m : Move) → after c m ≡ c → eventOf c m ≡ Nothing → Unsettled c m → Does c m
 unchanged c m e v u =
@@ -138,7 +134,7 @@ module _ (c : Controller) (seen : Lines) (busy : Bool) (lent response : List ℕ
   event = ap told goes
 
   told-nothing : eventOf c m ≡ Nothing → Unsettled c m
-  told-nothing e own = ap (λ (x : Event). isDone x && anyFor own (running (c .stage))) e
+  told-nothing e own marked = ap (λ (x : Event). isDone x && anyFor own (running (c .stage))) e
 
   -- In a frame, or resting.
   framed : isIdle (c .stage) ≡ false → Does c m
@@ -174,7 +170,7 @@ module _ (c : Controller) (seen : Lines) (busy : Bool) (lent response : List ℕ
   step-does false i = framed i
 
 refused-does : (c : Controller) (seen : Lines) (busy : Bool) (lent response : List ℕ) (k : ℕ) → stepping c seen busy lent response ≡ refused k → Does c (steps seen busy lent response)
-refused-does c seen busy lent response k e = unchanged c (steps seen busy lent response) (ap (λ (a : Answer Event). kept a (controllerStep c seen busy lent) c) e) (ap told e) (λ own. ap (λ (x : Answer Event). isDone (told x) && anyFor own (running (c .stage))) e)
+refused-does c seen busy lent response k e = unchanged c (steps seen busy lent response) (ap (λ (a : Answer Event). kept a (controllerStep c seen busy lent) c) e) (ap told e) (λ own marked. ap (λ (x : Answer Event). isDone (told x) && anyFor own (running (c .stage))) e)
 
 steps-do : (c : Controller) (seen : Lines) (busy : Bool) (lent response : List ℕ) (t : Bool) (l : Lent) → ltb 15 (seen .nibble) ≡ t → lentAt (c .stage) (length lent) (length response) ≡ l → Does c (steps seen busy lent response)
 steps-do c seen busy lent response true l e g = refused-does c seen busy lent response 5 (rw e)
@@ -186,10 +182,10 @@ steps-do c seen busy lent response false Buffer e g = refused-does c seen busy l
 accepted-does : (c : Controller) (k : Command) (n room : ℕ) → submitting c k n room ≡ gives done → isShutOut k (c .ring) ≡ false → eqb (k .command) 0x0A ≡ false → Does c (submits k n room)
 accepted-does c k n room e out poll =
     let a : after c (submits k n room) ≡ withCommand c k n = ap (λ (x : Answer Done). kept x (withCommand c k n) c) e in
-    accepts k n (ap (λ (x : Controller). x .ring) a) (ap (λ (x : Controller). isIdle (c .stage) && isBegun (running (x .stage))) a ∙ and-false (isIdle (c .stage))) refl (λ own. refl) out poll (ap (λ (x : Controller). x .stage) a)
+    accepts k n (ap (λ (x : Controller). x .ring) a) (ap (λ (x : Controller). isIdle (c .stage) && isBegun (running (x .stage))) a ∙ and-false (isIdle (c .stage))) refl (λ own marked. refl) out poll (ap (λ (x : Controller). x .stage) a)
 
 submit-refused : (c : Controller) (k : Command) (n room j : ℕ) → submitting c k n room ≡ refused j → Does c (submits k n room)
-submit-refused c k n room j e = unchanged c (submits k n room) (ap (λ (x : Answer Done). kept x (withCommand c k n) c) e) refl (λ own. refl)
+submit-refused c k n room j e = unchanged c (submits k n room) (ap (λ (x : Answer Done). kept x (withCommand c k n) c) e) refl (λ own marked. refl)
 
 submits-do : (c : Controller) (k : Command) (n room : ℕ) (i p q r s : Bool) → isIdle (c .stage) ≡ i → ltb 65535 n ≡ p → eqb (k .command) 0x0A ≡ q → isShutOut k (c .ring) ≡ r → ltb room (k .«buffer_length») ≡ s → Does c (submits k n room)
 submits-do c k n room false p q r s e0 e1 e2 e3 e4 = submit-refused c k n room 1 (rw e0)
@@ -202,8 +198,15 @@ submits-do c k n room true false false false false e0 e1 e2 e3 e4 = accepted-doe
 acknowledges-do : (c : Controller) (code : ℕ) (t : Bool) → isMarked code (live (c .ring)) ≡ t → Does c (acknowledges code)
 acknowledges-do c code true e =
     let a : after c (acknowledges code) ≡ withoutMark c code = ap (λ (t : Bool). kept (cond t (gives done) (refused 8)) (withoutMark c code) c) e in
-    clears code refl e (ap (λ (x : Controller). isIdle (c .stage) && isBegun (running (x .stage))) a ∙ still (c .stage)) refl (λ own. ap (λ (t : Bool). eqb code own && t) e ∙ and-true (eqb code own)) (ap (λ (x : Controller). x .ring) a) (ap (λ (x : Controller). x .stage) a)
-acknowledges-do c code false e = unchanged c (acknowledges code) (ap (λ (t : Bool). kept (cond t (gives done) (refused 8)) (withoutMark c code) c) e) refl (λ own. ap (λ (t : Bool). eqb code own && t) e ∙ and-false (eqb code own))
+    clears code refl e (ap (λ (x : Controller). isIdle (c .stage) && isBegun (running (x .stage))) a ∙ still (c .stage)) refl (λ own. refl) (ap (λ (x : Controller). x .ring) a) (ap (λ (x : Controller). x .stage) a)
+acknowledges-do c code false e = unchanged c (acknowledges code) (ap (λ (t : Bool). kept (cond t (gives done) (refused 8)) (withoutMark c code) c) e) refl another
+  where
+    another : Unsettled c (acknowledges code)
+    another own marked = by (eqb code own) refl
+      where
+        by : (t : Bool) → eqb code own ≡ t → t ≡ false
+        by true x = absurd (true≢false (sym marked ∙ ap (λ (n : ℕ). isMarked n (live (c .ring))) (sym (eqb-true code own x)) ∙ e))
+        by false x = refl
 
 pub does : (c : Controller) (m : Move) → Does c m
 does c (steps seen busy lent response) = steps-do c seen busy lent response (ltb 15 (seen .nibble)) (lentAt (c .stage) (length lent) (length response)) refl refl

@@ -24,7 +24,7 @@ isHanded own Nothing = false
 isHanded own (Ended status count) = false
 isHanded own (Handed code) = eqb code own
 
--- An accepted acknowledgement of it; or a disable or close of the unit that ends with 00, for its mark then counts as acknowledged.
+-- What settles it: the application acknowledges the unit's code; or a disable or close of the unit ends with 00, which removes it.
 abbrev pub isDone : Event → Bool
 isDone Nothing = false
 isDone (Ended status count) = eqb status 0x00
@@ -37,9 +37,10 @@ anyFor own (f ∷ fs) = isFor own f
 abbrev pub settles : ℕ → Controller → Move → Bool
 settles own c (steps seen busy lent response) = isDone (eventOf c (steps seen busy lent response)) && anyFor own (running (c .stage))
 settles own c (submits k n room) = false
-settles own c (acknowledges code) = eqb code own && isMarked code (live (c .ring))
+settles own c (acknowledges code) = eqb code own
 
--- Whether a request of the unit that was handed over is unacknowledged behind these calls, where `was` says so of before.
+-- Whether a request of the unit that was handed over is unacknowledged behind these calls, where `was` says so of before: handed over, and
+-- since then not settled.
 abbrev pub pending : ℕ → Bool → Controller → Move → Bool
 pending own was c m = cond (isHanded own (eventOf c m)) true (cond (settles own c m) false was)
 
