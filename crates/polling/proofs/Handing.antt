@@ -66,15 +66,15 @@ turn-shape e = by (e .marked)
     by false = a-poll (e .code) refl
 
 onward-shape : {old new : Stage} → Onward old new → Shapes (held old) → Shapes (held new)
-onward-shape (same-frame e) s = subst Shapes (sym e) s
-onward-shape (no-more e) s = subst Shapes (sym e) tt
+onward-shape (same-frame e same) s = subst Shapes (sym e) s
+onward-shape (no-more none e) s = subst Shapes (sym e) tt
 
 shape-after : (c : Controller) (m : Move) → Shapes (held (c .stage)) → Shapes (held (after c m .stage))
 shape-after c m s = by (does c m)
   where
     by : Does c m → Shapes (held (after c m .stage))
     by (keeps ring b v u o) = onward-shape o s
-    by (accepts k n ring b v u out poll st) = subst (λ (x : Stage). Shapes (held x)) (sym st) (a-command refl poll)
+    by (accepts k n ring b v u out poll st resting) = subst (λ (x : Stage). Shapes (held x)) (sym st) (a-command refl poll)
     by (serves b v u some e) = subst (λ (x : Controller). Shapes (held (x .stage))) (sym e) (turn-shape (getD (live (c .ring)) 0 none))
     by (frame-ends f status count r g b v u ring z) = subst Shapes (sym z) tt
     by (clears code x marked b v u ring st) = subst (λ (y : Stage). Shapes (held y)) (sym st) s
@@ -120,7 +120,7 @@ hands-only timeout ms m code e = by (does (since timeout ms) m)
 
     by : Does (since timeout ms) m → running (since timeout ms .stage) ≡ pollOf code ∷ []
     by (keeps ring b v u o) = nothing v
-    by (accepts k n ring b v u out poll st) = nothing v
+    by (accepts k n ring b v u out poll st resting) = nothing v
     by (serves b v u some x) = nothing v
     by (clears k x marked b v u ring st) = nothing v
     by (frame-ends f status count r g b v u ring z) =

@@ -24,9 +24,9 @@ use Rattle.ring.proofs.Laws.{live-ring, live-within, marked-length, out-in, joi
 use Rattle.turn.specs.Turn.{turnOf, ringBy, ringEnded, eventBy, eventOf as frameEvent}
 use Rattle.turn.specs.declared.Event.{Event}
 use Rattle.turn.specs.declared.Event.the-variants.{Nothing, Ended, Handed}
-use Rattle.polling.specs.Moves.{Move, after, afterAll, inRing, isFor, eventOf}
-use Rattle.polling.specs.History.{isHanded, isDone, settles, pending, pendingFrom, since, isPending, Marks, PollOrNull, PollNibbles, NullNibbles, marksOf, Once, Joins}
-use Rattle.polling.proofs.Does.{isPoll, held, Unsettled, Onward, same-frame, no-more, Does, keeps, accepts, serves, frame-ends, clears, does}
+use Rattle.polling.specs.Moves.{Move, after, afterAll, begins, ahead, inRing, isFor, eventOf}
+use Rattle.polling.specs.History.{isHanded, isDone, settles, pending, pendingFrom, since, isPending, Marks, PollNibbles, NullNibbles, marksOf, Once, Joins}
+use Rattle.polling.proofs.Does.{isPoll, held, Unsettled, Onward, same-frame, no-more, Does, keeps, accepts, serves, frame-ends, clears, does, firstOf}
 use Rattle.polling.proofs.Turns.{short-joined, short-removed, short-marked, short-turned}
 
 -- Marks of a unit's entries, behind each thing that can be done to the ring.
@@ -258,8 +258,8 @@ module _ (own : ℕ) where
       by false g false x = refl
 
   onward-aboard : (l : List Entry) {old new : Stage} → Onward old new → Aboards l (held old) → Aboards l (held new)
-  onward-aboard l (same-frame e) a = subst (Aboards l) (sym e) a
-  onward-aboard l (no-more e) a = subst (Aboards l) (sym e) tt
+  onward-aboard l (same-frame e same) a = subst (Aboards l) (sym e) a
+  onward-aboard l (no-more none e) a = subst (Aboards l) (sym e) tt
 
   -- A turn's frame.
   turn-aboard : (l : List Entry) (e : Entry) (es : List Entry) → l ≡ e ∷ es → length (marksOf own l) ≤ 1 → Aboard (turned l) (turnOf e)
@@ -324,7 +324,7 @@ module _ (own : ℕ) where
         aboard = onward-aboard (live (after c m .ring)) o (subst (λ (l : List Entry). Aboards l (held (c .stage))) (sym (entries ring)) (ok .aboard));
         full = subst Full (sym ring) (ok .full);
       }
-      by (accepts k n ring b v u out poll st) = record {
+      by (accepts k n ring b v u out poll st resting) = record {
         agrees = as-was (same-history p c m v u (ok .agrees)) (entries ring) (ok .agrees);
         aboard = subst (λ (s : Stage). Aboards (live (after c m .ring)) (held s)) (sym st) (subst (λ (l : List Entry). Aboard l (submittedFrame k n)) (sym (entries ring)) (record { polls = λ x y. absurd (false≢true x); enables = λ x y z w. room k y z w out }));
         full = subst Full (sym ring) (ok .full);
@@ -418,12 +418,14 @@ front-mark own p (e ∷ es) a i z = by (eqb (e .code) own) refl a
         λ k. record { code = eqb-true (e .code) own x k; marked = mark k }
     by false x y = let s : cond (eqb (e .code) own) 0 (suc (placeOf own es)) ≡ suc (placeOf own es) = ap (λ (t : Bool). cond t 0 (suc (placeOf own es))) x in absurd (omega arith)
 
-pub poll-or-null : PollOrNull
+-- The frame that begins then.
+pub poll-or-null : (own timeout : ℕ) (ms : List Move) (m : Move) → begins (since timeout ms) m ≡ true → inRing own (since timeout ms) ≡ true → ahead own (since timeout ms) ≡ 0
+    → after (since timeout ms) m .stage ≡ begun (cond (isPending own timeout ms) nullFrame (pollOf own))
 poll-or-null own timeout ms m b i z = by (does (since timeout ms) m)
   where
     by : Does (since timeout ms) m → after (since timeout ms) m .stage ≡ begun (cond (isPending own timeout ms) nullFrame (pollOf own))
     by (keeps ring none-begins v u o) = absurd (true≢false (sym b ∙ none-begins))
-    by (accepts k n ring none-begins v u out poll st) = absurd (true≢false (sym b ∙ none-begins))
+    by (accepts k n ring none-begins v u out poll st resting) = absurd (true≢false (sym b ∙ none-begins))
     by (serves x v u some e) = ap (λ (x : Controller). x .stage) e ∙ ap (λ (x : Entry). begun (turnOf x)) (front-mark own (isPending own timeout ms) (live (since timeout ms .ring)) (ok-since own timeout ms .agrees) i z)
     by (frame-ends f status count r g none-begins v u ring e) = absurd (true≢false (sym b ∙ none-begins))
     by (clears code x marked none-begins v u ring st) = absurd (true≢false (sym b ∙ none-begins))
@@ -454,10 +456,6 @@ statusIn Nothing = 1
 statusIn (Ended status count) = status
 statusIn (Handed code) = 1
 
-abbrev firstOf : Frame → List Frame → Frame
-firstOf g [] = g
-firstOf g (f ∷ fs) = f
-
 pub joins-ring : Joins
 joins-ring own timeout ms m f count nonzero run (kind, (command, device)) told = by (does (since timeout ms) m)
   where
@@ -469,7 +467,7 @@ joins-ring own timeout ms m f count nonzero run (kind, (command, device)) told =
 
     by : Does (since timeout ms) m → inRing own (after (since timeout ms) m) ≡ true
     by (keeps ring none-begins v u o) = nothing v
-    by (accepts k n ring none-begins v u out poll st) = nothing v
+    by (accepts k n ring none-begins v u out poll st resting) = nothing v
     by (serves x v u some e) = nothing v
     by (clears code x marked none-begins v u ring st) = nothing v
     by (frame-ends g status n r h none-begins v u ring z) =

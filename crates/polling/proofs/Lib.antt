@@ -2,6 +2,7 @@ pub mod Places
 pub mod Does
 pub mod Turns
 pub mod History
+pub mod ItsTurn
 pub mod Requests
 pub mod Handing
 pub mod OnTheBus

@@ -8,7 +8,7 @@ use lib.Dec.{eqb}
 use lib.ListN.{length}
 use Rattle.controller.specs.Controller.{newController}
 use Rattle.controller.specs.declared.Controller.{Controller}
-use Rattle.frame.specs.Frame.{begun, pollOf, nullFrame, nibbleOf}
+use Rattle.frame.specs.Frame.{pollOf, nullFrame, nibbleOf}
 use Rattle.frame.specs.declared.Frame.{Frame}
 use Rattle.frame.specs.declared.Kind.the-variants.{Submitted}
 use Rattle.message.specs.Nibbles.{nibbleIn}
@@ -16,7 +16,7 @@ use Rattle.ring.specs.Ring.{live, isMarked}
 use Rattle.ring.specs.declared.Entry.{Entry}
 use Rattle.turn.specs.declared.Event.{Event}
 use Rattle.turn.specs.declared.Event.the-variants.{Nothing, Ended, Handed}
-use Rattle.polling.specs.Moves.{Move, steps, submits, acknowledges, after, afterAll, running, begins, ahead, inRing, isFor, eventOf}
+use Rattle.polling.specs.Moves.{Move, steps, submits, acknowledges, after, afterAll, running, inRing, isFor, eventOf}
 
 -- A call hands a request of the unit to the application.
 abbrev pub isHanded : ℕ → Event → Bool
@@ -58,16 +58,6 @@ isPending own timeout ms = pendingFrom own false (newController timeout) ms
 -- The mark says just that.
 abbrev pub Marks : Type 0
 Marks = (own timeout : ℕ) (ms : List Move) → isMarked own (live (since timeout ms .ring)) ≡ isPending own timeout ms
-
--- At its turn.
-abbrev pub PollOrNull : Type 0
-PollOrNull =
-    (own timeout : ℕ) (ms : List Move) (m : Move)
-    → let c = since timeout ms in
-    begins c m ≡ true
-    → inRing own c ≡ true
-    → ahead own c ≡ 0
-    → after c m .stage ≡ begun (cond (isPending own timeout ms) nullFrame (pollOf own))
 
 -- The nibbles that such a frame sends: of the unit's code, 0A and zeros, and of 0, FE and zeros.
 abbrev pub PollNibbles : Type 0

@@ -1,6 +1,6 @@
 pub mod Moves
-pub mod Turns
 pub mod History
+pub mod Turns
 pub mod Requests
 pub mod Handing
 pub mod Chain
