@@ -23,7 +23,8 @@ use Rattle.ring.specs.declared.Entry.{Entry}
 use Rattle.turn.specs.Turn.{turnOf, eventBy}
 use Rattle.turn.specs.declared.Event.{Event}
 use Rattle.turn.specs.declared.Event.the-variants.{Nothing, Ended, Handed}
-use Rattle.polling.specs.Handing.{Starts, PollEnds, HandsOnly}
+use Rattle.polling.specs.Beyond.{PollEnds}
+use Rattle.polling.specs.Demand3.{Starts, HandsOnly}
 use Rattle.polling.specs.History.{since}
 use Rattle.polling.specs.Moves.{Move, steps, after, afterAll, running, isBegun, told, eventOf}
 use Rattle.polling.proofs.Does.{isPoll, held, Onward, same-frame, no-more, Does, keeps, accepts, serves, frame-ends, clears, does}

@@ -25,7 +25,9 @@ use Rattle.turn.specs.Turn.{turnOf, ringBy, ringEnded, eventBy, eventOf as fram
 use Rattle.turn.specs.declared.Event.{Event}
 use Rattle.turn.specs.declared.Event.the-variants.{Nothing, Ended, Handed}
 use Rattle.polling.specs.Moves.{Move, after, afterAll, begins, ahead, inRing, isFor, eventOf}
-use Rattle.polling.specs.History.{isHanded, isDone, settles, pending, pendingFrom, since, isPending, Marks, PollNibbles, NullNibbles, marksOf, Once, Joins}
+use Rattle.polling.specs.Beyond.{Marks, marksOf, Once}
+use Rattle.polling.specs.Demand3.{Joins, PollNibbles, NullNibbles}
+use Rattle.polling.specs.History.{isHanded, isDone, settles, pending, pendingFrom, since, isPending}
 use Rattle.polling.proofs.Does.{isPoll, held, Unsettled, Onward, same-frame, no-more, Does, keeps, accepts, serves, frame-ends, clears, does, firstOf}
 use Rattle.polling.proofs.Turns.{short-joined, short-removed, short-marked, short-turned}
 

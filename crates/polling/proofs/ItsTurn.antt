@@ -1,7 +1,6 @@
 -- The turn over one history: it comes in time, it is the poll or the null message that the history says, and its frame stays until its end.
-use Prim.Native.Nat.{ℕ}
 use native.Mathlib.Omega.{arith}
-use mathlib.Core.Path.{_≡_, refl, sym, ap, subst}
+use mathlib.Core.Path.{_≡_, refl, ap, subst}
 use mathlib.Core.Bool.{true}
 use mathlib.Core.List.{List, [], _∷_, _++_}
 use Rattle.controller.specs.Controller.{newController}
@@ -9,7 +8,7 @@ use Rattle.controller.specs.declared.Controller.{Controller}
 use Rattle.frame.specs.Frame.{begun}
 use Rattle.polling.specs.History.{since}
 use Rattle.polling.specs.Moves.{Move, after, afterAll, running, begins, ahead, inRing}
-use Rattle.polling.specs.Turns.{turnFrame, TurnComes}
+use Rattle.polling.specs.Demand3.{turnFrame, TurnComes}
 use Rattle.polling.proofs.Does.{stays-on}
 use Rattle.polling.proofs.History.{poll-or-null}
 use Rattle.polling.proofs.Turns.{turn-comes}

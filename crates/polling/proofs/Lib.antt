@@ -6,5 +6,6 @@ pub mod ItsTurn
 pub mod Requests
 pub mod Handing
 pub mod OnTheBus
+pub mod Demand3
 pub mod Chain
 pub mod Beginning

@@ -55,7 +55,9 @@ use Rattle.delivery.proofs.Lines.{bav-kept}
 use Rattle.frame.specs.Frame.{pullsOf as framePulls}
 use Rattle.line.specs.Line.{wired}
 use Rattle.unit.specs.Unit.{pullsOf}
-use Rattle.polling.specs.Handing.{BusStarts, moveOf, callOf, movesOf, toldIn, PolledHands, HeldWhenPolled, HandedHeld}
+use Rattle.polling.specs.Beyond.{BusStarts}
+use Rattle.polling.specs.BusMoves.{moveOf, callOf, movesOf, toldIn}
+use Rattle.polling.specs.Demand3.{PolledHands, HeldWhenPolled, HandedHeld}
 use Rattle.polling.specs.History.{since}
 use Rattle.polling.specs.Moves.{Move, after, afterAll, running, told, eventOf}
 use Rattle.polling.proofs.Does.{held, Does, keeps, accepts, serves, frame-ends, clears, does, firstOf}
