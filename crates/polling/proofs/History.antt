@@ -24,8 +24,8 @@ use Rattle.ring.proofs.Laws.{live-ring, live-within, marked-length, out-in, joi
 use Rattle.turn.specs.Turn.{turnOf, ringBy, ringEnded, eventBy, eventOf as frameEvent}
 use Rattle.turn.specs.declared.Event.{Event}
 use Rattle.turn.specs.declared.Event.the-variants.{Nothing, Ended, Handed}
-use Rattle.polling.specs.Moves.{Move, after, afterAll, begins, ahead, inRing, isFor, eventOf}
-use Rattle.polling.specs.Beyond.{Marks, marksOf, Once}
+use Rattle.polling.specs.Moves.{Move, after, afterAll, inRing, isFor, eventOf}
+use Rattle.polling.specs.Beyond.{EveryTurn, Marks, marksOf, Once}
 use Rattle.polling.specs.Demand3.{Joins, PollNibbles, NullNibbles}
 use Rattle.polling.specs.History.{isHanded, isDone, settles, pending, pendingFrom, since, isPending}
 use Rattle.polling.proofs.Does.{isPoll, held, Unsettled, Onward, same-frame, no-more, Does, keeps, accepts, serves, frame-ends, clears, does, firstOf}
@@ -420,10 +420,8 @@ front-mark own p (e ∷ es) a i z = by (eqb (e .code) own) refl a
         λ k. record { code = eqb-true (e .code) own x k; marked = mark k }
     by false x y = let s : cond (eqb (e .code) own) 0 (suc (placeOf own es)) ≡ suc (placeOf own es) = ap (λ (t : Bool). cond t 0 (suc (placeOf own es))) x in absurd (omega arith)
 
--- The frame that begins then.
-pub poll-or-null : (own timeout : ℕ) (ms : List Move) (m : Move) → begins (since timeout ms) m ≡ true → inRing own (since timeout ms) ≡ true → ahead own (since timeout ms) ≡ 0
-    → after (since timeout ms) m .stage ≡ begun (cond (isPending own timeout ms) nullFrame (pollOf own))
-poll-or-null own timeout ms m b i z = by (does (since timeout ms) m)
+pub every-turn : EveryTurn
+every-turn own timeout ms m b i z = by (does (since timeout ms) m)
   where
     by : Does (since timeout ms) m → after (since timeout ms) m .stage ≡ begun (cond (isPending own timeout ms) nullFrame (pollOf own))
     by (keeps ring none-begins v u o) = absurd (true≢false (sym b ∙ none-begins))

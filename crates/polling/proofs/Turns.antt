@@ -3,7 +3,7 @@ use Prim.Native.Nat.{ℕ, zero, suc, _<_, _≤_}
 use native.Mathlib.Omega.{arith}
 use mathlib.Core.Path.{_≡_, refl, sym, ap, subst}
 use mathlib.Core.Bool.{Bool, true, false, cond, _&&_, _||_}
-use mathlib.Core.List.{List, [], _∷_, _++_}
+use mathlib.Core.List.{List, [], _∷_}
 use borrow.Author.Tests.{lt-ltb, ltb-true}
 use lib.Dec.{eqb}
 use lib.ListN.{length}
@@ -19,7 +19,8 @@ use Rattle.ring.specs.declared.Ring.{Ring}
 use Rattle.ring.proofs.Laws.{live-ring, live-below, marked-length}
 use Rattle.turn.specs.Turn.{ringBy}
 use Rattle.controller.specs.Controller.{service}
-use Rattle.polling.specs.Moves.{running, Move, after, afterAll, begins, services, ahead, inRing, isFor, Without, Spared, spared}
+use Rattle.polling.specs.Beyond.{Reaches, AnyController}
+use Rattle.polling.specs.Moves.{running, Move, after, begins, services, ahead, isFor, Without, Spared, spared}
 use Rattle.polling.proofs.Does.{Does, keeps, accepts, serves, frame-ends, clears, does}
 use Rattle.polling.proofs.Places.{Found, place-removed, place-marked, found-marked, place-joined, place-turned}
 
@@ -117,17 +118,6 @@ none-counted c m ms b = ap (λ (t : Bool). cond t (suc (services (after c m) ms)
 pub one-counted : (c : Controller) (m : Move) (ms : List Move) → begins c m ≡ true → services c (m ∷ ms) ≡ suc (services (after c m) ms)
 one-counted c m ms b = ap (λ (t : Bool). cond t (suc (services (after c m) ms)) (services (after c m) ms)) b
 
--- The call in which the unit's turn begins: its entry is in front, and fewer than n service frames have begun before.
-pub record Reaches (own n : ℕ) (c : Controller) (ms : List Move) : Type 0 where
-  pub front : List Move
-  pub call : Move
-  pub rest : List Move
-  pub split : ms ≡ front ++ (call ∷ rest)
-  pub fewer : services c front < n
-  pub begins-now : begins (afterAll c front) call ≡ true
-  pub in-ring : inRing own (afterAll c front) ≡ true
-  pub foremost : ahead own (afterAll c front) ≡ 0
-
 -- One call earlier.
 reaches-behind : {own n n′ : ℕ} {c : Controller} {m : Move} {ms : List Move} → ((front : List Move) → services (after c m) front < n′ → services c (m ∷ front) < n) → Reaches own n′ (after c m) ms → Reaches own n c (m ∷ ms)
 reaches-behind {m = m} counts x = record {
@@ -165,6 +155,5 @@ turn-by own n c (m ∷ ms) found (spared without s) h k = by n h k (placed own c
       foremost = z;
     }
 
--- For every controller, whatever it has been through, and every row of calls at any levels.
-pub turn-comes : (own : ℕ) (c : Controller) (ms : List Move) → inRing own c ≡ true → Spared own c ms → suc (ahead own c) ≤ services c ms → Reaches own (suc (ahead own c)) c ms
-turn-comes own c ms i s k = turn-by own (suc (ahead own c)) c ms (ltb-true (placeOf own (live (c .ring))) (length (live (c .ring))) i) s (omega arith) k
+pub any-controller : AnyController
+any-controller own c ms i s k = turn-by own (suc (ahead own c)) c ms (ltb-true (placeOf own (live (c .ring))) (length (live (c .ring))) i) s (omega arith) k

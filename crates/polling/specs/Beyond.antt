@@ -1,9 +1,9 @@
--- Beyond demand 3: the ring's marks are the history, no unit is in the ring twice, what the end of a poll tells at any levels, and that on
--- demand 2's bus a pull for a request is seen.
-use Prim.Native.Nat.{ℕ, _<_, _≤_}
+-- Beyond demand 3: the bound of any controller, every turn of a unit, the ring's marks, that no unit is in the ring twice, what the end of a
+-- poll tells at any levels, and that on demand 2's bus a pull for a request is seen.
+use Prim.Native.Nat.{ℕ, suc, _<_, _≤_}
 use mathlib.Core.Path.{_≡_}
 use mathlib.Core.Bool.{Bool, true, false, cond}
-use mathlib.Core.List.{List, [], _∷_}
+use mathlib.Core.List.{List, [], _∷_, _++_}
 use lib.Dec.{eqb}
 use lib.ListN.{length}
 use Rattle.bus.specs.declared.Station.{Station}
@@ -13,7 +13,7 @@ use Rattle.controller.specs.declared.Controller.{Controller}
 use Rattle.delivery.specs.Demand2.{QuietStart, Run}
 use Rattle.delivery.specs.Lists.{Has}
 use Rattle.delivery.specs.World.{World, Busy}
-use Rattle.frame.specs.Frame.{pollOf}
+use Rattle.frame.specs.Frame.{begun, pollOf}
 use Rattle.frame.specs.declared.End.the-variants.{Over}
 use Rattle.line.specs.declared.Lines.{Lines}
 use Rattle.message.specs.Answer.{gives}
@@ -21,8 +21,34 @@ use Rattle.ring.specs.Ring.{counted, live, isMarked}
 use Rattle.ring.specs.declared.Entry.{Entry}
 use Rattle.turn.specs.declared.Event.the-variants.{Nothing, Handed}
 use Rattle.polling.specs.BusMoves.{moveOf}
+use Rattle.polling.specs.Demand3.{turnFrame}
 use Rattle.polling.specs.History.{since, isPending}
-use Rattle.polling.specs.Moves.{Move, steps, begins, eventOf}
+use Rattle.polling.specs.Moves.{Move, steps, after, afterAll, begins, services, ahead, inRing, Spared, eventOf}
+
+-- One of these calls begins a service frame with the unit's entry in front, and fewer than n service frames have begun before.
+pub record Reaches (own n : ℕ) (c : Controller) (calls : List Move) : Type 0 where
+  pub front : List Move
+  pub call : Move
+  pub rest : List Move
+  pub split : calls ≡ front ++ (call ∷ rest)
+  pub fewer : services c front < n
+  pub begins-now : begins (afterAll c front) call ≡ true
+  pub in-ring : inRing own (afterAll c front) ≡ true
+  pub foremost : ahead own (afterAll c front) ≡ 0
+
+-- So it is for every controller, whatever it has been through.
+abbrev pub AnyController : Type 0
+AnyController = (own : ℕ) (c : Controller) (calls : List Move) → inRing own c ≡ true → Spared own c calls → suc (ahead own c) ≤ services c calls → Reaches own (suc (ahead own c)) c calls
+
+-- Every service frame that begins with the unit's entry in front is its poll or its null message.
+abbrev pub EveryTurn : Type 0
+EveryTurn =
+    (own timeout : ℕ) (ms : List Move) (m : Move)
+    → let c = since timeout ms in
+    begins c m ≡ true
+    → inRing own c ≡ true
+    → ahead own c ≡ 0
+    → after c m .stage ≡ begun (turnFrame own timeout ms)
 
 -- A mark says just that a request of the unit was handed over and is unacknowledged.
 abbrev pub Marks : Type 0
