@@ -18,16 +18,19 @@ isHanded own Nothing = false
 isHanded own (Ended status count) = false
 isHanded own (Handed code) = eqb code own
 
--- What settles it: the application acknowledges the unit's code; or a disable or close of the unit ends with 00, which removes it.
+-- A call tells of a submitted command that it ended with 00.
 abbrev pub isDone : Event → Bool
 isDone Nothing = false
 isDone (Ended status count) = eqb status 0x00
 isDone (Handed code) = false
 
+-- The frame that runs, if one does, is a disable or close of the unit.
 abbrev pub anyFor : ℕ → List Frame → Bool
 anyFor own [] = false
 anyFor own (f ∷ fs) = isFor own f
 
+-- What settles a request that was handed over: the application acknowledges the unit's code; or a disable or close of the unit ends with 00,
+-- which removes it.
 abbrev pub settles : ℕ → Controller → Move → Bool
 settles own c (steps seen busy lent response) = isDone (eventOf c (steps seen busy lent response)) && anyFor own (running (c .stage))
 settles own c (submits k n room) = false
