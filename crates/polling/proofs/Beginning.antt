@@ -34,7 +34,7 @@ use Rattle.turn.specs.declared.Event.{Event}
 use Rattle.unit.specs.Unit.{highStep, asks, quietAfter}
 use Rattle.unit.specs.declared.Unit.{Unit}
 use Rattle.polling.specs.Beginning.{BeginsWithin, in-this, in-a-later, Beginning}
-use Rattle.polling.specs.Handing.{moveOf}
+use Rattle.polling.specs.BusMoves.{moveOf}
 use Rattle.polling.specs.Moves.{begins}
 use Rattle.polling.proofs.Handing.{starts, free}
 use Rattle.polling.proofs.OnTheBus.{asking-low}

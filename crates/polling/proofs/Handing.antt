@@ -23,7 +23,8 @@ use Rattle.ring.specs.declared.Entry.{Entry}
 use Rattle.turn.specs.Turn.{turnOf, eventBy}
 use Rattle.turn.specs.declared.Event.{Event}
 use Rattle.turn.specs.declared.Event.the-variants.{Nothing, Ended, Handed}
-use Rattle.polling.specs.Handing.{Starts, PollEnds, HandsOnly}
+use Rattle.polling.specs.Beyond.{PollEnds}
+use Rattle.polling.specs.Demand3.{Starts, HandsOnly}
 use Rattle.polling.specs.History.{since}
 use Rattle.polling.specs.Moves.{Move, steps, after, afterAll, running, isBegun, told, eventOf}
 use Rattle.polling.proofs.Does.{isPoll, held, Onward, same-frame, no-more, Does, keeps, accepts, serves, frame-ends, clears, does}
@@ -66,15 +67,15 @@ turn-shape e = by (e .marked)
     by false = a-poll (e .code) refl
 
 onward-shape : {old new : Stage} → Onward old new → Shapes (held old) → Shapes (held new)
-onward-shape (same-frame e) s = subst Shapes (sym e) s
-onward-shape (no-more e) s = subst Shapes (sym e) tt
+onward-shape (same-frame e same) s = subst Shapes (sym e) s
+onward-shape (no-more none e) s = subst Shapes (sym e) tt
 
 shape-after : (c : Controller) (m : Move) → Shapes (held (c .stage)) → Shapes (held (after c m .stage))
 shape-after c m s = by (does c m)
   where
     by : Does c m → Shapes (held (after c m .stage))
     by (keeps ring b v u o) = onward-shape o s
-    by (accepts k n ring b v u out poll st) = subst (λ (x : Stage). Shapes (held x)) (sym st) (a-command refl poll)
+    by (accepts k n ring b v u out poll st resting) = subst (λ (x : Stage). Shapes (held x)) (sym st) (a-command refl poll)
     by (serves b v u some e) = subst (λ (x : Controller). Shapes (held (x .stage))) (sym e) (turn-shape (getD (live (c .ring)) 0 none))
     by (frame-ends f status count r g b v u ring z) = subst Shapes (sym z) tt
     by (clears code x marked b v u ring st) = subst (λ (y : Stage). Shapes (held y)) (sym st) s
@@ -120,7 +121,7 @@ hands-only timeout ms m code e = by (does (since timeout ms) m)
 
     by : Does (since timeout ms) m → running (since timeout ms .stage) ≡ pollOf code ∷ []
     by (keeps ring b v u o) = nothing v
-    by (accepts k n ring b v u out poll st) = nothing v
+    by (accepts k n ring b v u out poll st resting) = nothing v
     by (serves b v u some x) = nothing v
     by (clears k x marked b v u ring st) = nothing v
     by (frame-ends f status count r g b v u ring z) =

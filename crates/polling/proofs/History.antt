@@ -25,8 +25,10 @@ use Rattle.turn.specs.Turn.{turnOf, ringBy, ringEnded, eventBy, eventOf as fram
 use Rattle.turn.specs.declared.Event.{Event}
 use Rattle.turn.specs.declared.Event.the-variants.{Nothing, Ended, Handed}
 use Rattle.polling.specs.Moves.{Move, after, afterAll, inRing, isFor, eventOf}
-use Rattle.polling.specs.History.{isHanded, isDone, settles, pending, pendingFrom, since, isPending, Marks, PollOrNull, PollNibbles, NullNibbles, marksOf, Once, Joins}
-use Rattle.polling.proofs.Does.{isPoll, held, Onward, same-frame, no-more, Does, keeps, accepts, serves, frame-ends, clears, does}
+use Rattle.polling.specs.Beyond.{EveryTurn, Marks, marksOf, Once}
+use Rattle.polling.specs.Demand3.{Joins, PollNibbles, NullNibbles}
+use Rattle.polling.specs.History.{isHanded, isDone, settles, pending, pendingFrom, since, isPending}
+use Rattle.polling.proofs.Does.{isPoll, held, Unsettled, Onward, same-frame, no-more, Does, keeps, accepts, serves, frame-ends, clears, does, firstOf}
 use Rattle.polling.proofs.Turns.{short-joined, short-removed, short-marked, short-turned}
 
 -- Marks of a unit's entries, behind each thing that can be done to the ring.
@@ -247,13 +249,19 @@ module _ (own : ℕ) where
   aboards-as l k [] e n a = tt
   aboards-as l k (f ∷ fs) e n a = aboard-as e n a
 
-  -- A call that hands nothing over and settles nothing.
-  same-history : (p : Bool) (c : Controller) (m : Move) → eventOf c m ≡ Nothing → settles own c m ≡ false → pending own p c m ≡ p
-  same-history p c m e u = ap (λ (x : Event). cond (isHanded own x) true (cond (settles own c m) false p)) e ∙ ap (λ (t : Bool). cond t false p) u
+  -- A call that hands nothing over, and settles nothing of a unit with a mark.
+  same-history : (p : Bool) (c : Controller) (m : Move) → eventOf c m ≡ Nothing → Unsettled c m → Agrees p (live (c .ring)) → pending own p c m ≡ p
+  same-history p c m e u a = ap (λ (x : Event). cond (isHanded own x) true (cond (settles own c m) false p)) e ∙ by p (agrees-mark a) (settles own c m) refl
+    where
+      by : (q : Bool) → isMarked own (live (c .ring)) ≡ q → (t : Bool) → settles own c m ≡ t → cond t false q ≡ q
+      by true g true x = absurd (true≢false (sym x ∙ u own g))
+      by true g false x = refl
+      by false g true x = refl
+      by false g false x = refl
 
   onward-aboard : (l : List Entry) {old new : Stage} → Onward old new → Aboards l (held old) → Aboards l (held new)
-  onward-aboard l (same-frame e) a = subst (Aboards l) (sym e) a
-  onward-aboard l (no-more e) a = subst (Aboards l) (sym e) tt
+  onward-aboard l (same-frame e same) a = subst (Aboards l) (sym e) a
+  onward-aboard l (no-more none e) a = subst (Aboards l) (sym e) tt
 
   -- A turn's frame.
   turn-aboard : (l : List Entry) (e : Entry) (es : List Entry) → l ≡ e ∷ es → length (marksOf own l) ≤ 1 → Aboard (turned l) (turnOf e)
@@ -314,12 +322,12 @@ module _ (own : ℕ) where
 
       by : Does c m → Ok (pending own p c m) (after c m)
       by (keeps ring b v u o) = record {
-        agrees = as-was (same-history p c m v (u own)) (entries ring) (ok .agrees);
+        agrees = as-was (same-history p c m v u (ok .agrees)) (entries ring) (ok .agrees);
         aboard = onward-aboard (live (after c m .ring)) o (subst (λ (l : List Entry). Aboards l (held (c .stage))) (sym (entries ring)) (ok .aboard));
         full = subst Full (sym ring) (ok .full);
       }
-      by (accepts k n ring b v u out poll st) = record {
-        agrees = as-was (same-history p c m v (u own)) (entries ring) (ok .agrees);
+      by (accepts k n ring b v u out poll st resting) = record {
+        agrees = as-was (same-history p c m v u (ok .agrees)) (entries ring) (ok .agrees);
         aboard = subst (λ (s : Stage). Aboards (live (after c m .ring)) (held s)) (sym st) (subst (λ (l : List Entry). Aboard l (submittedFrame k n)) (sym (entries ring)) (record { polls = λ x y. absurd (false≢true x); enables = λ x y z w. room k y z w out }));
         full = subst Full (sym ring) (ok .full);
       }
@@ -342,7 +350,7 @@ module _ (own : ℕ) where
           serving (x ∷ xs) q h =
               let f : after c m .stage ≡ begun (turnOf x) = ap (λ (y : Controller). y .stage) e ∙ ap (λ (l : List Entry). begun (turnOf (getD l 0 none))) q in
               record {
-                agrees = subst (λ (y : Ring). Agrees (pending own p c m) (live y)) (sym ring) (as-was (same-history p c m v (u own)) refl (turn-agrees p (c .ring) (ok .agrees)));
+                agrees = subst (λ (y : Ring). Agrees (pending own p c m) (live y)) (sym ring) (as-was (same-history p c m v u (ok .agrees)) refl (turn-agrees p (c .ring) (ok .agrees)));
                 aboard = subst (λ (s : Stage). Aboards (live (after c m .ring)) (held s)) (sym f)
                     (subst (λ (y : Ring). Aboard (live y) (turnOf x)) (sym ring) (subst (λ (l : List Entry). Aboard l (turnOf x)) (sym (live-ring (turned (live (c .ring))) (short-turned (c .ring)))) (turn-aboard (live (c .ring)) x xs q (agrees-once (ok .agrees)))));
                 full = subst Full (sym ring) (full-made (turned (live (c .ring))) (short-turned (c .ring)));
@@ -412,12 +420,12 @@ front-mark own p (e ∷ es) a i z = by (eqb (e .code) own) refl a
         λ k. record { code = eqb-true (e .code) own x k; marked = mark k }
     by false x y = let s : cond (eqb (e .code) own) 0 (suc (placeOf own es)) ≡ suc (placeOf own es) = ap (λ (t : Bool). cond t 0 (suc (placeOf own es))) x in absurd (omega arith)
 
-pub poll-or-null : PollOrNull
-poll-or-null own timeout ms m b i z = by (does (since timeout ms) m)
+pub every-turn : EveryTurn
+every-turn own timeout ms m b i z = by (does (since timeout ms) m)
   where
     by : Does (since timeout ms) m → after (since timeout ms) m .stage ≡ begun (cond (isPending own timeout ms) nullFrame (pollOf own))
     by (keeps ring none-begins v u o) = absurd (true≢false (sym b ∙ none-begins))
-    by (accepts k n ring none-begins v u out poll st) = absurd (true≢false (sym b ∙ none-begins))
+    by (accepts k n ring none-begins v u out poll st resting) = absurd (true≢false (sym b ∙ none-begins))
     by (serves x v u some e) = ap (λ (x : Controller). x .stage) e ∙ ap (λ (x : Entry). begun (turnOf x)) (front-mark own (isPending own timeout ms) (live (since timeout ms .ring)) (ok-since own timeout ms .agrees) i z)
     by (frame-ends f status count r g none-begins v u ring e) = absurd (true≢false (sym b ∙ none-begins))
     by (clears code x marked none-begins v u ring st) = absurd (true≢false (sym b ∙ none-begins))
@@ -448,10 +456,6 @@ statusIn Nothing = 1
 statusIn (Ended status count) = status
 statusIn (Handed code) = 1
 
-abbrev firstOf : Frame → List Frame → Frame
-firstOf g [] = g
-firstOf g (f ∷ fs) = f
-
 pub joins-ring : Joins
 joins-ring own timeout ms m f count nonzero run (kind, (command, device)) told = by (does (since timeout ms) m)
   where
@@ -463,7 +467,7 @@ joins-ring own timeout ms m f count nonzero run (kind, (command, device)) told =
 
     by : Does (since timeout ms) m → inRing own (after (since timeout ms) m) ≡ true
     by (keeps ring none-begins v u o) = nothing v
-    by (accepts k n ring none-begins v u out poll st) = nothing v
+    by (accepts k n ring none-begins v u out poll st resting) = nothing v
     by (serves x v u some e) = nothing v
     by (clears code x marked none-begins v u ring st) = nothing v
     by (frame-ends g status n r h none-begins v u ring z) =

@@ -2,8 +2,10 @@ pub mod Places
 pub mod Does
 pub mod Turns
 pub mod History
+pub mod ItsTurn
 pub mod Requests
 pub mod Handing
 pub mod OnTheBus
+pub mod Demand3
 pub mod Chain
 pub mod Beginning

@@ -55,10 +55,12 @@ use Rattle.delivery.proofs.Lines.{bav-kept}
 use Rattle.frame.specs.Frame.{pullsOf as framePulls}
 use Rattle.line.specs.Line.{wired}
 use Rattle.unit.specs.Unit.{pullsOf}
-use Rattle.polling.specs.Handing.{BusStarts, moveOf, callOf, movesOf, toldIn, PolledHands, HeldWhenPolled, HandedHeld}
+use Rattle.polling.specs.Beyond.{BusStarts}
+use Rattle.polling.specs.BusMoves.{moveOf, callOf, movesOf, toldIn}
+use Rattle.polling.specs.Demand3.{PolledHands, HeldWhenPolled, HandedHeld}
 use Rattle.polling.specs.History.{since}
 use Rattle.polling.specs.Moves.{Move, after, afterAll, running, told, eventOf}
-use Rattle.polling.proofs.Does.{held, Does, keeps, accepts, serves, frame-ends, clears, does}
+use Rattle.polling.proofs.Does.{held, Does, keeps, accepts, serves, frame-ends, clears, does, firstOf}
 use Rattle.polling.proofs.Handing.{starts, hands-by, hands-only, isHand}
 
 -- The controller of a run is one that was made, after its own calls.
@@ -154,10 +156,6 @@ frame-told w v q r busy i x m =
 pub addressed-own : (c : Command) (own : ℕ) → (c .device ≡ 0 → ⊥) → addressed c own ≡ true → own ≡ c .device
 addressed-own c own nonzero e = sym (eqb-true (c .device) own (or-left (eqb (c .device) own) (eqb (c .device) 0) (ne-eqb (c .device) 0 nonzero) e))
 
-abbrev frameOf1 : Frame → List Frame → Frame
-frameOf1 g [] = g
-frameOf1 g (f ∷ fs) = f
-
 -- The frame that runs on a run.
 pub data RunsOne (T : Moment) (v : World) (f : Frame) : Type 0 where
   runs-one : (found : List ℕ) → InFrame T f found v → RunsOne T v f
@@ -186,7 +184,7 @@ pub runs-it : {T : Moment} {v : World} (f : Frame) → On T v → running (v .co
 runs-it f (rests r eight codes d a) e = absurd (false≢true (ap isFrame (sym (rest-running r) ∙ e)))
 runs-it f (submitted g framed codes d a) e = absurd (false≢true (ap isFrame e))
 runs-it f (ended eight codes d a) e = absurd (false≢true (ap isFrame e))
-runs-it {T} {v} f (runs g found x codes) e = runs-one found (subst (λ (h : Frame). InFrame T h found v) (ap (frameOf1 g) (sym (frame-running x) ∙ e)) x)
+runs-it {T} {v} f (runs g found x codes) e = runs-one found (subst (λ (h : Frame). InFrame T h found v) (ap (firstOf g) (sym (frame-running x) ∙ e)) x)
 
 -- A response that arrived whole, of the poll of a code.
 pub record Said {w v : World} (r : Run w v) (busy : Busy) (own : ℕ) : Type 0 where
@@ -270,7 +268,7 @@ handed-ends c m code e = by (does c m)
 
     by : Does c m → held (after c m .stage) ≡ []
     by (keeps ring b v u o) = nothing v
-    by (accepts k n ring b v u out poll st) = nothing v
+    by (accepts k n ring b v u out poll st resting) = nothing v
     by (serves b v u some x) = nothing v
     by (clears k x marked b v u ring st) = nothing v
     by (frame-ends f status count r g b v u ring z) = z

@@ -33,7 +33,8 @@ use Rattle.serial.specs.Serial.{withInput, withRequest}
 use Rattle.serial.specs.declared.Serial.{Serial}
 use Rattle.unit.specs.Unit.{newUnit, lowStep, highStep, asks, quietAfter}
 use Rattle.unit.specs.declared.Unit.{Unit}
-use Rattle.polling.specs.Requests.{UnitMove, steps, feeds, takes, raises, moved, movedAll, by-a-command, by-its-answer, Stands, stands, ends, Raised, RequestStands, isSeen, rowAfter, rowOf, unitSince, PullsBav, HoldsBav, PullsForIt, Fills, fills, PullsNotBefore}
+use Rattle.polling.specs.Demand3.{Raised, RequestStands, PullsBav, HoldsBav, PullsForIt, PullsNotBefore}
+use Rattle.polling.specs.UnitMoves.{UnitMove, steps, feeds, takes, raises, moved, movedAll, by-a-command, by-its-answer, Stands, stands, ends, isSeen, rowAfter, rowOf, unitSince, Fills, fills}
 
 pub raised : Raised
 raised u e = rw e

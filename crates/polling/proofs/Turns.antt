@@ -19,8 +19,8 @@ use Rattle.ring.specs.declared.Ring.{Ring}
 use Rattle.ring.proofs.Laws.{live-ring, live-below, marked-length}
 use Rattle.turn.specs.Turn.{ringBy}
 use Rattle.controller.specs.Controller.{service}
+use Rattle.polling.specs.Beyond.{Reaches, AnyController}
 use Rattle.polling.specs.Moves.{running, Move, after, begins, services, ahead, isFor, Without, Spared, spared}
-use Rattle.polling.specs.Turns.{Turn, its-turn, another's, no-frame, TurnComes}
 use Rattle.polling.proofs.Does.{Does, keeps, accepts, serves, frame-ends, clears, does}
 use Rattle.polling.proofs.Places.{Found, place-removed, place-marked, found-marked, place-joined, place-turned}
 
@@ -106,7 +106,7 @@ placed own c m found without = by (does c m)
 
     by : Does c m → Placed own c m
     by (keeps ring b v u o) = waits b (nearer-as own (c .ring) ring (stays own (c .ring) found))
-    by (accepts cmd l ring b v u out poll st) = waits b (nearer-as own (c .ring) ring (stays own (c .ring) found))
+    by (accepts cmd l ring b v u out poll st resting) = waits b (nearer-as own (c .ring) ring (stays own (c .ring) found))
     by (frame-ends f status count r g b v u ring z) = waits b (nearer-as own (c .ring) ring (by-status own (c .ring) found (eqb status 0x00) f (subst (Without own) r without)))
     by (clears code e x b v u ring st) = waits b (nearer-as own (c .ring) ring (marked own (c .ring) found false code))
     by (serves b v u some e) = serving b e (ahead own c) refl
@@ -118,17 +118,42 @@ none-counted c m ms b = ap (λ (t : Bool). cond t (suc (services (after c m) ms)
 pub one-counted : (c : Controller) (m : Move) (ms : List Move) → begins c m ≡ true → services c (m ∷ ms) ≡ suc (services (after c m) ms)
 one-counted c m ms b = ap (λ (t : Bool). cond t (suc (services (after c m) ms)) (services (after c m) ms)) b
 
-turn-by : (own n : ℕ) (c : Controller) (ms : List Move) → Found own (live (c .ring)) → Spared own c ms → ahead own c < n → n ≤ services c ms → Turn own n c ms
+-- One call earlier.
+reaches-behind : {own n n′ : ℕ} {c : Controller} {m : Move} {ms : List Move} → ((front : List Move) → services (after c m) front < n′ → services c (m ∷ front) < n) → Reaches own n′ (after c m) ms → Reaches own n c (m ∷ ms)
+reaches-behind {m = m} counts x = record {
+  front = m ∷ x .front;
+  call = x .call;
+  rest = x .rest;
+  split = ap (λ (l : List Move). m ∷ l) (x .split);
+  fewer = counts (x .front) (x .fewer);
+  begins-now = x .begins-now;
+  in-ring = x .in-ring;
+  foremost = x .foremost;
+}
+
+turn-by : (own n : ℕ) (c : Controller) (ms : List Move) → Found own (live (c .ring)) → Spared own c ms → ahead own c < n → n ≤ services c ms → Reaches own n c ms
 turn-by own n c [] found s h k = absurd (omega arith)
 turn-by own n c (m ∷ ms) found (spared without s) h k = by n h k (placed own c m found without) (λ n′ f h′ k′. turn-by own n′ (after c m) ms f s h′ k′)
   where
     by : (n : ℕ) → ahead own c < n → n ≤ services c (m ∷ ms) → Placed own c m
-        → ((n′ : ℕ) → Found own (live (after c m .ring)) → ahead own (after c m) < n′ → n′ ≤ services (after c m) ms → Turn own n′ (after c m) ms) → Turn own n c (m ∷ ms)
-    by n h k (no-service b near f) go = let same = none-counted c m ms b in no-frame b (go n f (omega arith) (omega arith))
+        → ((n′ : ℕ) → Found own (live (after c m .ring)) → ahead own (after c m) < n′ → n′ ≤ services (after c m) ms → Reaches own n′ (after c m) ms) → Reaches own n c (m ∷ ms)
+    by n h k (no-service b near f) go =
+        let same = none-counted c m ms b in
+        reaches-behind (λ front less. (let e = none-counted c m front b in omega arith)) (go n f (omega arith) (omega arith))
     by zero h k (one-nearer p b z q f) go = absurd (omega arith)
-    by (suc n) h k (one-nearer p b z q f) go = let more = one-counted c m ms b in another's b (go n f (omega arith) (omega arith))
-    by zero h k (in-front b z e) go = absurd (omega arith)
-    by (suc n) h k (in-front b z e) go = its-turn b (lt-ltb (placeOf own (live (c .ring))) (length (live (c .ring))) found) z
+    by (suc n) h k (one-nearer p b z q f) go =
+        let more = one-counted c m ms b in
+        reaches-behind (λ front less. (let e = one-counted c m front b in omega arith)) (go n f (omega arith) (omega arith))
+    by n h k (in-front b z e) go = record {
+      front = [];
+      call = m;
+      rest = ms;
+      split = refl;
+      fewer = omega arith;
+      begins-now = b;
+      in-ring = lt-ltb (placeOf own (live (c .ring))) (length (live (c .ring))) found;
+      foremost = z;
+    }
 
-pub turn-comes : TurnComes
-turn-comes own c ms i s k = turn-by own (suc (ahead own c)) c ms (ltb-true (placeOf own (live (c .ring))) (length (live (c .ring))) i) s (omega arith) k
+pub any-controller : AnyController
+any-controller own c ms i s k = turn-by own (suc (ahead own c)) c ms (ltb-true (placeOf own (live (c .ring))) (length (live (c .ring))) i) s (omega arith) k

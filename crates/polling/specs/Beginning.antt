@@ -11,7 +11,7 @@ use Rattle.delivery.specs.Lists.{Has}
 use Rattle.delivery.specs.World.{World, Busy, round}
 use Rattle.inside.specs.Inside.{insideOf, hasRequest}
 use Rattle.ring.specs.Ring.{counted}
-use Rattle.polling.specs.Handing.{moveOf}
+use Rattle.polling.specs.BusMoves.{moveOf}
 use Rattle.polling.specs.Moves.{begins}
 
 -- In one of the next n rounds, whoever is busy in them and whatever hosts and application call between them, unless a submission is

@@ -1,7 +1,8 @@
 pub mod Moves
-pub mod Turns
 pub mod History
-pub mod Requests
-pub mod Handing
+pub mod UnitMoves
+pub mod BusMoves
+pub mod Demand3
+pub mod Beyond
 pub mod Chain
 pub mod Beginning

@@ -15,6 +15,7 @@ use Rattle.header.specs.declared.Command.{Command}
 use Rattle.line.specs.declared.Lines.{Lines}
 use Rattle.message.specs.Answer.{Answer, gives, refused}
 use Rattle.ring.specs.Ring.{live, placeOf, isIn}
+use Rattle.turn.specs.Turn.{eventOf as eventAtEnd}
 use Rattle.turn.specs.declared.Event.{Event}
 use Rattle.turn.specs.declared.Event.the-variants.{Nothing}
 
@@ -83,3 +84,11 @@ abbrev pub eventOf : Controller → Move → Event
 eventOf c (steps seen busy lent response) = told (stepping c seen busy lent response)
 eventOf c (submits k n room) = Nothing
 eventOf c (acknowledges code) = Nothing
+
+-- In these calls the frame that runs stays this one until it ends: then the application is told what its end tells, and no frame runs.
+pub data Stays (f : Frame) : Controller → List Move → Type 0 where
+  runs : {c : Controller} → running (c .stage) ≡ f ∷ [] → Stays f c []
+  goes-on : {c : Controller} {m : Move} {ms : List Move} → running (c .stage) ≡ f ∷ [] → Stays f (after c m) ms → Stays f c (m ∷ ms)
+  ends :
+      {c : Controller} {m : Move} {ms : List Move} (status count : ℕ) → running (c .stage) ≡ f ∷ [] → eventOf c m ≡ eventAtEnd f status count → running (after c m .stage) ≡ []
+      → Stays f c (m ∷ ms)

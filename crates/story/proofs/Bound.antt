@@ -18,7 +18,7 @@ use Rattle.frame.specs.declared.Frame.{Frame}
 use Rattle.polling.specs.Chain.{it-has, later, Harmless, Calm}
 use Rattle.story.specs.Bound.{opens, enables, firstIn, raised, Reached, Met}
 use Rattle.polling.specs.Moves.{running, begins, services, isFor}
-use Rattle.polling.specs.Handing.{moveOf, movesOf}
+use Rattle.polling.specs.BusMoves.{moveOf, movesOf}
 use Rattle.polling.proofs.Chain.{services-then}
 use Rattle.polling.proofs.Turns.{none-counted, one-counted}
 

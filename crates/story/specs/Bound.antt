@@ -19,7 +19,7 @@ use Rattle.frame.specs.Frame.{pollOf}
 use Rattle.frame.specs.declared.Frame.{Frame}
 use Rattle.turn.specs.declared.Event.{Event}
 use Rattle.turn.specs.declared.Event.the-variants.{Nothing, Ended, Handed}
-use Rattle.polling.specs.Handing.{moveOf, movesOf, toldIn}
+use Rattle.polling.specs.BusMoves.{moveOf, movesOf, toldIn}
 use Rattle.polling.specs.Moves.{running, begins, services, ahead, inRing}
 
 -- Both are opened and enabled; then the second raises.

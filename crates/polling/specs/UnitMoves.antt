@@ -1,7 +1,7 @@
--- Demand 3, the request: "a raised request is held, and pulls BAV, as document 01 says", at any line levels.
+-- A unit's own calls: steps at any levels, refused or not, and those of its host.
 use Prim.Native.Nat.{ℕ, suc}
 use mathlib.Core.Path.{_≡_}
-use mathlib.Core.Bool.{Bool, true, false, cond, not}
+use mathlib.Core.Bool.{Bool, true, false, cond}
 use mathlib.Core.List.{List, [], _∷_}
 use lib.Dec.{ltb, leb}
 use lib.ListN.{length}
@@ -19,7 +19,6 @@ use Rattle.unit.specs.Calls.{stepping}
 use Rattle.unit.specs.Unit.{newUnit}
 use Rattle.unit.specs.declared.Unit.{Unit}
 
--- A unit's own calls: steps at any levels, refused or not, and those of its host.
 pub data UnitMove : Type 0 where
   steps : (seen : Lines) (busy : Bool) (buffer input : List ℕ) → UnitMove
   feeds : (b : ℕ) → UnitMove
@@ -49,16 +48,10 @@ pub data Ends (u : Unit) : UnitMove → Type 0 where
       {seen : Lines} {busy : Bool} {buffer input : List ℕ} (r : Reply) → isSeen (u .own) seen buffer ≡ true → seen .bav ≡ true → SendsLast (u .phase) (u .serial .input) seen r
       → clears r ≡ true → Ends u (steps seen busy buffer input)
 
+-- It ends a request, or the request stands.
 pub data Stands (u : Unit) (m : UnitMove) : Type 0 where
   stands : moved u m .serial .requesting ≡ true → Stands u m
   ends : Ends u m → Stands u m
-
--- A raise leaves a request, and it stands until then.
-abbrev pub Raised : Type 0
-Raised = (u : Unit) → u .serial .enabled ≡ true → moved u raises .serial .requesting ≡ true
-
-abbrev pub RequestStands : Type 0
-RequestStands = (u : Unit) (m : UnitMove) → u .serial .requesting ≡ true → Stands u m
 
 -- For how many rounds in a row the unit with this code has seen BAV high, at the end of these calls.
 abbrev pub rowAfter : ℕ → ℕ → UnitMove → ℕ
@@ -75,43 +68,6 @@ rowOf own row (m ∷ ms) = rowOf own (rowAfter own row m) ms
 abbrev pub unitSince : ℕ → ℕ → List UnitMove → Unit
 unitSince own retry ms = movedAll (newUnit own retry) ms
 
--- An enabled unit that holds a request and sees BAV high, so that it is idle, pulls BAV just when it has been high for the retry count of
--- rounds in a row, the present one included, counted with or without a request.
-abbrev pub PullsBav : Type 0
-PullsBav =
-    (own retry : ℕ) (ms : List UnitMove) (seen : Lines) (busy : Bool) (buffer input : List ℕ)
-    → let u = unitSince own retry ms in
-    isSeen own seen buffer ≡ true
-    → seen .bav ≡ false
-    → u .asking ≡ false
-    → u .serial .enabled ≡ true
-    → u .serial .requesting ≡ true
-    → moved u (steps seen busy buffer input) .asking ≡ leb retry (suc (rowOf own 0 ms))
-
--- It releases it at the first HSK low it sees in a later round.
-abbrev pub HoldsBav : Type 0
-HoldsBav =
-    (u : Unit) (seen : Lines) (busy : Bool) (buffer input : List ℕ)
-    → isSeen (u .own) seen buffer ≡ true
-    → u .asking ≡ true
-    → moved u (steps seen busy buffer input) .asking ≡ not (seen .hsk)
-
--- It pulls BAV for a request alone, and only while it is enabled;
-abbrev pub PullsForIt : Type 0
-PullsForIt =
-    (own retry : ℕ) (ms : List UnitMove)
-    → let u = unitSince own retry ms in
-    u .asking ≡ true
-    → (u .serial .enabled ≡ true) × (u .serial .requesting ≡ true)
-
--- and it begins to in no other call than a step that sees BAV high and fills its row.
+-- A step that sees BAV high and fills the row, so that the retry count is reached, the present round included.
 pub data Fills (own retry row : ℕ) : UnitMove → Type 0 where
   fills : {seen : Lines} {busy : Bool} {buffer input : List ℕ} → isSeen own seen buffer ≡ true → seen .bav ≡ false → leb retry (suc row) ≡ true → Fills own retry row (steps seen busy buffer input)
-
-abbrev pub PullsNotBefore : Type 0
-PullsNotBefore =
-    (own retry : ℕ) (ms : List UnitMove) (m : UnitMove)
-    → let u = unitSince own retry ms in
-    u .asking ≡ false
-    → moved u m .asking ≡ true
-    → Fills own retry (rowOf own 0 ms) m
