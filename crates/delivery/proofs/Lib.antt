@@ -22,3 +22,4 @@ pub mod Logs
 pub mod Story
 pub mod Completed
 pub mod Listened
+pub mod Waited
