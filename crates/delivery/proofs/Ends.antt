@@ -1,5 +1,5 @@
 -- No round of a frame takes its end further away, and each free one brings it nearer.
-use Prim.Native.Nat.{ℕ, _+_, _/_, _<_, _≤_}
+use Prim.Native.Nat.{ℕ, _+_, _/_, _<_}
 use native.Mathlib.Omega.{arith}
 use mathlib.Core.Path.{_≡_, refl, sym, _∙_, ap}
 use mathlib.Core.Bool.{Bool, true, false, cond, not, _&&_, false≢true}
@@ -20,21 +20,17 @@ use Rattle.reply.specs.Reply.{isSilent}
 use Rattle.serial.specs.declared.Reply.{Reply}
 use Rattle.unit.specs.Unit.{pullsHsk}
 use Rattle.whole.specs.Whole.{bytesFor}
-use Rattle.delivery.specs.Ends.{unitsFree}
+use Rattle.delivery.specs.Ends.{Falls, unitsFree}
 use Rattle.delivery.specs.Heard.{Fits, f-holds, f-waits}
 use Rattle.delivery.specs.Lists.{All, none, also}
 use Rattle.delivery.specs.Stages.{Part, listens, answers, sits}
 use Rattle.delivery.proofs.Heard.{Waits, waits, heard-waits}
 use Rattle.delivery.proofs.Part.{Stepped, heard-hsk}
 
--- What `Nearer` says, of numbers.
-abbrev pub Falls : Bool → ℕ → ℕ → Type 0
-Falls free now before = (now ≤ before) × (free ≡ true → now < before)
-
 pub falls : {free : Bool} {now before : ℕ} → now < before → Falls free now before
 falls l = (omega arith, λ e. l)
 
--- So too if it falls where less is asked of the round.
+-- So too where more is asked of the round.
 pub falls-by : {free wide : Bool} {now before : ℕ} → (free ≡ true → wide ≡ true) → Falls wide now before → Falls free now before
 falls-by f l = (l .0, λ e. l .1 (f e))
 

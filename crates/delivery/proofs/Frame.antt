@@ -45,14 +45,14 @@ use Rattle.unit.specs.Unit.{pullsHsk, pullsNibble, lowStep, highStep}
 use Rattle.whole.specs.Whole.{bytesFor}
 use Rattle.whole.proofs.Whole.{length-bytes}
 use Rattle.delivery.specs.Stages.{isResponding, Speaking, Hushed, not-its-own, by-the-rule, addressed, answers, sits, Framed, Fresh, Goes, InFrame, Noted, Part, Sends, Sits, Sound, Spoke, Talk, answered, begins, hears, idles, listens, movedIn, on, s-next, selects, sends, unanswered, waits, world, talks, s-placed, s-kept}
-use Rattle.delivery.specs.Ends.{place, phaseLeft, unitsLeft, unitsFree, isFree, listening, left}
+use Rattle.delivery.specs.Ends.{place, phaseLeft, unitsLeft, controllerFree, unitsFree, isFree, listening, left, Falls}
 use Rattle.delivery.specs.Heard.{f-next, Heard, h-none, h-first, h-byte, h-half}
 use Rattle.delivery.specs.Lists.{All, One, none, also, this, that}
 use Rattle.delivery.specs.Promised.{Moment, Promised}
 use Rattle.delivery.specs.World.{World, Busy, levels, round, Becomes, in-front, behind, Different, nobody, another}
 use Rattle.delivery.proofs.Lines.{hsk-high, bav-kept, nibble-kept}
 use Rattle.delivery.proofs.Lists.{all-map, all-step}
-use Rattle.delivery.proofs.Ends.{Falls, falls, falls-by, and-left, and-right, free-step, part-lets-go}
+use Rattle.delivery.proofs.Ends.{falls, falls-by, and-left, and-right, free-step, part-lets-go}
 use Rattle.delivery.proofs.Talk.{talkLeft, talk-left, place-kept, place-some, place-most}
 use Rattle.reply.specs.Reply.{isSilent, lastNibble as lastOf}
 use Rattle.delivery.proofs.Promise.{last-is as last-of, answer-fits}
@@ -280,7 +280,7 @@ module _ (T : Moment) (f : Frame) (found : List ℕ) (timeout : ℕ) (ring : Rin
     all-let-go m e free =
         hsk-high (sending (Kept m)) refl
         (free-step seen (λ st host x p. part-lets-go (low-step st seen host small (p .1 .room) (bav-kept (sending sender) units refl)) x (subst (λ (k : Sender). Part (Promised T (st .unit .own) c d) c d i k st) e (p .0)))
-        (busy .there) (and-right (not (senderHsk sender && busy .here)) (unitsFree (busy .there) units) free) a)
+        (busy .there) (and-right (controllerFree (Sending f i sender false) (busy .here)) (unitsFree (busy .there) units) free) a)
 
     send-falls : sentOf sender (seen .hsk) ≡ false
         → Falls (isFree w busy) (4 * (lastNibble f - i) + place (sendOf sender (seen .hsk) (nibbleIn (bytesFor c d) i)) (levelsWith (sending (sendOf sender (seen .hsk) (nibbleIn (bytesFor c d) i))) (unitsAfter seen (busy .there) units) .hsk) + 0 + listening f timeout)
@@ -338,7 +338,7 @@ module _ (T : Moment) (f : Frame) (found : List ℕ) (timeout : ℕ) (ring : Rin
 
     hear-by : Heard′ T f d found (movedIn v busy) (listeningBuffer f ear taken (levels v) response) (not (listenerHsk ear && busy .here)) (unitsLeft units (levels v .hsk) (timeout - quiet)) units (unitsAfter (levels v) (busy .there) units) → Goes T f found v busy
     hear-by (goes-on ear′ taken′ quiet′ e o′) =
-        go-on (after (Listening f ear taken quiet) (Listening f ear′ taken′ quiet′) response (listeningBuffer f ear taken (levels v) response) heard-small as-lent refl e refl) refl (hears ear′ taken′ quiet′ framed (different-kept (levels v) (busy .there) different) (heard-length f ear taken (levels v) response ∙ long) (plain-one o′)) (still-speaks (levels v) (busy .there) (λ st p. talk-responds (p .0)) (λ st host p. sits-step (levels v) (bav-kept (hearing ear) units refl) heard-small st host p) o (plain-one o′)) (falls-by (and-left (not (listenerHsk ear && busy .here)) (unitsFree (busy .there) units)) (one-known (λ (x : ℕ). Falls (not (listenerHsk ear && busy .here)) x (left v)) (timeout - quiet′) o′))
+        go-on (after (Listening f ear taken quiet) (Listening f ear′ taken′ quiet′) response (listeningBuffer f ear taken (levels v) response) heard-small as-lent refl e refl) refl (hears ear′ taken′ quiet′ framed (different-kept (levels v) (busy .there) different) (heard-length f ear taken (levels v) response ∙ long) (plain-one o′)) (still-speaks (levels v) (busy .there) (λ st p. talk-responds (p .0)) (λ st host p. sits-step (levels v) (bav-kept (hearing ear) units refl) heard-small st host p) o (plain-one o′)) (falls-by (and-left (controllerFree (Listening f ear taken quiet) (busy .here)) (unitsFree (busy .there) units)) (one-known (λ (x : ℕ). Falls (not (listenerHsk ear && busy .here)) x (left v)) (timeout - quiet′) o′))
     hear-by (comes-to-its-end o′) =
         let b : round v busy .response ≡ listeningBuffer f ear taken (levels v) response = control-buffer (v .controller) (levels v) (busy .here) lent response heard-small as-lent in
         answered (control (v .controller) (levels v) (busy .here) lent response heard-small as-lent refl) (different-kept (levels v) (busy .there) different)

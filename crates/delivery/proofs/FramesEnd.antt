@@ -16,13 +16,12 @@ use Rattle.frame.specs.declared.Stage.the-variants.{Resting}
 use Rattle.unit.specs.Unit.{pullsHsk}
 use Rattle.delivery.specs.Calls.{Call, calledAll}
 use Rattle.delivery.specs.Demand2.{Run, start, a-round, a-call, inFrame}
-use Rattle.delivery.specs.Ends.{left, unitsFree, isFree, quietly, Nearer}
-use Rattle.delivery.specs.FramesEnd.{longest, Staying, freeRounds, FramesEnd, Ends, has-ended, next-free, FramesEndInTime, EndsQuietly, quiet-ended, next-quiet, QuietlyFree, FramesEndQuietly}
+use Rattle.delivery.specs.Ends.{left, unitsFree, isFree, quietly, Falls, Nearer}
+use Rattle.delivery.specs.FramesEnd.{longest, Staying, freeRounds, FramesEnd, FramesEndOnRuns, Ends, has-ended, next-free, FramesEndInTime, EndsQuietly, quiet-ended, next-quiet, QuietlyFree, FramesEndQuietly}
 use Rattle.delivery.specs.Promised.{Moment}
-use Rattle.delivery.specs.Stages.{InFrame, begins, sends, hears, waits, Goes, on, answered, unanswered, Finishes, movedIn}
+use Rattle.delivery.specs.Stages.{InFrame, begins, sends, hears, waits, Goes, on, answered, unanswered, Finishes, movedIn, On, rests, submitted, ended, runs}
 use Rattle.delivery.specs.World.{World, Busy, levels, round}
-use Rattle.delivery.proofs.Demand2.{wider-frame, frame-runs}
-use Rattle.delivery.proofs.Ends.{Falls}
+use Rattle.delivery.proofs.Demand2.{wider-frame, frame-runs, rest-free, every-run}
 use Rattle.delivery.proofs.Frame.{frame-round, one-bound, sits-left}
 use Rattle.delivery.proofs.Left.{left-called}
 use Rattle.delivery.proofs.Listening.{one-known}
@@ -59,7 +58,7 @@ stays-in : {f : Frame} {found : List ℕ} {v u : World} → InFrame Any f found 
 stays-in x start s = (x, omega arith)
 stays-in {f} {found} {v} x (a-round {v = m} more busy) s = by (stays-in x more (s .0)) (next busy (stays-in x more (s .0) .0))
   where
-    by : InFrame Any f found m × (left m + freeRounds more ≤ left v) → Next f found m busy → InFrame Any f found (round m busy) × (left (round m busy) + (freeRounds more + cond (isFree m busy) 1 0) ≤ left v)
+    by : InFrame Any f found m × (left m + freeRounds more ≤ left v) → Next f found m busy → InFrame Any f found (round m busy) × (left (round m busy) + freeRounds (a-round more busy) ≤ left v)
     by y (leads-on z nearer) = let l = y .1 in let k = counted (isFree m busy) nearer in (z, omega arith)
     by y (is-over e) = absurd (false≢true (sym (ap inFrame e) ∙ s .1))
 stays-in x (a-call more call) s = let y = stays-in x more s in let l = y .1 in let same = left-called call (y .0) in (in-frame-called call (y .0), omega arith)
@@ -72,6 +71,21 @@ at-most f found w (waits quiet {timeout = timeout} framed d a why) = let k = sit
 
 pub frames-end : FramesEnd
 frames-end T f found v x = (at-most f found v x, λ u more s. stays-in (wider-frame (λ own y t. refl) x) more s .1)
+
+-- On a run from a quiet start.
+staying-first : {v u : World} (more : Run v u) → Staying more → inFrame (v .controller .stage) ≡ true
+staying-first start s = s
+staying-first (a-round more busy) s = staying-first more (s .0)
+staying-first (a-call more call) s = staying-first more s
+
+on-ends : {T : Moment} {v u : World} → On T v → inFrame (v .controller .stage) ≡ true → (more : Run v u) → Staying more → left u + freeRounds more ≤ left v
+on-ends (rests r eight codes d a) e more s = absurd (false≢true (sym (rest-free r) ∙ e))
+on-ends (submitted f framed codes d a) e more s = absurd (false≢true e)
+on-ends (ended eight codes d a) e more s = absurd (false≢true e)
+on-ends {T} {v} {u} (runs f found x codes) e more s = frames-end T f found v x .1 u more s
+
+pub frames-end-on-runs : FramesEndOnRuns
+frames-end-on-runs w v u q r more s = on-ends (every-run w v q r) (staying-first more s) more s
 
 -- So many free rounds are enough.
 ends-in : (n : ℕ) (f : Frame) (found : List ℕ) (w : World) → left w < n → InFrame Any f found w → Ends n w

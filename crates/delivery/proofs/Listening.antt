@@ -21,11 +21,10 @@ use Rattle.phase.specs.Phase.{phaseStep}
 use Rattle.phase.specs.declared.Phase.{Phase}
 use Rattle.unit.specs.Unit.{pullsOf, pullsHsk, pullsNibble}
 use Rattle.delivery.specs.Stages.{Sits, Sound, Spoke, Talk, answerBytes, spoke, talks}
-use Rattle.delivery.specs.Ends.{phaseLeft, unitsLeft}
+use Rattle.delivery.specs.Ends.{phaseLeft, unitsLeft, Falls}
 use Rattle.delivery.specs.Heard.{Fits, f-next, f-placed, f-holds, f-waits}
 use Rattle.delivery.specs.Promised.{Moment}
 use Rattle.delivery.specs.Lists.{Has, All, none, also, One, this, that}
-use Rattle.delivery.proofs.Ends.{Falls}
 use Rattle.delivery.proofs.Lines.{free-wired, bav-kept, nibble-kept}
 use Rattle.delivery.proofs.Lists.{one-has, one-map, all-map, all-step, one-step}
 use Rattle.delivery.proofs.Part.{low-step}

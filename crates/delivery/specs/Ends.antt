@@ -52,18 +52,24 @@ stageLeft (Listening f ear taken quiet) timeout ss low = unitsLeft ss low (timeo
 abbrev pub left : World → ℕ
 left w = stageLeft (w .controller .stage) (w .controller .timeout) (w .units) (levels w .hsk)
 
--- A round is free if no party that holds HSK low has a busy host: so among the units, and with the controller.
+-- A round is free if no party that holds HSK low has a busy host: neither the controller nor a unit. A busy host elsewhere does not count.
+abbrev pub controllerFree : Stage → Bool → Bool
+controllerFree stage host = not (pullsOf stage .hsk && host)
+
 abbrev pub unitsFree : ℕ → List Station → Bool
 unitsFree hosts [] = true
 unitsFree hosts (st ∷ ss) = not (pullsHsk (st .unit .phase) && isOdd hosts) && unitsFree (hosts / 2) ss
 
 abbrev pub isFree : World → Busy → Bool
-isFree w busy = not (pullsOf (w .controller .stage) .hsk && busy .here) && unitsFree (busy .there) (w .units)
+isFree w busy = controllerFree (w .controller .stage) (busy .here) && unitsFree (busy .there) (w .units)
 
 -- A round in which no host is busy. It is free, wherever the parties are.
 abbrev pub quietly : Busy
 quietly = record { here = false; there = 0 }
 
--- What a round of a frame does to the rounds that are left: they are never more than before, and fewer if it is free.
+-- What a round of a frame does to the rounds that are left: they never rise, and fall if it is free.
+abbrev pub Falls : Bool → ℕ → ℕ → Type 0
+Falls free now before = (now ≤ before) × (free ≡ true → now < before)
+
 abbrev pub Nearer : World → Busy → Type 0
-Nearer w busy = (left (round w busy) ≤ left w) × (isFree w busy ≡ true → left (round w busy) < left w)
+Nearer w busy = Falls (isFree w busy) (left (round w busy)) (left w)

@@ -9,7 +9,7 @@ use Rattle.frame.specs.Frame.{lastNibble}
 use Rattle.frame.specs.declared.Frame.{Frame}
 use Rattle.frame.specs.declared.Stage.the-variants.{Resting}
 use Rattle.delivery.specs.Calls.{Call, calledAll}
-use Rattle.delivery.specs.Demand2.{Run, start, a-round, a-call, inFrame}
+use Rattle.delivery.specs.Demand2.{QuietStart, Run, start, a-round, a-call, inFrame}
 use Rattle.delivery.specs.Ends.{left, listening, isFree, quietly}
 use Rattle.delivery.specs.Promised.{Moment}
 use Rattle.delivery.specs.Stages.{InFrame}
@@ -34,13 +34,17 @@ freeRounds (a-round {v = x} more busy) = freeRounds more + cond (isFree x busy) 
 freeRounds (a-call more call) = freeRounds more
 
 -- From any world of a frame on, whatever is called and whoever is busy: as long as the frame goes on, each free round has taken at least
--- one away of those that were left, and they were fewer than the longest. So less than `longest` rounds of the frame can be free. How many
--- are not is up to the hosts.
+-- one away of those that were left, and these were fewer than `longest`. So fewer than `longest` rounds of a frame are free; how many are
+-- not is up to the hosts alone. If they are at most b for each nibble, that is a bound for all rounds of it.
 abbrev pub FramesEnd : Type 1
 FramesEnd =
     (T : Moment) (f : Frame) (found : List ℕ) (v : World)
     → InFrame T f found v
     → (left v < longest f (v .controller .timeout)) × ((u : World) (more : Run v u) → Staying more → left u + freeRounds more ≤ left v)
+
+-- So on a run from a quiet start.
+abbrev pub FramesEndOnRuns : Type 0
+FramesEndOnRuns = (w v u : World) → QuietStart w → Run w v → (more : Run v u) → Staying more → left u + freeRounds more ≤ left v
 
 -- The same as what can be waited for. A frame ends within n free rounds: it has ended; or, whatever is called and however many rounds that
 -- are not free have passed while it goes on, the next free round leaves it one that ends within one fewer.
