@@ -27,12 +27,9 @@ use Rattle.delivery.specs.Stages.{Part, listens, answers, sits}
 use Rattle.delivery.proofs.Heard.{Waits, waits, heard-waits}
 use Rattle.delivery.proofs.Part.{Stepped, heard-hsk}
 
+-- What falls in any case.
 pub falls : {free : Bool} {now before : ℕ} → now < before → Falls free now before
 falls l = (omega arith, λ e. l)
-
--- So too where more is asked of the round.
-pub falls-by : {free wide : Bool} {now before : ℕ} → (free ≡ true → wide ≡ true) → Falls wide now before → Falls free now before
-falls-by f l = (l .0, λ e. l .1 (f e))
 
 pub and-left : (a b : Bool) → (a && b) ≡ true → a ≡ true
 and-left true b e = refl
@@ -49,7 +46,8 @@ free-step seen f hosts e (also {x = st} {xs = ss} p a) =
     also (f st (isOdd hosts) (and-left (not (pullsHsk (st .unit .phase) && isOdd hosts)) (unitsFree (hosts / 2) ss) e) p)
     (free-step seen f (hosts / 2) (and-right (not (pullsHsk (st .unit .phase) && isOdd hosts)) (unitsFree (hosts / 2) ss) e) a)
 
--- Beside a kept nibble a listener lets go of HSK if its host is not busy; one that has let go already does so whatever its host does.
+-- Beside a kept nibble a listener takes none. It lets go of HSK if its host is not busy; where it has let go already its host does not
+-- matter.
 kept-ear : {n m t : ℕ} {ear : Listener} (low : Bool) → Fits n (Kept m) ear t → takenOf ear low ≡ false
 kept-ear low f-holds = refl
 kept-ear low f-waits = refl

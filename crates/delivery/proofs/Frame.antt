@@ -52,7 +52,7 @@ use Rattle.delivery.specs.Promised.{Moment, Promised}
 use Rattle.delivery.specs.World.{World, Busy, levels, round, Becomes, in-front, behind, Different, nobody, another}
 use Rattle.delivery.proofs.Lines.{hsk-high, bav-kept, nibble-kept}
 use Rattle.delivery.proofs.Lists.{all-map, all-step}
-use Rattle.delivery.proofs.Ends.{falls, falls-by, and-left, and-right, free-step, part-lets-go}
+use Rattle.delivery.proofs.Ends.{falls, and-left, and-right, free-step, part-lets-go}
 use Rattle.delivery.proofs.Talk.{talkLeft, talk-left, place-kept, place-some, place-most}
 use Rattle.reply.specs.Reply.{isSilent, lastNibble as lastOf}
 use Rattle.delivery.proofs.Promise.{last-is as last-of, answer-fits}
@@ -165,6 +165,10 @@ still-speaks seen hosts responds rest (that p o) (that q o′) st after (behind 
 
 go-on : {T : Moment} {f : Frame} {found : List ℕ} {w v : World} {busy : Busy} → round w busy ≡ v → v .controller .ring ≡ w .controller .ring → InFrame T f found v → Speaking w busy → Falls (isFree w busy) (left v) (left w) → Goes T f found w busy
 go-on {T} {f} {found} {w} {busy = busy} eq r y speaks less = on (ap (λ (x : World). x .controller .ring) eq ∙ r) (subst (InFrame T f found) (sym eq) y) speaks (subst (λ (x : World). Falls (isFree w busy) (left x) (left w)) (sym eq) less)
+
+-- What falls in rounds of which less is asked falls in these too.
+falls-by : {free wide : Bool} {now before : ℕ} → (free ≡ true → wide ≡ true) → Falls wide now before → Falls free now before
+falls-by f l = (l .0, λ e. l .1 (f e))
 
 -- The rounds that are left: the nibble under way comes nearer to being sent, or is held by somebody whose host is busy.
 place-falls : {n : ℕ} {sender : Sender} (free low now : Bool) → Sends n sender → sentOf sender low ≡ false → ((m : ℕ) → sender ≡ Kept m → free ≡ true → now ≡ false) → Falls free (place (sendOf sender low n) now) (place sender low)
