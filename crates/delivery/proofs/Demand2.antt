@@ -1,13 +1,11 @@
 -- Demand 2, from the rounds and calls of the stages.
-use Prim.Native.Nat.{ℕ, zero, suc, _+_, _-_, _<_, _≤_}
+use Prim.Native.Nat.{ℕ, zero, suc, _+_, _<_, _≤_}
 use native.Mathlib.Omega.{arith}
 use mathlib.Core.Path.{_≡_, refl, sym, _∙_, ap, subst}
 use mathlib.Core.Bool.{Bool, true, false, cond, true≢false, false≢true}
-use mathlib.Core.List.{List, [], _∷_}
+use mathlib.Core.List.{List}
 use lib.Dec.{ltb, lit<}
 use lib.ListN.{length}
-use native.Mathlib.Nat.{not-suc-le-zero}
-use Rattle.delivery.proofs.Left.{left-called}
 use Rattle.delivery.specs.Calls.{Call, host as at-unit, submits, acknowledges, calledAt, called}
 use Rattle.inside.specs.Calls.{HostCall}
 use Rattle.inside.specs.Inside.{Inside, insideOf}
@@ -21,16 +19,8 @@ use Rattle.line.specs.Line.{isReady, hearOf, sentOf}
 use Rattle.phase.specs.declared.Moved.{Moved as Step}
 use Rattle.delivery.proofs.Part.{Stepped, low-step}
 use Rattle.delivery.proofs.Changes.{fresh-changes, sits-changes, talk-changes, part-changes}
-use Rattle.controller.specs.declared.Controller.{Controller}
-use Rattle.frame.specs.Frame.{over}
-use Rattle.frame.specs.declared.Moved.{Moved}
-use Rattle.delivery.specs.Demand2.{longest, Ends, ends-now, ends-later, FramesEnd, calledAll, Changed, unchanged, fixed-now, done-now, Changes, Returned, returned, Back, from-one, from-nobody, DeliveryBack}
-use Rattle.delivery.specs.Ends.{left, quietly}
-use Rattle.delivery.specs.Stages.{Sits, Goes, on, answered, unanswered, Finishes, movedIn}
-use Rattle.delivery.proofs.Frame.{sits-left}
-use Rattle.delivery.proofs.Listening.{one-less}
-use Rattle.delivery.proofs.Rest.{spoke-moved}
-use Rattle.delivery.proofs.Talk.{place-most}
+use Rattle.delivery.specs.Demand2.{Changed, unchanged, fixed-now, done-now, Changes, Returned, returned, Back, from-one, from-nobody, DeliveryBack}
+use Rattle.delivery.specs.Stages.{Sits}
 use Rattle.answer.specs.Answer.{nothingTaken}
 use Rattle.answer.specs.declared.Response.{Response}
 use Rattle.bus.specs.Bus.{stationStep, isOdd}
@@ -74,7 +64,7 @@ use Rattle.delivery.proofs.Stage.{sending, sent-nibble, shows, nibble-b
 use Rattle.delivery.proofs.Listening.{heard-nibble, still-nibble, hearing}
 use Rattle.delivery.proofs.Rest.{released, rest-nibble}
 use Rattle.bus.specs.Bus.{levelsWith}
-use Rattle.delivery.proofs.Frame.{frame-round, becomes-all, own-kept, begin-nibble, begin-high, one-bound}
+use Rattle.delivery.proofs.Frame.{frame-round, becomes-all, own-kept, begin-nibble, begin-high}
 use Rattle.delivery.proofs.Lists.{all-map, one-all, all-zip, all-step, all-becomes, one-map}
 use Rattle.delivery.proofs.Rest.{on-round}
 use Rattle.delivery.proofs.Run.{on-called, in-frame-called}
@@ -263,41 +253,6 @@ every-step w v q r busy =
     unit-step fine st s =
         let e : unitStepping (st .unit) (levels v) busy (st .buffer) (st .input) ≡ gives (unitStep (st .unit) (levels v) busy (st .buffer) (st .input)) = rw (fine, s .room) in
         (unitStep (st .unit) (levels v) busy (st .buffer) (st .input), e)
-
--- Frames end: the rounds that are left are at most the longest, and each round with no host busy takes one away.
-over-rests : (f : Frame) (w : World) (r : Response) → Finishes w quietly → movedIn w quietly ≡ over f r → round w quietly .controller .stage ≡ Resting true
-over-rests f w r fin m = ap (λ (c : Controller). c .stage) fin ∙ ap (λ (x : Moved). x .stage) m
-
-all-in : {T : Moment} {f : Frame} {found : List ℕ} {v : World} (calls : List Call) → InFrame T f found v → InFrame T f found (calledAll v calls)
-all-in [] y = y
-all-in (call ∷ calls) y = all-in calls (in-frame-called call y)
-
-all-left : {T : Moment} {f : Frame} {found : List ℕ} {v : World} (calls : List Call) → InFrame T f found v → left (calledAll v calls) ≡ left v
-all-left [] y = refl
-all-left (call ∷ calls) y = all-left calls (in-frame-called call y) ∙ left-called call y
-
--- Where nothing is asked of the moments.
-abbrev Any : Moment
-Any own x = own ≡ own
-
-ends-in : (n : ℕ) (f : Frame) (found : List ℕ) (w : World) → left w < n → InFrame Any f found w → Ends n w
-ends-in zero f found w h x = absurd (not-suc-le-zero h)
-ends-in (suc n) f found w h x =
-    by (λ calls y l. ends-in n f found (calledAll (round w quietly) calls) (subst (λ (k : ℕ). k < n) (sym (all-left calls y)) l) (all-in calls y)) (frame-round Any f found quietly (λ st after b e now. refl) x)
-  where
-    by : ((calls : List Call) → InFrame Any f found (round w quietly) → left (round w quietly) < n → Ends n (calledAll (round w quietly) calls)) → Goes Any f found w quietly → Ends (suc n) w
-    by go (on r y speaks less) = ends-later (λ calls. go calls y (let l = less refl in omega arith))
-    by go (answered fin d o) = ends-now (over-rests f w (spoke-moved o .0) fin (spoke-moved o .1))
-    by go (unanswered fin m b d a why still) = ends-now (over-rests f w nothingTaken fin m)
-
-at-most : {T : Moment} (f : Frame) (found : List ℕ) (w : World) → InFrame T f found w → left w < longest f (w .controller .timeout)
-at-most f found w (begins framed d a) = omega arith
-at-most f found w (sends i sender framed d s l a) = let four = place-most sender (levels w .hsk) in omega arith
-at-most f found w (hears ear taken quiet {timeout = timeout} {units = units} framed d l o) = one-less (longest f timeout) (timeout - quiet) (one-bound f (omega arith) o)
-at-most f found w (waits quiet {timeout = timeout} framed d a why) = let k = sits-left (levels w .hsk) (timeout - quiet) a in omega arith
-
-pub frames-end : FramesEnd
-frames-end T f found w x = ends-in (longest f (w .controller .timeout)) f found w (at-most f found w x) (wider-frame (λ own y t. refl) x)
 
 -- What a round of a frame makes of its units.
 talk-addressed : {T : Moment} {c : Command} {d : List ℕ} {stores : Bool} {found : List ℕ} {ear : Listener} {taken : Response} {quiet : ℕ} {buffer : List ℕ} (st : Station) → Talk T c d stores found ear taken quiet buffer st → addressed c (st .unit .own) ≡ true

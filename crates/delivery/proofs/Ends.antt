@@ -1,9 +1,10 @@
--- Each round of a frame in which no host is busy brings its end nearer.
-use Prim.Native.Nat.{ℕ, _+_, _-_}
-use mathlib.Core.Path.{_≡_, refl, _∙_, ap}
-use mathlib.Core.Bool.{Bool, true, false, cond}
+-- No round of a frame takes its end further away, and each free one brings it nearer.
+use Prim.Native.Nat.{ℕ, _+_, _/_, _<_}
+use native.Mathlib.Omega.{arith}
+use mathlib.Core.Path.{_≡_, refl, sym, _∙_, ap}
+use mathlib.Core.Bool.{Bool, true, false, cond, not, _&&_, false≢true}
 use mathlib.Core.List.{List}
-use Rattle.bus.specs.Bus.{stationStep, unitsAfter}
+use Rattle.bus.specs.Bus.{stationStep, unitsAfter, isOdd}
 use Rattle.bus.specs.declared.Station.{Station}
 use Rattle.header.specs.declared.Command.{Command}
 use Rattle.inside.specs.Inside.{Inside, insideOf}
@@ -19,35 +20,56 @@ use Rattle.reply.specs.Reply.{isSilent}
 use Rattle.serial.specs.declared.Reply.{Reply}
 use Rattle.unit.specs.Unit.{pullsHsk}
 use Rattle.whole.specs.Whole.{bytesFor}
+use Rattle.delivery.specs.Ends.{Falls, unitsFree}
 use Rattle.delivery.specs.Heard.{Fits, f-holds, f-waits}
 use Rattle.delivery.specs.Lists.{All, none, also}
 use Rattle.delivery.specs.Stages.{Part, listens, answers, sits}
 use Rattle.delivery.proofs.Heard.{Waits, waits, heard-waits}
 use Rattle.delivery.proofs.Part.{Stepped, heard-hsk}
 
--- A round of every unit whose host is free.
-pub free-step : {P Q : Station → Type 0} (seen : Lines) → ((st : Station) → P st → Q (stationStep st seen false)) → {ss : List Station} → All P ss → All Q (unitsAfter seen 0 ss)
-free-step seen f none = none
-free-step seen f (also {x = st} p a) = also (f st p) (free-step seen f a)
+-- What falls in any case.
+pub falls : {free : Bool} {now before : ℕ} → now < before → Falls free now before
+falls l = (omega arith, λ e. l)
 
--- Beside a kept nibble a free listener lets go of HSK.
-free-ear : {n m t : ℕ} {ear : Listener} (low : Bool) → Fits n (Kept m) ear t → (takenOf ear low ≡ false) × (listenerHsk (hearOf ear low false) ≡ false)
-free-ear low f-holds = (refl, refl)
-free-ear true f-waits = (refl, refl)
-free-ear false f-waits = (refl, refl)
+pub and-left : (a b : Bool) → (a && b) ≡ true → a ≡ true
+and-left true b e = refl
+and-left false b e = e
+
+pub and-right : (a b : Bool) → (a && b) ≡ true → b ≡ true
+and-right true b e = e
+and-right false b e = absurd (false≢true e)
+
+-- A free round of every unit: if it holds HSK, its host is not busy.
+pub free-step : {P Q : Station → Type 0} (seen : Lines) → ((st : Station) (busy : Bool) → not (pullsHsk (st .unit .phase) && busy) ≡ true → P st → Q (stationStep st seen busy)) → (hosts : ℕ) {ss : List Station} → unitsFree hosts ss ≡ true → All P ss → All Q (unitsAfter seen hosts ss)
+free-step seen f hosts e none = none
+free-step seen f hosts e (also {x = st} {xs = ss} p a) =
+    also (f st (isOdd hosts) (and-left (not (pullsHsk (st .unit .phase) && isOdd hosts)) (unitsFree (hosts / 2) ss) e) p)
+    (free-step seen f (hosts / 2) (and-right (not (pullsHsk (st .unit .phase) && isOdd hosts)) (unitsFree (hosts / 2) ss) e) a)
+
+-- Beside a kept nibble a listener takes none. It lets go of HSK if its host is not busy; where it has let go already its host does not
+-- matter.
+kept-ear : {n m t : ℕ} {ear : Listener} (low : Bool) → Fits n (Kept m) ear t → takenOf ear low ≡ false
+kept-ear low f-holds = refl
+kept-ear low f-waits = refl
+
+free-ear : {n m t : ℕ} {ear : Listener} (low busy : Bool) → Fits n (Kept m) ear t → not (listenerHsk ear && busy) ≡ true → listenerHsk (hearOf ear low busy) ≡ false
+free-ear low true f-holds e = absurd (false≢true e)
+free-ear low false f-holds e = refl
+free-ear true busy f-waits e = refl
+free-ear false busy f-waits e = refl
 
 answered-free : (t u : Bool) (ear : Listener) (r : Reply) → listenerHsk ear ≡ false → pullsHsk (cond t (cond u (SittingOut false) (Responding r 0 Next true)) (Receiving ear (Answered r))) ≡ false
 answered-free true true ear r e = refl
 answered-free true false ear r e = refl
 answered-free false u ear r e = e
 
-pub part-lets-go : {P : Reply → Inside → Type 0} {c : Command} {d : List ℕ} {i m : ℕ} {st st′ : Station} {seen : Lines} → Stepped st seen false st′ → Part P c d i (Kept m) st → pullsHsk (st′ .unit .phase) ≡ false
-part-lets-go {c = c} {d = d} {i = i} {st = st} {st′ = st′} {seen = seen} s (listens ear t f h a q) = by (heard-waits (st .unit .own) (insideOf st) seen false h (free-ear (seen .hsk) f .0))
+pub part-lets-go : {P : Reply → Inside → Type 0} {c : Command} {d : List ℕ} {i m : ℕ} {st st′ : Station} {seen : Lines} {busy : Bool} → Stepped st seen busy st′ → not (pullsHsk (st .unit .phase) && busy) ≡ true → Part P c d i (Kept m) st → pullsHsk (st′ .unit .phase) ≡ false
+part-lets-go {c = c} {d = d} {i = i} {st = st} {st′ = st′} {seen = seen} {busy = busy} s free (listens ear t f h a q) = by (heard-waits (st .unit .own) (insideOf st) seen busy h (kept-ear (seen .hsk) f))
   where
-    by : Waits (bytesFor c d) (i + t) (hearOf ear (seen .hsk) false) (st .unit .phase) (st .unit .own) (insideOf st) seen false (st .buffer) → pullsHsk (st′ .unit .phase) ≡ false
-    by (waits after h′ r) = ap pullsHsk (s .phase ∙ r .phase) ∙ heard-hsk h′ ∙ free-ear (seen .hsk) f .1
-part-lets-go {st = st} {seen = seen} s (answers ear r f l a e k q) =
-    ap pullsHsk (s .phase ∙ ap (λ (x : Phase). phaseStep x (st .unit .own) (st .unit .serial) seen false (st .buffer) (st .input) .phase) e)
-    ∙ answered-free (isReady (hearOf ear (seen .hsk) false)) (isSilent r) (hearOf ear (seen .hsk) false) r (free-ear (seen .hsk) f .1)
-part-lets-go {st = st} {seen = seen} s (sits now a e k q) =
-    ap pullsHsk (s .phase ∙ ap (λ (x : Phase). phaseStep x (st .unit .own) (st .unit .serial) seen false (st .buffer) (st .input) .phase) e)
+    by : Waits (bytesFor c d) (i + t) (hearOf ear (seen .hsk) busy) (st .unit .phase) (st .unit .own) (insideOf st) seen busy (st .buffer) → pullsHsk (st′ .unit .phase) ≡ false
+    by (waits after h′ r) = ap pullsHsk (s .phase ∙ r .phase) ∙ heard-hsk h′ ∙ free-ear (seen .hsk) busy f (sym (ap (λ (x : Bool). not (x && busy)) (heard-hsk h)) ∙ free)
+part-lets-go {st = st} {seen = seen} {busy = busy} s free (answers ear r f l a e k q) =
+    ap pullsHsk (s .phase ∙ ap (λ (x : Phase). phaseStep x (st .unit .own) (st .unit .serial) seen busy (st .buffer) (st .input) .phase) e)
+    ∙ answered-free (isReady (hearOf ear (seen .hsk) busy)) (isSilent r) (hearOf ear (seen .hsk) busy) r (free-ear (seen .hsk) busy f (sym (ap (λ (x : Phase). not (pullsHsk x && busy)) e) ∙ free))
+part-lets-go {st = st} {seen = seen} {busy = busy} s free (sits now a e k q) =
+    ap pullsHsk (s .phase ∙ ap (λ (x : Phase). phaseStep x (st .unit .own) (st .unit .serial) seen busy (st .buffer) (st .input) .phase) e)

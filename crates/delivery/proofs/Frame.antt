@@ -3,7 +3,7 @@
 use Prim.Native.Nat.{ℕ, suc, _+_, _-_, _*_, _/_, _<_, _≤_}
 use native.Mathlib.Omega.{arith}
 use mathlib.Core.Path.{_≡_, refl, sym, _∙_, ap, subst}
-use mathlib.Core.Bool.{Bool, true, false, cond, _||_, true≢false}
+use mathlib.Core.Bool.{Bool, true, false, cond, not, _&&_, _||_, true≢false}
 use mathlib.Core.List.{List}
 use borrow.Author.Tests.{le-ltb, ltb-true, ltb-false, leb-false}
 use lib.Dec.{ltb, leb, lit<}
@@ -45,18 +45,18 @@ use Rattle.unit.specs.Unit.{pullsHsk, pullsNibble, lowStep, highStep}
 use Rattle.whole.specs.Whole.{bytesFor}
 use Rattle.whole.proofs.Whole.{length-bytes}
 use Rattle.delivery.specs.Stages.{isResponding, Speaking, Hushed, not-its-own, by-the-rule, addressed, answers, sits, Framed, Fresh, Goes, InFrame, Noted, Part, Sends, Sits, Sound, Spoke, Talk, answered, begins, hears, idles, listens, movedIn, on, s-next, selects, sends, unanswered, waits, world, talks, s-placed, s-kept}
-use Rattle.delivery.specs.Ends.{place, phaseLeft, unitsLeft, listening, left, quietly}
+use Rattle.delivery.specs.Ends.{place, phaseLeft, unitsLeft, controllerFree, unitsFree, isFree, listening, left, Falls}
 use Rattle.delivery.specs.Heard.{f-next, Heard, h-none, h-first, h-byte, h-half}
 use Rattle.delivery.specs.Lists.{All, One, none, also, this, that}
 use Rattle.delivery.specs.Promised.{Moment, Promised}
 use Rattle.delivery.specs.World.{World, Busy, levels, round, Becomes, in-front, behind, Different, nobody, another}
 use Rattle.delivery.proofs.Lines.{hsk-high, bav-kept, nibble-kept}
 use Rattle.delivery.proofs.Lists.{all-map, all-step}
-use Rattle.delivery.proofs.Ends.{free-step, part-lets-go}
+use Rattle.delivery.proofs.Ends.{falls, and-left, and-right, free-step, part-lets-go}
 use Rattle.delivery.proofs.Talk.{talkLeft, talk-left, place-kept, place-some, place-most}
 use Rattle.reply.specs.Reply.{isSilent, lastNibble as lastOf}
 use Rattle.delivery.proofs.Promise.{last-is as last-of, answer-fits}
-use Rattle.delivery.proofs.Listening.{sits-step, one-less, Heard′, goes-on, comes-to-its-end, heard-nibble, units-heard, still-nibble, still-hsk, units-sit, hearing}
+use Rattle.delivery.proofs.Listening.{sits-step, one-known, Heard′, goes-on, comes-to-its-end, heard-nibble, units-heard, still-nibble, still-hsk, units-sit, hearing}
 use Rattle.delivery.proofs.Part.{Stepped, low-step}
 use Rattle.delivery.proofs.Stage.{cond-length, sound-low, sends-on, sending, sent-nibble, units-rest, units-sent, units-over}
 use Rattle.delivery.proofs.Turned.{Answering, somebody, nobody-does, answering}
@@ -163,15 +163,19 @@ still-speaks seen hosts responds rest (that {x = x} p o) (this {x = y} q b) st a
 still-speaks seen hosts responds rest (that p o) (that q o′) st after in-front e = absurd (true≢false (sym e ∙ sits-quiet p))
 still-speaks seen hosts responds rest (that p o) (that q o′) st after (behind k) e = still-speaks seen (hosts / 2) responds rest o o′ st after k e
 
-go-on : {T : Moment} {f : Frame} {found : List ℕ} {w v : World} {busy : Busy} → round w busy ≡ v → v .controller .ring ≡ w .controller .ring → InFrame T f found v → Speaking w busy → (busy ≡ quietly → left v < left w) → Goes T f found w busy
-go-on {T} {f} {found} {w} eq r y speaks less = on (ap (λ (x : World). x .controller .ring) eq ∙ r) (subst (InFrame T f found) (sym eq) y) speaks (λ q. subst (λ (x : World). left x < left w) (sym eq) (less q))
+go-on : {T : Moment} {f : Frame} {found : List ℕ} {w v : World} {busy : Busy} → round w busy ≡ v → v .controller .ring ≡ w .controller .ring → InFrame T f found v → Speaking w busy → Falls (isFree w busy) (left v) (left w) → Goes T f found w busy
+go-on {T} {f} {found} {w} {busy = busy} eq r y speaks less = on (ap (λ (x : World). x .controller .ring) eq ∙ r) (subst (InFrame T f found) (sym eq) y) speaks (subst (λ (x : World). Falls (isFree w busy) (left x) (left w)) (sym eq) less)
 
--- The rounds that are left: the nibble under way comes nearer to being sent.
-place-less : {n : ℕ} {sender : Sender} (low now : Bool) → Sends n sender → sentOf sender low ≡ false → ((m : ℕ) → sender ≡ Kept m → now ≡ false) → place (sendOf sender low n) now < place sender low
-place-less low now s-next e k = omega arith
-place-less {n} low now s-placed e k = place-kept n now
-place-less {n} true now s-kept e k = subst (λ (x : Bool). place (Kept n) x < 2) (sym (k n refl)) (omega arith)
-place-less false now s-kept e k = absurd (true≢false e)
+-- What falls in rounds of which less is asked falls in these too.
+falls-by : {free wide : Bool} {now before : ℕ} → (free ≡ true → wide ≡ true) → Falls wide now before → Falls free now before
+falls-by f l = (l .0, λ e. l .1 (f e))
+
+-- The rounds that are left: the nibble under way comes nearer to being sent, or is held by somebody whose host is busy.
+place-falls : {n : ℕ} {sender : Sender} (free low now : Bool) → Sends n sender → sentOf sender low ≡ false → ((m : ℕ) → sender ≡ Kept m → free ≡ true → now ≡ false) → Falls free (place (sendOf sender low n) now) (place sender low)
+place-falls free low now s-next e k = falls (omega arith)
+place-falls {n} free low now s-placed e k = falls (place-kept n now)
+place-falls {n} free true now s-kept e k = (let l = place-kept n now in omega arith, λ g. subst (λ (x : Bool). place (Kept n) x < 2) (sym (k n refl g)) (omega arith))
+place-falls free false now s-kept e k = absurd (true≢false e)
 
 pub sits-left : {ss : List Station} (low : Bool) (rest : ℕ) → All (λ (st : Station). Sits st × Sound st) ss → unitsLeft ss low rest ≡ rest
 sits-left low rest none = refl
@@ -250,19 +254,13 @@ module _ (T : Moment) (f : Frame) (found : List ℕ) (timeout : ℕ) (ring : Rin
       let ok = sound-low step (p .1) in (
         listens Ready 0 f-next (subst (λ (x : Phase). Heard (bytesFor c d) Ready 0 x (stationStep st seen host .buffer)) (sym (fresh-selects step high (p .0))) (h-none (roomy (kindOf (stationStep st seen host .unit .own)) (length (stationStep st seen host .buffer)) (ok .room)))) (λ l. absurd (omega arith)) (λ l. absurd (omega arith)),
         ok,
-      )) (busy .there) a)) (nobody-speaks (all-map (λ st p. fresh-quiet (p .0)) a)) (λ q. begin-less (lastNibble f) (listening f timeout))
+      )) (busy .there) a)) (nobody-speaks (all-map (λ st p. fresh-quiet (p .0)) a)) (falls (begin-less (lastNibble f) (listening f timeout)))
 
   plain-one : {X : Station → Type 0} {taken : Response} {quiet : ℕ} {buffer : List ℕ} {ear : Listener} {ss : List Station}
       → One (λ (st : Station). (Talk T c d (isSubmitted (f .kind)) found ear taken quiet buffer st × X st) × Sound st) (λ (st : Station). Sits st × Sound st) ss
       → One (λ (st : Station). Talk T c d (isSubmitted (f .kind)) found ear taken quiet buffer st × Sound st) (λ (st : Station). Sits st × Sound st) ss
   plain-one (this p a) = this (p .0 .0, p .1) a
   plain-one (that q o) = that q (plain-one o)
-
-  free-one : {most : ℕ} {host : Bool} {taken : Response} {quiet : ℕ} {buffer : List ℕ} {ear : Listener} {ss : List Station} → host ≡ false
-      → One (λ (st : Station). (Talk T c d (isSubmitted (f .kind)) found ear taken quiet buffer st × (host ≡ false → talkLeft ear st < most)) × Sound st) (λ (st : Station). Sits st × Sound st) ss
-      → One (λ (st : Station). (Talk T c d (isSubmitted (f .kind)) found ear taken quiet buffer st × (talkLeft ear st < most)) × Sound st) (λ (st : Station). Sits st × Sound st) ss
-  free-one e (this p a) = this ((p .0 .0, p .0 .1 e), p .1) a
-  free-one e (that q o) = that q (free-one e o)
 
   -- A round while the command is sent.
   module _ (i : ℕ) (sender : Sender) (s : Sends (nibbleIn (bytesFor c d) i) sender) (less : i < total) (a : All (λ (st : Station). Part (Promised T (st .unit .own) c d) c d i sender st × Sound st) units) (noted : Noted T (world timeout (Sending f i sender false) ring units lent found) busy) where
@@ -281,21 +279,23 @@ module _ (T : Moment) (f : Frame) (found : List ℕ) (timeout : ℕ) (ring : Rin
     last-is : lastNibble f ≡ total - 1
     last-is = let l : length (bytesFor c d) ≡ 9 + length d = length-bytes c d in let n = framed .announced in omega arith
 
-    -- Beside a kept nibble all units let go, if no host is busy.
-    all-let-go : (m : ℕ) → sender ≡ Kept m → busy .there ≡ 0 → levelsWith (sending (Kept m)) (unitsAfter seen (busy .there) units) .hsk ≡ false
-    all-let-go m e z =
+    -- Beside a kept nibble all units let go, if the round is free.
+    all-let-go : (m : ℕ) → sender ≡ Kept m → isFree w busy ≡ true → levelsWith (sending (Kept m)) (unitsAfter seen (busy .there) units) .hsk ≡ false
+    all-let-go m e free =
         hsk-high (sending (Kept m)) refl
-        (subst (λ (k : ℕ). All (λ (st : Station). pullsHsk (st .unit .phase) ≡ false) (unitsAfter seen k units)) (sym z)
-        (free-step seen (λ st p. part-lets-go (low-step st seen false small (p .1 .room) (bav-kept (sending sender) units refl)) (subst (λ (k : Sender). Part (Promised T (st .unit .own) c d) c d i k st) e (p .0))) a))
+        (free-step seen (λ st host x p. part-lets-go (low-step st seen host small (p .1 .room) (bav-kept (sending sender) units refl)) x (subst (λ (k : Sender). Part (Promised T (st .unit .own) c d) c d i k st) e (p .0)))
+        (busy .there) (and-right (controllerFree (Sending f i sender false) (busy .here)) (unitsFree (busy .there) units) free) a)
 
-    send-less : sentOf sender (seen .hsk) ≡ false → busy .there ≡ 0
-        → 4 * (lastNibble f - i) + place (sendOf sender (seen .hsk) (nibbleIn (bytesFor c d) i)) (levelsWith (sending (sendOf sender (seen .hsk) (nibbleIn (bytesFor c d) i))) (unitsAfter seen (busy .there) units) .hsk) + 0 + listening f timeout
-        < 4 * (lastNibble f - i) + place sender (seen .hsk) + 0 + listening f timeout
-    send-less e z =
+    send-falls : sentOf sender (seen .hsk) ≡ false
+        → Falls (isFree w busy) (4 * (lastNibble f - i) + place (sendOf sender (seen .hsk) (nibbleIn (bytesFor c d) i)) (levelsWith (sending (sendOf sender (seen .hsk) (nibbleIn (bytesFor c d) i))) (unitsAfter seen (busy .there) units) .hsk) + 0 + listening f timeout)
+        (4 * (lastNibble f - i) + place sender (seen .hsk) + 0 + listening f timeout)
+    send-falls e =
         let k = sendOf sender (seen .hsk) (nibbleIn (bytesFor c d) i) in
         let now = levelsWith (sending k) (unitsAfter seen (busy .there) units) .hsk in
-        let less : place k now < place sender (seen .hsk) = place-less (seen .hsk) now s e (λ m g. ap (λ (x : Sender). levelsWith (sending x) (unitsAfter seen (busy .there) units) .hsk) (kept-stays m g e) ∙ all-let-go m g z) in
-        omega arith
+        let less : Falls (isFree w busy) (place k now) (place sender (seen .hsk)) =
+        place-falls (isFree w busy) (seen .hsk) now s e (λ m g free. ap (λ (x : Sender). levelsWith (sending x) (unitsAfter seen (busy .there) units) .hsk) (kept-stays m g e) ∙ all-let-go m g free) in
+        let most = less .0 in
+        (omega arith, λ free. let l = less .1 free in omega arith)
       where
         stays-by : (low : Bool) (x : Sender) (m : ℕ) → x ≡ Kept m → sentOf x low ≡ false → sendOf x low (nibbleIn (bytesFor c d) i) ≡ Kept m
         stays-by true x m g e = ap (λ (y : Sender). sendOf y true (nibbleIn (bytesFor c d) i)) g
@@ -307,14 +307,14 @@ module _ (T : Moment) (f : Frame) (found : List ℕ) (timeout : ℕ) (ring : Rin
     send-round : (t u : Bool) → sentOf sender (seen .hsk) ≡ t → ltb i (lastNibble f) ≡ u → Goes T f found w busy
     send-round false u e g =
         let m : movedIn w busy ≡ stays whenNot = ap (λ (x : Bool). stays (cond x (nextNibble f i) whenNot)) e in
-        go-on (after (Sending f i sender false) whenNot found found small (framed .fits) refl m refl) refl (sends i (sendOf sender (seen .hsk) (nibbleIn (bytesFor c d) i)) framed (different-kept seen (busy .there) different) (sends-on (seen .hsk) s e) less (units-rest T c d (framed .sent) i sender units (busy .there) s a noted e less)) (nobody-speaks (all-map (λ st p. part-quiet (p .0)) a)) (λ q. send-less e (ap (λ (x : Busy). x .there) q))
+        go-on (after (Sending f i sender false) whenNot found found small (framed .fits) refl m refl) refl (sends i (sendOf sender (seen .hsk) (nibbleIn (bytesFor c d) i)) framed (different-kept seen (busy .there) different) (sends-on (seen .hsk) s e) less (units-rest T c d (framed .sent) i sender units (busy .there) s a noted e less)) (nobody-speaks (all-map (λ st p. part-quiet (p .0)) a)) (send-falls e)
     send-round true true e g =
         let more : i < lastNibble f = ltb-true i (lastNibble f) g in
         let l = last-is in
         let next : i + 1 ≡ suc i = omega arith in
         let m : movedIn w busy ≡ stays (Sending f (suc i) Next false) =
         ap (λ (x : Bool). stays (cond x (nextNibble f i) whenNot)) e ∙ ap (λ (x : Bool). stays (cond x (Sending f (i + 1) Next false) (Listening f Ready nothingTaken 0))) g ∙ ap (λ (x : ℕ). stays (Sending f x Next false)) next in
-        go-on (after (Sending f i sender false) (Sending f (suc i) Next false) found found small (framed .fits) refl m refl) refl (sends (suc i) Next framed (different-kept seen (busy .there) different) s-next (omega arith) (units-sent T c d (framed .sent) i sender units (busy .there) s a e (omega arith))) (nobody-speaks (all-map (λ st p. part-quiet (p .0)) a)) (λ q. let some = place-some sender (seen .hsk) in omega arith)
+        go-on (after (Sending f i sender false) (Sending f (suc i) Next false) found found small (framed .fits) refl m refl) refl (sends (suc i) Next framed (different-kept seen (busy .there) different) s-next (omega arith) (units-sent T c d (framed .sent) i sender units (busy .there) s a e (omega arith))) (nobody-speaks (all-map (λ st p. part-quiet (p .0)) a)) (falls (let some = place-some sender (seen .hsk) in omega arith))
     send-round true false e g =
         let least : lastNibble f ≤ i = ltb-false i (lastNibble f) g in
         let l = last-is in
@@ -326,8 +326,8 @@ module _ (T : Moment) (f : Frame) (found : List ℕ) (timeout : ℕ) (ring : Rin
       where
         turn : round w busy ≡ world timeout (Listening f Ready nothingTaken 0) ring (unitsAfter seen (busy .there) units) lent found → Different (unitsAfter seen (busy .there) units)
             → Answering T c d (isSubmitted (f .kind)) found (unitsAfter seen (busy .there) units) → Goes T f found w busy
-        turn eq d′ (somebody o) = go-on eq refl (hears Ready nothingTaken 0 framed d′ refl o) (nobody-speaks (all-map (λ st p. part-quiet (p .0)) a)) (λ q. one-less (left w) (timeout - 0) (one-bound f (let some = place-some sender (seen .hsk) in omega arith) o))
-        turn eq d′ (nobody-does b h) = go-on eq refl (waits 0 framed d′ b h) (nobody-speaks (all-map (λ st p. part-quiet (p .0)) a)) (λ q. let k = sits-left (levelsWith (hearing Ready) (unitsAfter seen (busy .there) units) .hsk) (timeout - 0) b in omega arith)
+        turn eq d′ (somebody o) = go-on eq refl (hears Ready nothingTaken 0 framed d′ refl o) (nobody-speaks (all-map (λ st p. part-quiet (p .0)) a)) (falls (one-known (λ (x : ℕ). x < left w) (timeout - 0) (one-bound f (let some = place-some sender (seen .hsk) in omega arith) o)))
+        turn eq d′ (nobody-does b h) = go-on eq refl (waits 0 framed d′ b h) (nobody-speaks (all-map (λ st p. part-quiet (p .0)) a)) (falls (let k = sits-left (levelsWith (hearing Ready) (unitsAfter seen (busy .there) units) .hsk) (timeout - 0) b in omega arith))
 
   -- A round while one unit responds.
   module _ (ear : Listener) (taken : Response) (quiet : ℕ) (response : List ℕ) (long : length response ≡ length found) (o : One (λ (st : Station). Talk T c d (isSubmitted (f .kind)) found ear taken quiet response st × Sound st) (λ (st : Station). Sits st × Sound st) units) where
@@ -340,9 +340,9 @@ module _ (T : Moment) (f : Frame) (found : List ℕ) (timeout : ℕ) (ring : Rin
     heard-small : levels v .nibble < 16
     heard-small = heard-nibble T f d found timeout (framed .eight) (framed .room) (busy .here) (busy .there) ear taken quiet response units o
 
-    hear-by : Heard′ T f d found (movedIn v busy) (listeningBuffer f ear taken (levels v) response) (busy .here) (unitsLeft units (levels v .hsk) (timeout - quiet)) units (unitsAfter (levels v) (busy .there) units) → Goes T f found v busy
+    hear-by : Heard′ T f d found (movedIn v busy) (listeningBuffer f ear taken (levels v) response) (not (listenerHsk ear && busy .here)) (unitsLeft units (levels v .hsk) (timeout - quiet)) units (unitsAfter (levels v) (busy .there) units) → Goes T f found v busy
     hear-by (goes-on ear′ taken′ quiet′ e o′) =
-        go-on (after (Listening f ear taken quiet) (Listening f ear′ taken′ quiet′) response (listeningBuffer f ear taken (levels v) response) heard-small as-lent refl e refl) refl (hears ear′ taken′ quiet′ framed (different-kept (levels v) (busy .there) different) (heard-length f ear taken (levels v) response ∙ long) (plain-one o′)) (still-speaks (levels v) (busy .there) (λ st p. talk-responds (p .0)) (λ st host p. sits-step (levels v) (bav-kept (hearing ear) units refl) heard-small st host p) o (plain-one o′)) (λ q. one-less (left v) (timeout - quiet′) (free-one (ap (λ (x : Busy). x .here) q) o′))
+        go-on (after (Listening f ear taken quiet) (Listening f ear′ taken′ quiet′) response (listeningBuffer f ear taken (levels v) response) heard-small as-lent refl e refl) refl (hears ear′ taken′ quiet′ framed (different-kept (levels v) (busy .there) different) (heard-length f ear taken (levels v) response ∙ long) (plain-one o′)) (still-speaks (levels v) (busy .there) (λ st p. talk-responds (p .0)) (λ st host p. sits-step (levels v) (bav-kept (hearing ear) units refl) heard-small st host p) o (plain-one o′)) (falls-by (and-left (controllerFree (Listening f ear taken quiet) (busy .here)) (unitsFree (busy .there) units)) (one-known (λ (x : ℕ). Falls (not (listenerHsk ear && busy .here)) x (left v)) (timeout - quiet′) o′))
     hear-by (comes-to-its-end o′) =
         let b : round v busy .response ≡ listeningBuffer f ear taken (levels v) response = control-buffer (v .controller) (levels v) (busy .here) lent response heard-small as-lent in
         answered (control (v .controller) (levels v) (busy .here) lent response heard-small as-lent refl) (different-kept (levels v) (busy .there) different)
@@ -374,11 +374,11 @@ module _ (T : Moment) (f : Frame) (found : List ℕ) (timeout : ℕ) (ring : Rin
         (control-buffer (u .controller) (levels u) (busy .here) lent found silent-small (framed .fits) ∙ same-buffer) (different-kept (levels u) (busy .there) different) (units-sit Ready (busy .there) units a) (hushed-kept (levels u) (busy .there) why) (all-map (λ st p. p .0) a)
     wait-round false e =
         let m : movedIn u busy ≡ stays (Listening f Ready nothingTaken (quiet + 1)) = waited-on ∙ ap (λ (x : Bool). cond (x || false) (over f nothingTaken) (stays (Listening f Ready nothingTaken (quiet + 1)))) e in
-        go-on (after (Listening f Ready nothingTaken quiet) (Listening f Ready nothingTaken (quiet + 1)) found found silent-small (framed .fits) refl m same-buffer) refl (waits (quiet + 1) framed (different-kept (levels u) (busy .there) different) (units-sit Ready (busy .there) units a) (hushed-kept (levels u) (busy .there) why)) (nobody-speaks (all-map (λ st p. ap isResponding (p .0 .0)) a)) (λ q.
-        let old = sits-left (levels u .hsk) (timeout - quiet) a in
+        go-on (after (Listening f Ready nothingTaken quiet) (Listening f Ready nothingTaken (quiet + 1)) found found silent-small (framed .fits) refl m same-buffer) refl (waits (quiet + 1) framed (different-kept (levels u) (busy .there) different) (units-sit Ready (busy .there) units a) (hushed-kept (levels u) (busy .there) why)) (nobody-speaks (all-map (λ st p. ap isResponding (p .0 .0)) a)) (falls
+        (let old = sits-left (levels u .hsk) (timeout - quiet) a in
         let new = sits-left (levelsWith (hearing Ready) (unitsAfter (levels u) (busy .there) units) .hsk) (timeout - (quiet + 1)) (units-sit Ready (busy .there) units a) in
         let less : quiet + 1 < timeout = leb-less timeout (quiet + 1) e in
-        omega arith)
+        omega arith))
 
 -- Every round of a frame.
 pub frame-round : (T : Moment) (f : Frame) (found : List ℕ) {w : World} (busy : Busy) → Noted T w busy → InFrame T f found w → Goes T f found w busy

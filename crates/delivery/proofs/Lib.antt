@@ -3,12 +3,12 @@ pub mod World
 pub mod Heard
 pub mod Lines
 pub mod Part
+pub mod Ends
 pub mod Talk
 pub mod Promise
 pub mod Stage
 pub mod Turned
 pub mod Listening
-pub mod Ends
 pub mod Frame
 pub mod Calls
 pub mod Rest
@@ -23,3 +23,4 @@ pub mod Story
 pub mod Completed
 pub mod Listened
 pub mod Waited
+pub mod FramesEnd

@@ -21,7 +21,7 @@ use Rattle.phase.specs.Phase.{phaseStep}
 use Rattle.phase.specs.declared.Phase.{Phase}
 use Rattle.unit.specs.Unit.{pullsOf, pullsHsk, pullsNibble}
 use Rattle.delivery.specs.Stages.{Sits, Sound, Spoke, Talk, answerBytes, spoke, talks}
-use Rattle.delivery.specs.Ends.{phaseLeft, unitsLeft}
+use Rattle.delivery.specs.Ends.{phaseLeft, unitsLeft, Falls}
 use Rattle.delivery.specs.Heard.{Fits, f-next, f-placed, f-holds, f-waits}
 use Rattle.delivery.specs.Promised.{Moment}
 use Rattle.delivery.specs.Lists.{Has, All, none, also, One, this, that}
@@ -95,29 +95,30 @@ one-left ear low rest f (this {x = st} {xs = ss} p a) = this (p, f st p (unitsLe
 one-left ear low rest f (that {x = st} {xs = ss} q o) =
     that q (one-map (λ x p. (p .0, ap (λ (y : Phase). phaseLeft y (st .unit .serial .input) low (unitsLeft ss low rest)) (q .0 .0) ∙ p .1)) (one-left ear low rest f o))
 
-pub one-less : {T : Moment} {c : Command} {d : List ℕ} {stores : Bool} {found : List ℕ} {ear : Listener} {taken : Response} {quiet : ℕ} {buffer : List ℕ} (most rest : ℕ) {ss : List Station}
-    → One (λ (st : Station). (Talk T c d stores found ear taken quiet buffer st × (talkLeft ear st < most)) × Sound st) (λ (st : Station). Sits st × Sound st) ss → unitsLeft ss (levelsWith (hearing ear) ss .hsk) rest < most
-one-less {T} {c} {d} {stores} {found} {ear} {taken} {quiet} {buffer} most rest {ss} o =
+-- What is known of the rounds that the one unit's response still takes.
+pub one-known : {T : Moment} {c : Command} {d : List ℕ} {stores : Bool} {found : List ℕ} {ear : Listener} {taken : Response} {quiet : ℕ} {buffer : List ℕ} (Q : ℕ → Type 0) (rest : ℕ) {ss : List Station}
+    → One (λ (st : Station). (Talk T c d stores found ear taken quiet buffer st × Q (talkLeft ear st)) × Sound st) (λ (st : Station). Sits st × Sound st) ss → Q (unitsLeft ss (levelsWith (hearing ear) ss .hsk) rest)
+one-known {T} {c} {d} {stores} {found} {ear} {taken} {quiet} {buffer} Q rest {ss} o =
     pick (one-left ear (levelsWith (hearing ear) ss .hsk) rest (λ st p k. talk-phase st (p .0 .0 .0) (levelsWith (hearing ear) ss .hsk) (p .1 .0) k) (one-seen (hearing ear) refl (λ st p. talk-nibble (p .0 .0)) o))
   where
-    pick : {s : List Station} {n : ℕ} {X : Station → Type 0} → One (λ (st : Station). (((Talk T c d stores found ear taken quiet buffer st × (talkLeft ear st < most)) × Sound st) × X st) × (n ≡ talkLeft ear st)) (λ (st : Station). Sits st × Sound st) s → n < most
-    pick (this p a) = subst (λ (x : ℕ). x < most) (sym (p .1)) (p .0 .0 .0 .1)
+    pick : {s : List Station} {n : ℕ} {X : Station → Type 0} → One (λ (st : Station). (((Talk T c d stores found ear taken quiet buffer st × Q (talkLeft ear st)) × Sound st) × X st) × (n ≡ talkLeft ear st)) (λ (st : Station). Sits st × Sound st) s → Q n
+    pick (this p a) = subst Q (sym (p .1)) (p .0 .0 .0 .1)
     pick (that q o) = pick o
 
 -- What a round comes to while one unit responds, where its response took at most `most` rounds before.
-pub data Heard′ (T : Moment) (f : Frame) (d found : List ℕ) (m : Moved) (buffer : List ℕ) (host : Bool) (most : ℕ) (old ss : List Station) : Type 0 where
+pub data Heard′ (T : Moment) (f : Frame) (d found : List ℕ) (m : Moved) (buffer : List ℕ) (free : Bool) (most : ℕ) (old ss : List Station) : Type 0 where
   goes-on :
       (ear : Listener) (taken : Response) (quiet : ℕ) → m ≡ stays (Listening f ear taken quiet)
-      → One (λ (st : Station). (Talk T (f .command) d (isSubmitted (f .kind)) found ear taken quiet buffer st × (host ≡ false → talkLeft ear st < most)) × Sound st) (λ (st : Station). Sits st × Sound st) ss
-      → Heard′ T f d found m buffer host most old ss
-  comes-to-its-end : One (λ (st : Station). Spoke T f d found m buffer old st × Sound st) (λ (st : Station). Sits st × Sound st) ss → Heard′ T f d found m buffer host most old ss
+      → One (λ (st : Station). (Talk T (f .command) d (isSubmitted (f .kind)) found ear taken quiet buffer st × Falls free (talkLeft ear st) most) × Sound st) (λ (st : Station). Sits st × Sound st) ss
+      → Heard′ T f d found m buffer free most old ss
+  comes-to-its-end : One (λ (st : Station). Spoke T f d found m buffer old st × Sound st) (λ (st : Station). Sits st × Sound st) ss → Heard′ T f d found m buffer free most old ss
 
-parted : {T : Moment} {f : Frame} {d found : List ℕ} {m : Moved} {buffer : List ℕ} {host : Bool} {most : ℕ} {old ss : List Station} → One (λ (st : Station). ((before : Station) × (Has before old × Talked T f d found m buffer host most before st)) × Sound st) (λ (st : Station). Sits st × Sound st) ss → Heard′ T f d found m buffer host most old ss
+parted : {T : Moment} {f : Frame} {d found : List ℕ} {m : Moved} {buffer : List ℕ} {free : Bool} {most : ℕ} {old ss : List Station} → One (λ (st : Station). ((before : Station) × (Has before old × Talked T f d found m buffer free most before st)) × Sound st) (λ (st : Station). Sits st × Sound st) ss → Heard′ T f d found m buffer free most old ss
 parted (this ((before, (has, still ear taken quiet e t n)), s) a) = goes-on ear taken quiet e (this ((t, n), s) a)
 parted (this ((before, (has, done r j sender k p e b phase inside q own a)), x) all) = comes-to-its-end (this (spoke r j sender before has k own a p e b inside (phase, q), x) all)
 parted (that q o) = behind q (parted o)
   where
-    behind : {T : Moment} {f : Frame} {d found : List ℕ} {m : Moved} {buffer : List ℕ} {host : Bool} {most : ℕ} {old : List Station} {st : Station} {ss : List Station} → Sits st × Sound st → Heard′ T f d found m buffer host most old ss → Heard′ T f d found m buffer host most old (st ∷ ss)
+    behind : {T : Moment} {f : Frame} {d found : List ℕ} {m : Moved} {buffer : List ℕ} {free : Bool} {most : ℕ} {old : List Station} {st : Station} {ss : List Station} → Sits st × Sound st → Heard′ T f d found m buffer free most old ss → Heard′ T f d found m buffer free most old (st ∷ ss)
     behind q (goes-on ear taken quiet e o) = goes-on ear taken quiet e (that q o)
     behind q (comes-to-its-end o) = comes-to-its-end (that q o)
 
@@ -144,7 +145,7 @@ module _ (T : Moment) (f : Frame) (d found : List ℕ) (timeout : ℕ) (eight : 
   counted : One (λ (st : Station). ((Talk T (f .command) d (isSubmitted (f .kind)) found ear taken quiet buffer st × Sound st) × Seen seen (listenerHsk ear) st) × (most ≡ talkLeft ear st)) (λ (st : Station). Sits st × Sound st) ss
   counted = one-left ear (seen .hsk) (timeout - quiet) (λ st p k. talk-phase st (p .0 .0) (seen .hsk) (p .1 .0) k) known
 
-  pub units-heard : Heard′ T f d found (listeningStep f ear taken quiet timeout seen host) (listeningBuffer f ear taken seen buffer) host most ss (unitsAfter seen hosts ss)
+  pub units-heard : Heard′ T f d found (listeningStep f ear taken quiet timeout seen host) (listeningBuffer f ear taken seen buffer) (not (listenerHsk ear && host)) most ss (unitsAfter seen hosts ss)
   units-heard =
       parted (one-step seen (λ st busy p.
       let step = low-step st seen busy heard-nibble (p .0 .0 .0 .1 .room) bav in (
@@ -152,7 +153,7 @@ module _ (T : Moment) (f : Frame) (d found : List ℕ) (timeout : ℕ) (eight : 
           st,
           (
             p .1,
-            subst (λ (k : ℕ). Talked T f d found (listeningStep f ear taken quiet timeout seen host) (listeningBuffer f ear taken seen buffer) host k st (stationStep st seen busy)) (sym (p .0 .1))
+            subst (λ (k : ℕ). Talked T f d found (listeningStep f ear taken quiet timeout seen host) (listeningBuffer f ear taken seen buffer) (not (listenerHsk ear && host)) k st (stationStep st seen busy)) (sym (p .0 .1))
                 (talk-step T f d found timeout eight room st (stationStep st seen busy) seen host busy step ear taken quiet buffer (p .0 .0 .0 .0) (p .0 .0 .1 .0) (p .0 .0 .1 .1)),
           ),
         ),

@@ -36,9 +36,10 @@ use Rattle.unit.specs.Unit.{pullsHsk, pullsNibble}
 use Rattle.whole.specs.Back.{takenAt, storedAt, lengthOf, received}
 use Rattle.whole.proofs.Back.{response-completes, not-over-before, data-received}
 use Rattle.delivery.specs.Stages.{addressed, Quiet, Talk, answerBytes, answerData, talks}
-use Rattle.delivery.specs.Ends.{place, phaseLeft}
+use Rattle.delivery.specs.Ends.{place, phaseLeft, Falls}
 use Rattle.delivery.specs.Heard.{Fits, f-next, f-placed, f-holds, f-waits, Sees}
 use Rattle.delivery.specs.Promised.{Moment, Promised}
+use Rattle.delivery.proofs.Ends.{falls}
 use Rattle.delivery.proofs.Heard.{Pair, rests, takes, sends, pair}
 use Rattle.delivery.proofs.Part.{Stepped}
 use Rattle.delivery.proofs.Promise.{last-is, bytes-are, answer-fits, carried}
@@ -81,7 +82,8 @@ and-false : (a : Bool) → (a && false) ≡ false
 and-false true = refl
 and-false false = refl
 
--- Each round brings the end of a response nearer, where the controller's host is free.
+-- No round takes the end of a response further away, and each brings it nearer, but for one in which the controller holds HSK while its
+-- host is busy.
 pub place-kept : (n : ℕ) (low : Bool) → place (Kept n) low < 3
 place-kept n true = omega arith
 place-kept n false = omega arith
@@ -98,14 +100,15 @@ place-most (Placed n) low = omega arith
 place-most (Kept n) true = omega arith
 place-most (Kept n) false = omega arith
 
-place-rests : {n t : ℕ} {sender : Sender} {ear : Listener} (low : Bool) → Fits n sender ear t → low ≡ (listenerHsk ear || senderHsk sender) → takenOf ear low ≡ false → sentOf sender low ≡ false
-    → place (sendOf sender low n) (listenerHsk (hearOf ear low false) || senderHsk (sendOf sender low n)) < place sender (listenerHsk ear || senderHsk sender)
-place-rests low f-next h a b = omega arith
-place-rests low f-placed h a b = absurd (true≢false (sym h ∙ a))
-place-rests true f-holds h a b = omega arith
-place-rests false f-holds h a b = absurd (false≢true h)
-place-rests true f-waits h a b = absurd (true≢false h)
-place-rests false f-waits h a b = absurd (true≢false b)
+place-rests : {n t : ℕ} {sender : Sender} {ear : Listener} (low host : Bool) → Fits n sender ear t → low ≡ (listenerHsk ear || senderHsk sender) → takenOf ear low ≡ false → sentOf sender low ≡ false
+    → Falls (not (listenerHsk ear && host)) (place (sendOf sender low n) (listenerHsk (hearOf ear low host) || senderHsk (sendOf sender low n))) (place sender (listenerHsk ear || senderHsk sender))
+place-rests low host f-next h a b = falls (omega arith)
+place-rests low host f-placed h a b = absurd (true≢false (sym h ∙ a))
+place-rests true true f-holds h a b = (omega arith, λ e. absurd (false≢true e))
+place-rests true false f-holds h a b = falls (omega arith)
+place-rests false host f-holds h a b = absurd (false≢true h)
+place-rests true host f-waits h a b = absurd (true≢false h)
+place-rests false host f-waits h a b = absurd (true≢false b)
 
 place-takes : {n t : ℕ} {sender : Sender} {ear : Listener} (low now : Bool) → Fits n sender ear t → low ≡ (listenerHsk ear || senderHsk sender) → takenOf ear low ≡ true → place (sendOf sender low n) now < place sender (listenerHsk ear || senderHsk sender)
 place-takes low now f-next h a = absurd (false≢true (sym h ∙ a))
@@ -121,16 +124,17 @@ pub talk-left : (ear : Listener) (st : Station) {r : Reply} {j : ℕ} {sender : 
     → talkLeft ear st ≡ 4 * (lastNibble (st .unit .serial .input) r - j) + place sender (listenerHsk ear || senderHsk sender) + cond wait 1 0
 talk-left ear st e = ap (λ (x : Phase). phaseLeft x (st .unit .serial .input) (listenerHsk ear || pullsHsk x) 0) e
 
--- What a round of the controller and of the unit that responds comes to, where the response took at most `most` rounds before.
-pub data Talked (T : Moment) (f : Frame) (d : List ℕ) (found : List ℕ) (m : Moved) (buffer : List ℕ) (host : Bool) (most : ℕ) (before st : Station) : Type 0 where
+-- What a round of the controller and of the unit that responds comes to, where the response took at most `most` rounds before; `free`:
+-- the controller does not hold HSK for a busy host.
+pub data Talked (T : Moment) (f : Frame) (d : List ℕ) (found : List ℕ) (m : Moved) (buffer : List ℕ) (free : Bool) (most : ℕ) (before st : Station) : Type 0 where
   still :
-      (ear : Listener) (taken : Response) (quiet : ℕ) → m ≡ stays (Listening f ear taken quiet) → Talk T (f .command) d (isSubmitted (f .kind)) found ear taken quiet buffer st → (host ≡ false → talkLeft ear st < most)
-      → Talked T f d found m buffer host most before st
+      (ear : Listener) (taken : Response) (quiet : ℕ) → m ≡ stays (Listening f ear taken quiet) → Talk T (f .command) d (isSubmitted (f .kind)) found ear taken quiet buffer st → Falls free (talkLeft ear st) most
+      → Talked T f d found m buffer free most before st
   done :
       (r : Reply) (j : ℕ) (sender : Sender) → before .unit .phase ≡ Responding r j sender false → (p : Promised T (before .unit .own) (f .command) d r (insideOf before)) → m ≡ over f (Complete (replyStatus r) (length (answerData p)))
       → buffer ≡ received (isSubmitted (f .kind)) (answerData p) found → st .unit .phase ≡ SittingOut false → insideOf st ≡ responded (insideOf before) r → st .unit .asking ≡ false
       → st .unit .own ≡ before .unit .own → addressed (f .command) (before .unit .own) ≡ true
-      → Talked T f d found m buffer host most before st
+      → Talked T f d found m buffer free most before st
 
 module _ (T : Moment) (f : Frame) (d found : List ℕ) (timeout : ℕ) (eight : 8 ≤ timeout) (room : f .command .«buffer_length» ≤ length found) (st st′ : Station) (seen : Lines) (host busy : Bool) (step : Stepped st seen busy st′) where
   abbrev limit : ℕ
@@ -166,6 +170,9 @@ module _ (T : Moment) (f : Frame) (d found : List ℕ) (timeout : ℕ) (eight : 
     inside-is : insideOf st′ ≡ withState (insideOf st) (stepped .serial)
     inside-is = step .inside ∙ ap (λ (x : Phase). insideAfter x (st .unit .own) (insideOf st) seen busy (st .buffer)) e
 
+  abbrev isLetGo : Listener → Bool
+  isLetGo ear = not (listenerHsk ear && host)
+
   abbrev after : Listener → Response → ℕ → Moved
   after ear taken quiet = listeningStep f ear taken quiet timeout seen host
 
@@ -176,7 +183,7 @@ module _ (T : Moment) (f : Frame) (d found : List ℕ) (timeout : ℕ) (eight : 
   begins : (r : Reply) (j t : ℕ) (ear : Listener) (taken : Response) (quiet : ℕ) (buffer : List ℕ) (e : st .unit .phase ≡ Responding r j Next true) (p : Promised T (st .unit .own) (f .command) d r (insideOf st))
       → Fits (nibbleIn (answerBytes p) j) Next ear t → taken ≡ takenAt (answerBytes p) limit (j + t) → buffer ≡ storedAt (answerBytes p) limit stores (j + t) found → j < lengthOf (answerData p)
       → quiet ≡ 0 → st .unit .asking ≡ false → addressed (f .command) (st .unit .own) ≡ true → seen .hsk ≡ (listenerHsk ear || senderHsk Next)
-      → Talked T f d found (after ear taken quiet) (buffer-after ear taken buffer) host (talkLeft ear st) st st′
+      → Talked T f d found (after ear taken quiet) (buffer-after ear taken buffer) (isLetGo ear) (talkLeft ear st) st st′
   begins r j t ear taken quiet buffer e p f-next g b l z q own h =
       let same : insideOf st′ ≡ insideOf st = inside-is r j Next true e in
       let k : j + 0 < lengthOf (answerData p) = omega arith in
@@ -186,11 +193,11 @@ module _ (T : Moment) (f : Frame) (d found : List ℕ) (timeout : ℕ) (eight : 
       still Ready taken 1
       (not-taken Ready taken quiet h ∙ (λ i. waited f (ready i) taken timeout (one i)) ∙ waits-on Ready taken 1 (omega arith) (ap (λ (x : Bool). x && true) going))
       (talks r j 0 Next false (phase-is r j Next true e) (carried T (step .own) same p) f-next g (buffer-kept Ready taken buffer h ∙ b) l (λ x. absurd (false≢true x)) (omega arith) (not-asking q) (same-own own))
-      (λ free.
-      let old : talkLeft Ready st ≡ 4 * (lastNibble (st .unit .serial .input) r - j) + 4 + 1 = talk-left Ready st e in
+      (falls
+      (let old : talkLeft Ready st ≡ 4 * (lastNibble (st .unit .serial .input) r - j) + 4 + 1 = talk-left Ready st e in
       let new : talkLeft Ready st′ ≡ 4 * (lastNibble (st′ .unit .serial .input) r - j) + 4 + 0 = talk-left Ready st′ (phase-is r j Next true e) in
       let last : lastNibble (st′ .unit .serial .input) r ≡ lastNibble (st .unit .serial .input) r = ap (λ (x : Inside). lastNibble (x .state .input) r) same in
-      omega arith)
+      omega arith))
 
   -- A nibble that does not count as sent yet, not taken in this round.
   module _ (r : Reply) (j t : ℕ) (sender : Sender) (ear : Listener) (taken : Response) (quiet : ℕ) (buffer : List ℕ) (e : st .unit .phase ≡ Responding r j sender false) (p : Promised T (st .unit .own) (f .command) d r (insideOf st)) (fits : Fits (nibbleIn (answerBytes p) j) sender ear t) (g : taken ≡ takenAt (answerBytes p) limit (j + t)) (b : buffer ≡ storedAt (answerBytes p) limit stores (j + t) found) (l : j < lengthOf (answerData p)) (c : Quiet sender quiet) (q : st .unit .asking ≡ false) (own : addressed (f .command) (st .unit .own) ≡ true) (view : Sees sender ear (seen .hsk) (seen .nibble)) (h : seen .hsk ≡ (listenerHsk ear || senderHsk sender)) where
@@ -220,22 +227,20 @@ module _ (T : Moment) (f : Frame) (d found : List ℕ) (timeout : ℕ) (eight : 
     )
 
     rests-on : takenOf ear (seen .hsk) ≡ false → sentOf sender (seen .hsk) ≡ false → Fits n (sendOf sender (seen .hsk) n) (hearOf ear (seen .hsk) host) t
-        → Talked T f d found (after ear taken quiet) (buffer-after ear taken buffer) host (talkLeft ear st) st st′
+        → Talked T f d found (after ear taken quiet) (buffer-after ear taken buffer) (isLetGo ear) (talkLeft ear st) st st′
     rests-on a s fits′ =
         let q′ : Quiet (sendOf sender (seen .hsk) n) (quietAfter quiet (seen .hsk)) = quiet-rests quiet (seen .hsk) (seen .nibble) fits view a s c in
         let u = not-sent s in
         still (hearOf ear (seen .hsk) host) taken (quietAfter quiet (seen .hsk))
         (not-taken ear taken quiet a ∙ waits-on (hearOf ear (seen .hsk) host) taken (quietAfter quiet (seen .hsk)) (quiet-bound (sendOf sender (seen .hsk) n) (quietAfter quiet (seen .hsk)) q′) (not-yet t fits′ g))
         (talks r j t (sendOf sender (seen .hsk) n) false (u .0) (carried T (step .own) (u .1) p) fits′ g (buffer-kept ear taken buffer a ∙ b) l (λ x. absurd (false≢true x)) q′ (not-asking q) (same-own own))
-        (λ free.
-        let k = sendOf sender (seen .hsk) n in
-        let held : hearOf ear (seen .hsk) host ≡ hearOf ear (seen .hsk) false = ap (hearOf ear (seen .hsk)) free in
-        let less : place k (listenerHsk (hearOf ear (seen .hsk) false) || senderHsk k) < place sender (listenerHsk ear || senderHsk sender) = place-rests (seen .hsk) fits h a s in
-        let new : talkLeft (hearOf ear (seen .hsk) host) st′ ≡ 4 * (lastNibble (st′ .unit .serial .input) r - j) + place k (listenerHsk (hearOf ear (seen .hsk) false) || senderHsk k) + 0 =
-        talk-left (hearOf ear (seen .hsk) host) st′ (u .0) ∙ ap (λ (x : Listener). 4 * (lastNibble (st′ .unit .serial .input) r - j) + place k (listenerHsk x || senderHsk k) + 0) held in
+        (let k = sendOf sender (seen .hsk) n in
+        let new : talkLeft (hearOf ear (seen .hsk) host) st′ ≡ 4 * (lastNibble (st′ .unit .serial .input) r - j) + place k (listenerHsk (hearOf ear (seen .hsk) host) || senderHsk k) + 0 = talk-left (hearOf ear (seen .hsk) host) st′ (u .0) in
         let old = left-is in
         let same = last-same (u .1) in
-        omega arith)
+        let less = place-rests (seen .hsk) host fits h a s in
+        let most = less .0 in
+        (omega arith, λ free. let l = less .1 free in omega arith))
       where
         not-yet : (t : ℕ) {k : Sender} {x : Listener} → Fits n k x t → taken ≡ takenAt (answerBytes p) limit (j + t) → (isOver taken && isReady x) ≡ false
         not-yet zero {k} {x} v w =
@@ -244,7 +249,7 @@ module _ (T : Moment) (f : Frame) (d found : List ℕ) (timeout : ℕ) (eight : 
         not-yet (suc t) {k} {x} v w = ap (λ (y : Bool). isOver taken && y) (fits-ready v) ∙ and-false (isOver taken)
 
     takes-it : ear ≡ Ready → seen .hsk ≡ true → seen .nibble ≡ n → t ≡ 0 → sentOf sender (seen .hsk) ≡ false → Fits n (sendOf sender (seen .hsk) n) Holding 1
-        → Talked T f d found (after ear taken quiet) (buffer-after ear taken buffer) host (talkLeft ear st) st st′
+        → Talked T f d found (after ear taken quiet) (buffer-after ear taken buffer) (isLetGo ear) (talkLeft ear st) st st′
     takes-it ready low nib z s fits′ =
         let u = not-sent s in
         let k : j + t ≡ j = omega arith in
@@ -261,13 +266,13 @@ module _ (T : Moment) (f : Frame) (d found : List ℕ) (timeout : ℕ) (eight : 
         still Holding (takenWith taken (seen .nibble) limit) 0
         (one ∙ ap (λ (x : Listener). stays (Listening f x (takenWith taken (seen .nibble) limit) 0)) held)
         (talks r j 1 (sendOf sender (seen .hsk) n) false (u .0) (carried T (step .own) (u .1) p) fits′ more kept l (λ x. absurd (false≢true x)) (quiet-zero (sendOf sender (seen .hsk) n)) (not-asking q) (same-own own))
-        (λ free.
-        let k′′ = sendOf sender (seen .hsk) n in
+        (falls
+        (let k′′ = sendOf sender (seen .hsk) n in
         let less : place k′′ (listenerHsk Holding || senderHsk k′′) < place sender (listenerHsk ear || senderHsk sender) = place-takes (seen .hsk) (listenerHsk Holding || senderHsk k′′) fits h gone in
         let new : talkLeft Holding st′ ≡ 4 * (lastNibble (st′ .unit .serial .input) r - j) + place k′′ (listenerHsk Holding || senderHsk k′′) + 0 = talk-left Holding st′ (u .0) in
         let old = left-is in
         let same = last-same (u .1) in
-        omega arith)
+        omega arith))
 
     -- A nibble counts as sent: the next one comes, or the response is done.
     module _ (a : takenOf ear (seen .hsk) ≡ false) (s : sentOf sender (seen .hsk) ≡ true) (high : seen .hsk ≡ false) (ready : hearOf ear (seen .hsk) host ≡ Ready) (z : t ≡ 1) where
@@ -280,7 +285,7 @@ module _ (T : Moment) (f : Frame) (d found : List ℕ) (timeout : ℕ) (eight : 
       listened : after ear taken quiet ≡ waited f Ready taken timeout 1
       listened = not-taken ear taken quiet a ∙ (λ i. waited f (ready i) taken timeout (one-quiet i))
 
-      sends-by : (more : Bool) → ltb j (lastNibble (st .unit .serial .input) r) ≡ more → Talked T f d found (after ear taken quiet) (buffer-after ear taken buffer) host (talkLeft ear st) st st′
+      sends-by : (more : Bool) → ltb j (lastNibble (st .unit .serial .input) r) ≡ more → Talked T f d found (after ear taken quiet) (buffer-after ear taken buffer) (isLetGo ear) (talkLeft ear st) st st′
       sends-by true m =
           let last : lastNibble (st .unit .serial .input) r ≡ lengthOf (answerData p) - 1 = last-is p in
           let less : j < lastNibble (st .unit .serial .input) r = ltb-true j (lastNibble (st .unit .serial .input) r) m in
@@ -297,12 +302,12 @@ module _ (T : Moment) (f : Frame) (d found : List ℕ) (timeout : ℕ) (eight : 
           ∙ ap (λ (x : Bool). withState (insideOf st) (cond x (moves (Responding r (j + 1) Next false) (st .unit .serial)) (moves (SittingOut false) (finished (st .unit .serial) r)) .serial)) m in
           still Ready taken 1 (listened ∙ waits-on Ready taken 1 (omega arith) (ap (λ (x : Bool). x && true) on))
           (talks r (suc j) 0 Next false phase (carried T (step .own) inside p) f-next (g ∙ ap (takenAt (answerBytes p) limit) k) (buffer-kept ear taken buffer a ∙ b ∙ ap (λ (x : ℕ). storedAt (answerBytes p) limit stores x found) k) (omega arith) (λ x. absurd (false≢true x)) (omega arith) (not-asking q) (same-own own))
-          (λ free.
-          let some : 1 ≤ place sender (listenerHsk ear || senderHsk sender) = place-some sender (listenerHsk ear || senderHsk sender) in
+          (falls
+          (let some : 1 ≤ place sender (listenerHsk ear || senderHsk sender) = place-some sender (listenerHsk ear || senderHsk sender) in
           let new : talkLeft Ready st′ ≡ 4 * (lastNibble (st′ .unit .serial .input) r - suc j) + 4 + 0 = talk-left Ready st′ phase in
           let old = left-is in
           let same = last-same inside in
-          omega arith)
+          omega arith))
       sends-by false m =
           let last : lastNibble (st .unit .serial .input) r ≡ lengthOf (answerData p) - 1 = last-is p in
           let least : lastNibble (st .unit .serial .input) r ≤ j = ltb-false j (lastNibble (st .unit .serial .input) r) m in
@@ -319,10 +324,10 @@ module _ (T : Moment) (f : Frame) (d found : List ℕ) (timeout : ℕ) (eight : 
           done r j sender e p (listened ∙ ap (λ (x : Response). waited f Ready x timeout 1) all ∙ full)
           (buffer-kept ear taken buffer a ∙ b ∙ ap (λ (x : ℕ). storedAt (answerBytes p) limit stores x found) k ∙ data-received (answerData p) (replyStatus r) limit stores found (answer-fits p) room) phase inside (not-asking q) (step .own) own
 
-    talks-on : Talked T f d found (after ear taken quiet) (buffer-after ear taken buffer) host (talkLeft ear st) st st′
+    talks-on : Talked T f d found (after ear taken quiet) (buffer-after ear taken buffer) (isLetGo ear) (talkLeft ear st) st st′
     talks-on = by (pair (seen .hsk) (seen .nibble) host fits view)
       where
-        by : Pair n sender ear t (seen .hsk) (seen .nibble) host → Talked T f d found (after ear taken quiet) (buffer-after ear taken buffer) host (talkLeft ear st) st st′
+        by : Pair n sender ear t (seen .hsk) (seen .nibble) host → Talked T f d found (after ear taken quiet) (buffer-after ear taken buffer) (isLetGo ear) (talkLeft ear st) st st′
         by (rests e1 e2 g1) = rests-on e1 e2 g1
         by (takes e1 e2 e3 e4 e5 g1) = takes-it e1 e2 e3 e4 e5 g1
         by (sends e1 e2 e3 e4 e5) = sends-by e1 e2 e3 e4 e5 (ltb j (lastNibble (st .unit .serial .input) r)) refl
@@ -330,7 +335,7 @@ module _ (T : Moment) (f : Frame) (d found : List ℕ) (timeout : ℕ) (eight : 
   -- The round of a unit that responds, and of the controller beside it.
   pub talk-step : (ear : Listener) (taken : Response) (quiet : ℕ) (buffer : List ℕ) → Talk T (f .command) d stores found ear taken quiet buffer st
       → seen .hsk ≡ (listenerHsk ear || pullsHsk (st .unit .phase)) → seen .nibble ≡ pullsNibble (st .unit .phase)
-      → Talked T f d found (after ear taken quiet) (buffer-after ear taken buffer) host (talkLeft ear st) st st′
+      → Talked T f d found (after ear taken quiet) (buffer-after ear taken buffer) (isLetGo ear) (talkLeft ear st) st st′
   talk-step ear taken quiet buffer (talks r j t sender true e p fits g b l w c q own) h v =
       let x = w refl in
       begins r j t ear taken quiet buffer (e ∙ ap (λ (y : Sender). Responding r j y true) (x .0)) p (subst (λ (y : Sender). Fits (nibbleIn (answerBytes p) j) y ear t) (x .0) fits) g b l (x .1) q own

@@ -34,3 +34,8 @@ called w (submits k d response r b) = record {
   response = kept (submitting (w .controller) k (length d) (length response)) response (w .response);
 }
 called w (acknowledges code h) = record { controller = controllerAcknowledged (w .controller) code; units = w .units; lent = w .lent; response = w .response }
+
+-- A row of calls, the first one first.
+abbrev pub calledAll : World → List Call → World
+calledAll w [] = w
+calledAll w (call ∷ calls) = calledAll (called w call) calls

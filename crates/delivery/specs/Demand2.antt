@@ -2,10 +2,10 @@
 -- reaches the addressed unit once and in order; code 0 addresses all. That unit gives the one response defined for its state, or the
 -- defined silence. No other unit's opening, queues, enabling or request is changed by the frame."
 -- The statements; `proofs/Demand2.antt` proves them. Where the parties can be is in `Stages`, the bus in `World` and `Calls`.
-use Prim.Native.Nat.{ℕ, suc, _+_, _*_, _≤_}
+use Prim.Native.Nat.{ℕ, suc, _*_, _≤_}
 use mathlib.Core.Path.{_≡_}
 use mathlib.Core.Bool.{Bool, true, false}
-use mathlib.Core.List.{List, [], _∷_}
+use mathlib.Core.List.{List}
 use lib.ListN.{length}
 use Rattle.whole.specs.Back.{takenAt}
 use Rattle.answer.specs.declared.Response.{Response}
@@ -16,7 +16,7 @@ use Rattle.controller.specs.Calls.{stepping}
 use Rattle.message.specs.Answer.{gives}
 use Rattle.turn.specs.declared.Event.{Event}
 use Rattle.controller.specs.Controller.{newController}
-use Rattle.frame.specs.Frame.{dataOf, lastNibble}
+use Rattle.frame.specs.Frame.{dataOf}
 use Rattle.frame.specs.declared.Frame.{Frame}
 use Rattle.frame.specs.declared.Stage.{Stage}
 use Rattle.frame.specs.declared.Stage.the-variants.{Free, Resting, Waiting, Sending, Listening}
@@ -34,7 +34,6 @@ use Rattle.unit.specs.Unit.{newUnit}
 use Rattle.unit.specs.declared.Unit.{Unit}
 use Rattle.whole.specs.Whole.{bytesFor}
 use Rattle.delivery.specs.Calls.{Call, called}
-use Rattle.delivery.specs.Ends.{listening as listeningTime, quietly}
 use Rattle.delivery.specs.Heard.{Heard}
 use Rattle.delivery.specs.Lists.{All, One}
 use Rattle.delivery.specs.Promised.{Moment, Promised}
@@ -187,20 +186,3 @@ NobodyElse =
     → InFrame T f found w
     → (host : Bool)
     → All (λ (st : Station). addressed (f .command) (st .unit .own) ≡ false → Untouched st (stationStep st (levels w) host)) (w .units)
-
--- Frames end. At most so many rounds in a row with no host busy, from any round of a frame on: four for each nibble of the command, four
--- for each of the longest response that fits the buffer length field, the time-out, and six.
-abbrev pub longest : Frame → ℕ → ℕ
-longest f timeout = 4 * lastNibble f + 6 + listeningTime f timeout
-
-abbrev pub calledAll : World → List Call → World
-calledAll w [] = w
-calledAll w (call ∷ calls) = calledAll (called w call) calls
-
--- It ends in the next such round, or, whatever is called behind it, later.
-pub data Ends : ℕ → World → Type 0 where
-  ends-now : {n : ℕ} {w : World} → round w quietly .controller .stage ≡ Resting true → Ends (suc n) w
-  ends-later : {n : ℕ} {w : World} → ((calls : List Call) → Ends n (calledAll (round w quietly) calls)) → Ends (suc n) w
-
-abbrev pub FramesEnd : Type 1
-FramesEnd = (T : Moment) (f : Frame) (found : List ℕ) (w : World) → InFrame T f found w → Ends (longest f (w .controller .timeout)) w

@@ -1,9 +1,12 @@
--- Frames end: how many rounds with no host busy a frame still takes at most. A nibble takes four: placed, taken, let go, counted.
-use Prim.Native.Nat.{ℕ, _+_, _-_, _*_}
-use mathlib.Core.Bool.{Bool, false, cond}
+-- Frames end: how many rounds a frame still takes at most, those aside in which a busy host holds a nibble. A nibble takes four: placed,
+-- taken, let go, counted. `FramesEnd` draws from it when a frame has ended.
+use Prim.Native.Nat.{ℕ, _+_, _-_, _*_, _/_, _<_, _≤_}
+use mathlib.Core.Path.{_≡_}
+use mathlib.Core.Bool.{Bool, true, false, cond, not, _&&_}
 use mathlib.Core.List.{List, [], _∷_}
+use Rattle.bus.specs.Bus.{isOdd}
 use Rattle.bus.specs.declared.Station.{Station}
-use Rattle.frame.specs.Frame.{lastNibble}
+use Rattle.frame.specs.Frame.{lastNibble, pullsOf}
 use Rattle.frame.specs.declared.Frame.{Frame}
 use Rattle.frame.specs.declared.Stage.{Stage}
 use Rattle.frame.specs.declared.Stage.the-variants.{Free, Resting, Waiting, Sending, Listening}
@@ -13,7 +16,8 @@ use Rattle.phase.specs.declared.Phase.{Phase}
 use Rattle.phase.specs.declared.Phase.the-variants.{Idle, Selecting, Receiving, Responding, SittingOut}
 use Rattle.queue.specs.declared.Queue.{Queue}
 use Rattle.reply.specs.Reply.{lastNibble as lastOf}
-use Rattle.delivery.specs.World.{World, Busy, levels}
+use Rattle.unit.specs.Unit.{pullsHsk}
+use Rattle.delivery.specs.World.{World, Busy, levels, round}
 
 -- For the nibble that is under way, by whether HSK is low.
 abbrev pub place : Sender → Bool → ℕ
@@ -48,6 +52,24 @@ stageLeft (Listening f ear taken quiet) timeout ss low = unitsLeft ss low (timeo
 abbrev pub left : World → ℕ
 left w = stageLeft (w .controller .stage) (w .controller .timeout) (w .units) (levels w .hsk)
 
--- A round in which no host is busy.
+-- A round is free if no party that holds HSK low has a busy host: neither the controller nor a unit. A busy host elsewhere does not count.
+abbrev pub controllerFree : Stage → Bool → Bool
+controllerFree stage host = not (pullsOf stage .hsk && host)
+
+abbrev pub unitsFree : ℕ → List Station → Bool
+unitsFree hosts [] = true
+unitsFree hosts (st ∷ ss) = not (pullsHsk (st .unit .phase) && isOdd hosts) && unitsFree (hosts / 2) ss
+
+abbrev pub isFree : World → Busy → Bool
+isFree w busy = controllerFree (w .controller .stage) (busy .here) && unitsFree (busy .there) (w .units)
+
+-- A round in which no host is busy. It is free, wherever the parties are.
 abbrev pub quietly : Busy
 quietly = record { here = false; there = 0 }
+
+-- What a round of a frame does to the rounds that are left: they never rise, and fall if it is free.
+abbrev pub Falls : Bool → ℕ → ℕ → Type 0
+Falls free now before = (now ≤ before) × (free ≡ true → now < before)
+
+abbrev pub Nearer : World → Busy → Type 0
+Nearer w busy = Falls (isFree w busy) (left (round w busy)) (left w)

@@ -8,3 +8,4 @@ pub mod Stages
 pub mod Demand2
 pub mod Log
 pub mod Deliver
+pub mod FramesEnd

@@ -36,7 +36,7 @@ use Rattle.ring.specs.declared.Ring.{Ring}
 use Rattle.serial.specs.declared.Reply.{Reply}
 use Rattle.whole.specs.Back.{responseFor, takenAt, storedAt, lengthOf, received}
 use Rattle.whole.specs.Whole.{bytesFor, Sent}
-use Rattle.delivery.specs.Ends.{left, quietly}
+use Rattle.delivery.specs.Ends.{Nearer}
 use Rattle.delivery.specs.Heard.{Fits, Heard}
 use Rattle.delivery.specs.Lists.{All, One, Has}
 use Rattle.delivery.specs.Promised.{Moment, Promised}
@@ -181,7 +181,7 @@ abbrev pub Finishes : World → Busy → Type 0
 Finishes w busy = round w busy .controller ≡ controllerMoved (w .controller) (movedIn w busy)
 
 pub data Goes (T : Moment) (f : Frame) (found : List ℕ) (w : World) (busy : Busy) : Type 0 where
-  on : round w busy .controller .ring ≡ w .controller .ring → InFrame T f found (round w busy) → Speaking w busy → (busy ≡ quietly → left (round w busy) < left w) → Goes T f found w busy
+  on : round w busy .controller .ring ≡ w .controller .ring → InFrame T f found (round w busy) → Speaking w busy → Nearer w busy → Goes T f found w busy
   answered :
       Finishes w busy → Different (round w busy .units)
       → One (λ (st : Station). Spoke T f (dataOf f (w .lent)) found (movedIn w busy) (round w busy .response) (w .units) st × Sound st) (λ (st : Station). Sits st × Sound st) (round w busy .units)

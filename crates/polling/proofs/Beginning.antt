@@ -13,8 +13,8 @@ use Rattle.bus.specs.declared.Station.{Station}
 use Rattle.controller.specs.Calls.{stepping}
 use Rattle.controller.specs.Controller.{isIdle, controllerStep, eventIn}
 use Rattle.controller.specs.declared.Controller.{Controller}
-use Rattle.delivery.specs.Calls.{Call, host as at-unit, submits, acknowledges, called, calledAt}
-use Rattle.delivery.specs.Demand2.{QuietStart, Run, a-round, a-call, calledAll}
+use Rattle.delivery.specs.Calls.{Call, host as at-unit, submits, acknowledges, called, calledAt, calledAll}
+use Rattle.delivery.specs.Demand2.{QuietStart, Run, a-round, a-call}
 use Rattle.delivery.specs.Lists.{Has, here, there}
 use Rattle.delivery.specs.World.{World, Busy, levels, round}
 use Rattle.delivery.proofs.Lists.{has-all}

@@ -1,0 +1,142 @@
+-- Frames end: what each round does to the rounds that are left, summed over a run.
+use Prim.Native.Nat.{ℕ, zero, suc, _+_, _-_, _<_, _≤_}
+use native.Mathlib.Nat.{not-suc-le-zero}
+use native.Mathlib.Omega.{arith}
+use mathlib.Core.Path.{_≡_, refl, sym, _∙_, ap}
+use mathlib.Core.Bool.{Bool, true, false, cond, not, _&&_, false≢true, and-false}
+use mathlib.Core.List.{List, [], _∷_}
+use Rattle.answer.specs.Answer.{nothingTaken}
+use Rattle.answer.specs.declared.Response.{Response}
+use Rattle.bus.specs.declared.Station.{Station}
+use Rattle.controller.specs.declared.Controller.{Controller}
+use Rattle.frame.specs.Frame.{over, pullsOf}
+use Rattle.frame.specs.declared.Frame.{Frame}
+use Rattle.frame.specs.declared.Moved.{Moved}
+use Rattle.frame.specs.declared.Stage.the-variants.{Resting}
+use Rattle.unit.specs.Unit.{pullsHsk}
+use Rattle.delivery.specs.Calls.{Call, calledAll}
+use Rattle.delivery.specs.Demand2.{Run, start, a-round, a-call, inFrame}
+use Rattle.delivery.specs.Ends.{left, unitsFree, isFree, quietly, Falls, Nearer}
+use Rattle.delivery.specs.FramesEnd.{longest, Staying, freeRounds, FramesEnd, FramesEndOnRuns, Ends, has-ended, next-free, FramesEndInTime, EndsQuietly, quiet-ended, next-quiet, QuietlyFree, FramesEndQuietly}
+use Rattle.delivery.specs.Promised.{Moment}
+use Rattle.delivery.specs.Stages.{InFrame, begins, sends, hears, waits, Goes, on, answered, unanswered, Finishes, movedIn, On, rests, submitted, ended, runs}
+use Rattle.delivery.specs.World.{World, Busy, levels, round}
+use Rattle.delivery.proofs.Demand2.{wider-frame, frame-runs, rest-free, every-run}
+use Rattle.delivery.proofs.Frame.{frame-round, one-bound, sits-left}
+use Rattle.delivery.proofs.Left.{left-called}
+use Rattle.delivery.proofs.Listening.{one-known}
+use Rattle.delivery.proofs.Rest.{spoke-moved}
+use Rattle.delivery.proofs.Run.{in-frame-called}
+use Rattle.delivery.proofs.Talk.{place-most}
+
+-- Where nothing is asked of the moments.
+abbrev Any : Moment
+Any own x = own ≡ own
+
+-- A round of a frame leads on in it and brings its end nearer, or is its end.
+data Next (f : Frame) (found : List ℕ) (w : World) (busy : Busy) : Type 0 where
+  leads-on : InFrame Any f found (round w busy) → Nearer w busy → Next f found w busy
+  is-over : round w busy .controller .stage ≡ Resting true → Next f found w busy
+
+over-rests : (f : Frame) (w : World) (busy : Busy) (r : Response) → Finishes w busy → movedIn w busy ≡ over f r → round w busy .controller .stage ≡ Resting true
+over-rests f w busy r fin m = ap (λ (c : Controller). c .stage) fin ∙ ap (λ (x : Moved). x .stage) m
+
+next : {f : Frame} {found : List ℕ} {w : World} (busy : Busy) → InFrame Any f found w → Next f found w busy
+next {f} {found} {w} busy x = by (frame-round Any f found busy (λ st after b e now. refl) x)
+  where
+    by : Goes Any f found w busy → Next f found w busy
+    by (on r y speaks nearer) = leads-on y nearer
+    by (answered fin d o) = is-over (over-rests f w busy (spoke-moved o .0) fin (spoke-moved o .1))
+    by (unanswered fin m b d a why still) = is-over (over-rests f w busy nothingTaken fin m)
+
+-- Along a run.
+counted : (free : Bool) {now before : ℕ} → Falls free now before → now + cond free 1 0 ≤ before
+counted true l = let k = l .1 refl in omega arith
+counted false l = let k = l .0 in omega arith
+
+stays-in : {f : Frame} {found : List ℕ} {v u : World} → InFrame Any f found v → (more : Run v u) → Staying more → InFrame Any f found u × (left u + freeRounds more ≤ left v)
+stays-in x start s = (x, omega arith)
+stays-in {f} {found} {v} x (a-round {v = m} more busy) s = by (stays-in x more (s .0)) (next busy (stays-in x more (s .0) .0))
+  where
+    by : InFrame Any f found m × (left m + freeRounds more ≤ left v) → Next f found m busy → InFrame Any f found (round m busy) × (left (round m busy) + freeRounds (a-round more busy) ≤ left v)
+    by y (leads-on z nearer) = let l = y .1 in let k = counted (isFree m busy) nearer in (z, omega arith)
+    by y (is-over e) = absurd (false≢true (sym (ap inFrame e) ∙ s .1))
+stays-in x (a-call more call) s = let y = stays-in x more s in let l = y .1 in let same = left-called call (y .0) in (in-frame-called call (y .0), omega arith)
+
+at-most : {T : Moment} (f : Frame) (found : List ℕ) (w : World) → InFrame T f found w → left w < longest f (w .controller .timeout)
+at-most f found w (begins framed d a) = omega arith
+at-most f found w (sends i sender framed d s l a) = let four = place-most sender (levels w .hsk) in omega arith
+at-most f found w (hears ear taken quiet {timeout = timeout} framed d l o) = one-known (λ (x : ℕ). x < longest f timeout) (timeout - quiet) (one-bound f (omega arith) o)
+at-most f found w (waits quiet {timeout = timeout} framed d a why) = let k = sits-left (levels w .hsk) (timeout - quiet) a in omega arith
+
+pub frames-end : FramesEnd
+frames-end T f found v x = (at-most f found v x, λ u more s. stays-in (wider-frame (λ own y t. refl) x) more s .1)
+
+-- On a run from a quiet start.
+staying-first : {v u : World} (more : Run v u) → Staying more → inFrame (v .controller .stage) ≡ true
+staying-first start s = s
+staying-first (a-round more busy) s = staying-first more (s .0)
+staying-first (a-call more call) s = staying-first more s
+
+on-ends : {T : Moment} {v u : World} → On T v → inFrame (v .controller .stage) ≡ true → (more : Run v u) → Staying more → left u + freeRounds more ≤ left v
+on-ends (rests r eight codes d a) e more s = absurd (false≢true (sym (rest-free r) ∙ e))
+on-ends (submitted f framed codes d a) e more s = absurd (false≢true e)
+on-ends (ended eight codes d a) e more s = absurd (false≢true e)
+on-ends {T} {v} {u} (runs f found x codes) e more s = frames-end T f found v x .1 u more s
+
+pub frames-end-on-runs : FramesEndOnRuns
+frames-end-on-runs w v u q r more s = on-ends (every-run w v q r) (staying-first more s) more s
+
+-- So many free rounds are enough.
+ends-in : (n : ℕ) (f : Frame) (found : List ℕ) (w : World) → left w < n → InFrame Any f found w → Ends n w
+ends-in zero f found w h x = absurd (not-suc-le-zero h)
+ends-in (suc n) f found w h x =
+    next-free (λ u more s none busy free.
+    let y = stays-in x more s in
+    let l = y .1 in
+    by u busy (λ z k. let less = k .1 free in ends-in n f found (round u busy) (omega arith) z) (next busy (y .0)))
+  where
+    by : (u : World) (busy : Busy) → (InFrame Any f found (round u busy) → Nearer u busy → Ends n (round u busy)) → Next f found u busy → Ends n (round u busy)
+    by u busy go (leads-on z nearer) = go z nearer
+    by u busy go (is-over e) = has-ended e
+
+pub frames-end-in-time : FramesEndInTime
+frames-end-in-time T f found w x = ends-in (longest f (w .controller .timeout)) f found w (at-most f found w x) (wider-frame (λ own y t. refl) x)
+
+-- A round with no host busy is free.
+units-quiet : (ss : List Station) → unitsFree 0 ss ≡ true
+units-quiet [] = refl
+units-quiet (st ∷ ss) = ap (λ (x : Bool). not x && unitsFree 0 ss) (and-false (pullsHsk (st .unit .phase))) ∙ units-quiet ss
+
+pub quietly-free : QuietlyFree
+quietly-free w = ap (λ (x : Bool). not x && unitsFree 0 (w .units)) (and-false (pullsOf (w .controller .stage) .hsk)) ∙ units-quiet (w .units)
+
+-- Calls in a row.
+all-in : {f : Frame} {found : List ℕ} {v : World} (calls : List Call) → InFrame Any f found v → InFrame Any f found (calledAll v calls)
+all-in [] x = x
+all-in (call ∷ calls) x = all-in calls (in-frame-called call x)
+
+abbrev all-run : {v u : World} (calls : List Call) → Run v u → Run v (calledAll u calls)
+all-run [] more = more
+all-run (call ∷ calls) more = all-run calls (a-call more call)
+
+all-stay : {v u : World} (calls : List Call) (more : Run v u) → Staying more → Staying (all-run calls more)
+all-stay [] more s = s
+all-stay (call ∷ calls) more s = all-stay calls (a-call more call) s
+
+all-count : {v u : World} (calls : List Call) (more : Run v u) → freeRounds (all-run calls more) ≡ freeRounds more
+all-count [] more = refl
+all-count (call ∷ calls) more = all-count calls (a-call more call)
+
+ends-quietly : {n : ℕ} {f : Frame} {found : List ℕ} {w : World} → InFrame Any f found w → Ends n w → EndsQuietly n w
+ends-quietly x (has-ended e) = quiet-ended e
+ends-quietly {f = f} {found = found} {w = w} x (next-free {n = n} go) =
+    next-quiet (λ calls.
+    by calls (λ y. ends-quietly y (go (calledAll w calls) (all-run calls start) (all-stay calls start (frame-runs x)) (all-count calls start) quietly (quietly-free (calledAll w calls)))) (next quietly (all-in calls x)))
+  where
+    by : (calls : List Call) → (InFrame Any f found (round (calledAll w calls) quietly) → EndsQuietly n (round (calledAll w calls) quietly)) → Next f found (calledAll w calls) quietly → EndsQuietly n (round (calledAll w calls) quietly)
+    by calls go (leads-on y nearer) = go y
+    by calls go (is-over e) = quiet-ended e
+
+pub frames-end-quietly : FramesEndQuietly
+frames-end-quietly T f found w x = ends-quietly (wider-frame (λ own y t. refl) x) (frames-end-in-time T f found w x)
