@@ -8,8 +8,8 @@ use lib.Dec.{ltb, eqb}
 use Rattle.controller.specs.Calls.{stepping}
 use Rattle.controller.specs.Controller.{isIdle, service, eventIn, frameOf}
 use Rattle.controller.specs.declared.Controller.{Controller}
-use Rattle.delivery.specs.Calls.{Call, host, submits as submitsTo, acknowledges as acknowledgesTo}
-use Rattle.delivery.specs.Demand2.{QuietStart, Run, start, a-round, a-call, Took, inFrame}
+use Rattle.delivery.specs.Calls.{Call, host, submits as submitsTo, acknowledges as acknowledgesTo, lends, lendsUnit, inFrame}
+use Rattle.delivery.specs.Demand2.{QuietStart, Run, start, a-round, a-call, Took}
 use Rattle.delivery.specs.Lists.{Has}
 use Rattle.delivery.specs.World.{World, Busy, levels, round}
 use Rattle.bus.specs.declared.Station.{Station}
@@ -48,7 +48,7 @@ PollEnds =
 abbrev pub HandsOnly : Type 0
 HandsOnly = (timeout : ℕ) (ms : List Move) (m : Move) (code : ℕ) → eventOf (since timeout ms) m ≡ Handed code → running (since timeout ms .stage) ≡ pollOf code ∷ []
 
--- On demand 2's bus the controller's own calls are these.
+-- On demand 2's bus the controller's own calls are these. A step is lent what the caller lends it then; to lend is no call.
 abbrev pub moveOf : World → Busy → Move
 moveOf v busy = steps (levels v) (busy .here) (v .lent) (v .response)
 
@@ -56,6 +56,8 @@ abbrev pub callOf : Call → List Move → List Move
 callOf (host i call) ms = ms
 callOf (submitsTo k d response r b) ms = submits k (length d) (length response) ∷ ms
 callOf (acknowledgesTo code h) ms = acknowledges code ∷ ms
+callOf (lends d response) ms = ms
+callOf (lendsUnit i buffer) ms = ms
 
 -- Those of a run, and then more.
 abbrev pub movesOf : {w v : World} → Run w v → List Move → List Move
