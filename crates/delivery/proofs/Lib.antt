@@ -16,3 +16,4 @@ pub mod Run
 pub mod Changes
 pub mod Left
 pub mod Demand2
+pub mod TheBus

@@ -6,3 +6,4 @@ pub mod Calls
 pub mod Ends
 pub mod Stages
 pub mod Demand2
+pub mod TheBus
