@@ -1,11 +1,11 @@
 -- A round leaves each part of a unit's memory as long as it was, so that units are found again in the memory after it.
-use Prim.Native.Nat.{ℕ, suc, _+_, _-_, _*_, _/_, _≤_}
+use Prim.Native.Nat.{ℕ, zero, suc, _+_, _-_, _*_, _/_, _≤_, _<_}
 use native.Mathlib.Omega.{arith}
 use mathlib.Core.Path.{_≡_, refl, sym, _∙_, ap, ap₂}
 use mathlib.Core.Bool.{Bool, true, false, cond}
 use mathlib.Core.List.{List, [], _∷_, _++_, append-assoc}
-use lib.ListN.{length, take, drop, length-append, length-set, length-drop}
-use lib.Seq.{length-take-le, take-at, drop-at}
+use lib.ListN.{length, take, drop, getD, set, length-append, length-set, length-drop}
+use lib.Seq.{length-take-le, take-at, take-add, drop-at, drop-drop}
 use Rattle.field.specs.Field.{byteFrom}
 use Rattle.header.specs.declared.Header.{Header}
 use Rattle.line.specs.Line.{takenOf}
@@ -92,9 +92,12 @@ part-length k m h e =
     let l : length (drop k m) ≡ length m - k = length-drop k m in
     ap length e ∙ length-take-le 256 (drop k m) (omega arith)
 
+pub bytes-length : (s : Station) → length (s .buffer) ≡ 256 → length (s .input) ≡ 256 → length (s .output) ≡ 256 → length (bytesOf s) ≡ 768
+bytes-length s b i o = length-append (s .buffer) (s .input ++ s .output) ∙ ap₂ (λ (x y : ℕ). x + y) b (length-append (s .input) (s .output) ∙ ap₂ (λ (x y : ℕ). x + y) i o)
+
 -- Units with their memory are found again in their bytes, whatever stands behind these.
 module _ (s : Station) (t : List ℕ) (b : length (s .buffer) ≡ 256) (i : length (s .input) ≡ 256) (o : length (s .output) ≡ 256) where
-  station-back : stationAt (s .unit) (bytesOf s ++ t) ≡ s
+  pub station-back : stationAt (s .unit) (bytesOf s ++ t) ≡ s
   station-back =
       let flat : bytesOf s ++ t ≡ s .buffer ++ (s .input ++ (s .output ++ t)) = simp append-assoc in
       let two : length (s .buffer ++ s .input) ≡ 512 = length-append (s .buffer) (s .input) ∙ ap₂ (λ (x y : ℕ). x + y) b i in
@@ -107,9 +110,8 @@ module _ (s : Station) (t : List ℕ) (b : length (s .buffer) ≡ 256) (i : leng
         output = (ap (λ (x : List ℕ). take 256 (drop 512 x)) (sym (append-assoc (s .buffer) (s .input) (s .output ++ t))) ∙ ap (take 256) (drop-at (s .buffer ++ s .input) (s .output ++ t) 512 two) ∙ take-at (s .output) t 256 o) k;
       })
 
-  behind-station : drop 768 (bytesOf s ++ t) ≡ t
-  behind-station =
-      drop-at (bytesOf s) t 768 (length-append (s .buffer) (s .input ++ s .output) ∙ ap₂ (λ (x y : ℕ). x + y) b (length-append (s .input) (s .output) ∙ ap₂ (λ (x y : ℕ). x + y) i o))
+  pub behind-station : drop 768 (bytesOf s ++ t) ≡ t
+  behind-station = drop-at (bytesOf s) t 768 (bytes-length s b i o)
 
 pub units-back : (seen : Lines) (busy : ℕ) (us : List Unit) (m rest : List ℕ) → 768 * length us ≤ length m
     → let after = unitsAfter seen busy (stationsOf us m) in stationsOf (unitsIn after) (memoryOf after ++ rest) ≡ after
@@ -133,3 +135,49 @@ units-alone (u ∷ us) m = ap (λ (r : List Unit). u ∷ r) (units-alone us (dro
 pub units-length : (seen : Lines) (busy : ℕ) (us : List Unit) (m : List ℕ) → length (unitsIn (unitsAfter seen busy (stationsOf us m))) ≡ length us
 units-length seen busy [] m = refl
 units-length seen busy (u ∷ us) m = ap suc (units-length seen (busy / 2) us (drop 768 m))
+
+pub memory-length : (seen : Lines) (busy : ℕ) (us : List Unit) (m : List ℕ) → 768 * length us ≤ length m → length (memoryOf (unitsAfter seen busy (stationsOf us m))) ≡ 768 * length us
+memory-length seen busy [] m h = refl
+memory-length seen busy (u ∷ us) m h =
+    let x = stationStep (stationAt u m) seen (isOdd busy) in
+    let more = memoryOf (unitsAfter seen (busy / 2) (stationsOf us (drop 768 m))) in
+    let b : length (x .buffer) ≡ 256 = buffer-length u seen (isOdd busy) (take 256 m) (take 256 (drop 256 m)) ∙ part-length 0 m (omega arith) refl in
+    let i : length (x .input) ≡ 256 = part-length 256 m (omega arith) refl in
+    let o : length (x .output) ≡ 256 = output-length u seen (isOdd busy) (take 256 m) (take 256 (drop 256 m)) (take 256 (drop 512 m)) ∙ part-length 512 m (omega arith) refl in
+    let l : length (drop 768 m) ≡ length m - 768 = length-drop 768 m in
+    let own : length (bytesOf x) ≡ 768 = bytes-length x b i o in
+    let rest : length more ≡ 768 * length us = memory-length seen (busy / 2) us (drop 768 m) (omega arith) in
+    let all : length (bytesOf x ++ more) ≡ length (bytesOf x) + length more = length-append (bytesOf x) more in
+    omega arith
+
+-- One unit, in its 768 bytes of the memory; and with another in its place, its bytes in theirs, the others are found as they were.
+pub station-at : (i : ℕ) (us : List Unit) (m : List ℕ) (u : Unit) (s : Station) → i < length us → getD (stationsOf us m) i s ≡ stationAt (getD us i u) (drop (768 * i) m)
+station-at i [] m u s h = absurd (omega arith)
+station-at zero (v ∷ us) m u s h = refl
+station-at (suc i) (v ∷ us) m u s h =
+    let next : 768 + 768 * i ≡ 768 * suc i = omega arith in
+    station-at i us (drop 768 m) u s (omega arith) ∙ ap (stationAt (getD us i u)) (drop-drop (768 * i) 768 m ∙ ap (λ (k : ℕ). drop k m) next)
+
+own-bytes : (u : Unit) (m : List ℕ) → bytesOf (stationAt u m) ≡ take 768 m
+own-bytes u m =
+    sym (take-add 256 512 m ∙ ap (λ (r : List ℕ). take 256 m ++ r) (take-add 256 256 (drop 256 m) ∙ ap (λ (r : List ℕ). take 256 (drop 256 m) ++ take 256 r) (drop-drop 256 256 m)))
+
+pub stations-set : (i : ℕ) (us : List Unit) (m : List ℕ) (s : Station) → length (s .buffer) ≡ 256 → length (s .input) ≡ 256 → length (s .output) ≡ 256 → i < length us → 768 * length us ≤ length m
+    → stationsOf (set us i (s .unit)) (take (768 * i) m ++ (bytesOf s ++ drop (768 * i + 768) m)) ≡ set (stationsOf us m) i s
+stations-set i [] m s b n o h room = absurd (omega arith)
+stations-set zero (u ∷ us) m s b n o h room = λ k. station-back s (drop 768 m) b n o k ∷ stationsOf us (behind-station s (drop 768 m) b n o k)
+stations-set (suc i) (u ∷ us) m s b n o h room =
+    let l : length (drop 768 m) ≡ length m - 768 = length-drop 768 m in
+    let t = take (768 * i) (drop 768 m) ++ (bytesOf s ++ drop (768 * i + 768) (drop 768 m)) in
+    let next : 768 * suc i ≡ 768 + 768 * i = omega arith in
+    let past : 768 + (768 * i + 768) ≡ 768 * suc i + 768 = omega arith in
+    let front : take (768 * suc i) m ≡ take 768 m ++ take (768 * i) (drop 768 m) = ap (λ (k : ℕ). take k m) next ∙ take-add 768 (768 * i) m in
+    let back : drop (768 * suc i + 768) m ≡ drop (768 * i + 768) (drop 768 m) = sym (drop-drop (768 * i + 768) 768 m ∙ ap (λ (k : ℕ). drop k m) past) in
+    let x = stationAt u m in
+    let xb : length (x .buffer) ≡ 256 = part-length 0 m (omega arith) refl in
+    let xi : length (x .input) ≡ 256 = part-length 256 m (omega arith) refl in
+    let xo : length (x .output) ≡ 256 = part-length 512 m (omega arith) refl in
+    let whole : take (768 * suc i) m ++ (bytesOf s ++ drop (768 * suc i + 768) m) ≡ bytesOf x ++ t =
+    (λ k. front k ++ (bytesOf s ++ back k)) ∙ append-assoc (take 768 m) (take (768 * i) (drop 768 m)) (bytesOf s ++ drop (768 * i + 768) (drop 768 m)) ∙ ap (λ (r : List ℕ). r ++ t) (sym (own-bytes u m)) in
+    ap (λ (r : List ℕ). stationAt u r ∷ stationsOf (set us i (s .unit)) (drop 768 r)) whole
+    ∙ (λ k. station-back x t xb xi xo k ∷ (ap (stationsOf (set us i (s .unit))) (behind-station x t xb xi xo) ∙ stations-set i us (drop 768 m) s b n o (omega arith) (omega arith)) k)

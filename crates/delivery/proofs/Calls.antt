@@ -1,7 +1,8 @@
--- A host call in mid-frame leaves every stage as it is: a unit's host reaches its state and its queues, and nothing of its lines.
+-- A host call in mid-frame leaves every stage as it is: a unit's host reaches its state and its queues, and nothing of its lines. Another
+-- command buffer leaves a unit as it is.
 use Prim.Native.Nat.{ℕ, zero, suc, _+_}
-use mathlib.Core.Path.{sym, _∙_, ap, subst}
-use mathlib.Core.Bool.{Bool}
+use mathlib.Core.Path.{_≡_, refl, sym, _∙_, ap, subst}
+use mathlib.Core.Bool.{Bool, true, false, cond}
 use mathlib.Core.List.{List}
 use lib.ListN.{length}
 use Rattle.answer.specs.declared.Response.{Response}
@@ -17,7 +18,7 @@ use Rattle.line.specs.declared.Listener.{Listener}
 use Rattle.line.specs.declared.Sender.{Sender}
 use Rattle.phase.specs.declared.Phase.{Phase}
 use Rattle.whole.specs.Whole.{bytesFor}
-use Rattle.delivery.specs.Calls.{calledAt}
+use Rattle.delivery.specs.Calls.{calledAt, withBuffer, bufferAt}
 use Rattle.delivery.specs.Heard.{Heard}
 use Rattle.delivery.specs.Lists.{All, none, also, One, this, that}
 use Rattle.delivery.specs.Promised.{Moment, Promised}
@@ -62,3 +63,25 @@ one-called f g zero call (this {x = st} p a) = let k = unit-called call st in th
 one-called f g (suc i) call (this p a) = this p (all-called g i call a)
 one-called f g zero call (that {x = st} q o) = let k = unit-called call st in that (g call st (calledBy call st) k (q .0), sound-called k (q .1)) o
 one-called f g (suc i) call (that q o) = that q (one-called f g i call o)
+
+-- A unit that is lent another command buffer, where it is long enough.
+pub sound-lent : (buffer : List ℕ) (st : Station) → Sound st → Sound (withBuffer buffer st)
+sound-lent buffer st s = record { room = by (isShort (kindOf (st .unit .own)) (length buffer)) refl; fit = s .fit }
+  where
+    by : (t : Bool) → isShort (kindOf (st .unit .own)) (length buffer) ≡ t → isShort (kindOf (st .unit .own)) (length (cond t (st .buffer) buffer)) ≡ false
+    by true e = s .room
+    by false e = e
+
+pub fresh-lent : (buffer : List ℕ) (st : Station) → Fresh st → Fresh (withBuffer buffer st)
+fresh-lent buffer st (idles e) = idles e
+fresh-lent buffer st (selects e) = selects e
+
+pub all-lent : {P : Station → Type 0} (i : ℕ) (buffer : List ℕ) → ((st : Station) → P st → P (withBuffer buffer st)) → {ss : List Station} → All P ss → All P (bufferAt i buffer ss)
+all-lent i buffer f none = none
+all-lent zero buffer f (also {x = st} p a) = also (f st p) a
+all-lent (suc i) buffer f (also p a) = also p (all-lent i buffer f a)
+
+-- At one unit of a list, or at none.
+pub all-lends : {P : Station → Type 0} (t : Bool) (i : ℕ) (buffer : List ℕ) → ((st : Station) → P st → P (withBuffer buffer st)) → {ss : List Station} → All P ss → All P (cond t ss (bufferAt i buffer ss))
+all-lends true i buffer f a = a
+all-lends false i buffer f a = all-lent i buffer f a

@@ -6,7 +6,7 @@ use mathlib.Core.Bool.{Bool, true, false, cond, true≢false, false≢true}
 use mathlib.Core.List.{List}
 use lib.Dec.{ltb, lit<}
 use lib.ListN.{length}
-use Rattle.delivery.specs.Calls.{Call, host as at-unit, submits, acknowledges, calledAt, called}
+use Rattle.delivery.specs.Calls.{Call, host as at-unit, submits, acknowledges, lends, lendsUnit, calledAt, called, inFrame}
 use Rattle.inside.specs.Calls.{HostCall}
 use Rattle.inside.specs.Inside.{Inside, insideOf}
 use Rattle.inside.specs.Lawful.{Fit}
@@ -48,7 +48,7 @@ use Rattle.delivery.specs.Lists.{All, none, also, One, this, that}
 use Rattle.delivery.specs.Promised.{Moment, Promised}
 use Rattle.delivery.specs.Stages.{isAnswered, Noted, Hushed, not-its-own, by-the-rule, Sound, addressed, Talk, talks, Part, listens, answers, sits, InFrame, begins, sends, hears, waits, Fresh, idles, On, AtRest, is-free, is-resting, rests, submitted, ended, runs}
 use Rattle.delivery.specs.World.{World, Busy, levels, round, Becomes, in-front, behind, Different, another}
-use Rattle.delivery.specs.Demand2.{New, QuietStart, Run, start, a-round, a-call, Took, takes-it, took-it, inFrame, Runs, Frames, Responses, TakenOnce, FramesCalled, Delivered, listening, whole, sitting, Delivery, Untouched, NobodyElse}
+use Rattle.delivery.specs.Demand2.{New, QuietStart, Run, start, a-round, a-call, Took, takes-it, took-it, Runs, Frames, Responses, TakenOnce, FramesCalled, Delivered, listening, whole, sitting, Delivery, Untouched, NobodyElse}
 use borrow.Author.Tests.{le-ltb}
 use Rattle.controller.specs.Calls.{stepping}
 use Rattle.controller.specs.Controller.{eventIn}
@@ -67,7 +67,8 @@ use Rattle.bus.specs.Bus.{levelsWith}
 use Rattle.delivery.proofs.Frame.{frame-round, becomes-all, own-kept, begin-nibble, begin-high}
 use Rattle.delivery.proofs.Lists.{all-map, one-all, all-zip, all-step, all-becomes, one-map}
 use Rattle.delivery.proofs.Rest.{on-round}
-use Rattle.delivery.proofs.Run.{on-called, in-frame-called}
+use Rattle.delivery.proofs.Run.{on-called, in-frame-called, frame-runs, rest-free}
+use Rattle.delivery.proofs.Calls.{all-lends}
 
 -- A quiet start is a rest.
 new-fresh : (st : Station) → New st → Fresh st × Sound st
@@ -107,12 +108,6 @@ wider-frame {T} {U} g (waits quiet framed d a why) = waits quiet framed d a (all
     hush : {c : Command} {e : List ℕ} (st : Station) → Hushed T c e st → Hushed U c e st
     hush st (not-its-own e) = not-its-own e
     hush st (by-the-rule given t e) = by-the-rule given (g (st .unit .own) given t) e
-
-pub frame-runs : {T : Moment} {f : Frame} {found : List ℕ} {w : World} → InFrame T f found w → inFrame (w .controller .stage) ≡ true
-frame-runs (begins framed d a) = refl
-frame-runs (sends i sender framed d s l a) = refl
-frame-runs (hears ear taken quiet framed d l o) = refl
-frame-runs (waits quiet framed d a why) = refl
 
 wider-on : {T U : Moment} {w : World} → (inFrame (w .controller .stage) ≡ true → Wider T U) → On T w → On U w
 wider-on g (rests r eight codes d a) = rests r eight codes d a
@@ -351,10 +346,6 @@ on-different (submitted f framed codes d a) = d
 on-different (ended eight codes d a) = d
 on-different (runs f found x codes) = in-frame-different x
 
-pub rest-free : {stage : Stage} → AtRest stage → inFrame stage ≡ false
-rest-free is-free = refl
-rest-free is-resting = refl
-
 on-step : {T : Moment} {v : World} → On T v → inFrame (v .controller .stage) ≡ true → (st : Station) (host : Bool) → Sound st → Stepped st (levels v) host (stationStep st (levels v) host)
 on-step (rests r eight codes d a) e = absurd (false≢true (sym (rest-free r) ∙ e))
 on-step (submitted f framed codes d a) e = absurd (false≢true e)
@@ -379,6 +370,8 @@ past-call : (v : World) (own : ℕ) (call : Call) → All (PastAt own) (v .units
 past-call v own (at-unit i call) a = past-called own i call a
 past-call v own (submits k d response r b) a = a
 past-call v own (acknowledges code h) a = a
+past-call v own (lends d response) a = a
+past-call v own (lendsUnit i buffer) a = all-lends (inFrame (v .controller .stage)) i buffer (λ st p. p) a
 
 took-past : (w v : World) → QuietStart w → (r : Run w v) (own : ℕ) (x : Inside) → Took r own x → All (PastAt own) (v .units)
 took-past w v q start own x t = absurd t

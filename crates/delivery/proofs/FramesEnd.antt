@@ -14,19 +14,19 @@ use Rattle.frame.specs.declared.Frame.{Frame}
 use Rattle.frame.specs.declared.Moved.{Moved}
 use Rattle.frame.specs.declared.Stage.the-variants.{Resting}
 use Rattle.unit.specs.Unit.{pullsHsk}
-use Rattle.delivery.specs.Calls.{Call, calledAll}
-use Rattle.delivery.specs.Demand2.{Run, start, a-round, a-call, inFrame}
+use Rattle.delivery.specs.Calls.{Call, calledAll, foundAfter, inFrame}
+use Rattle.delivery.specs.Demand2.{Run, start, a-round, a-call}
 use Rattle.delivery.specs.Ends.{left, unitsFree, isFree, quietly, Falls, Nearer}
 use Rattle.delivery.specs.FramesEnd.{longest, Staying, freeRounds, FramesEnd, FramesEndOnRuns, Ends, has-ended, next-free, FramesEndInTime, EndsQuietly, quiet-ended, next-quiet, QuietlyFree, FramesEndQuietly}
 use Rattle.delivery.specs.Promised.{Moment}
 use Rattle.delivery.specs.Stages.{InFrame, begins, sends, hears, waits, Goes, on, answered, unanswered, Finishes, movedIn, On, rests, submitted, ended, runs}
 use Rattle.delivery.specs.World.{World, Busy, levels, round}
-use Rattle.delivery.proofs.Demand2.{wider-frame, frame-runs, rest-free, every-run}
+use Rattle.delivery.proofs.Demand2.{wider-frame, every-run}
 use Rattle.delivery.proofs.Frame.{frame-round, one-bound, sits-left}
 use Rattle.delivery.proofs.Left.{left-called}
 use Rattle.delivery.proofs.Listening.{one-known}
 use Rattle.delivery.proofs.Rest.{spoke-moved}
-use Rattle.delivery.proofs.Run.{in-frame-called}
+use Rattle.delivery.proofs.Run.{in-frame-called, frame-runs, rest-free}
 use Rattle.delivery.proofs.Talk.{place-most}
 
 -- Where nothing is asked of the moments.
@@ -54,14 +54,23 @@ counted : (free : Bool) {now before : ℕ} → Falls free now before → now + c
 counted true l = let k = l .1 refl in omega arith
 counted false l = let k = l .0 in omega arith
 
-stays-in : {f : Frame} {found : List ℕ} {v u : World} → InFrame Any f found v → (more : Run v u) → Staying more → InFrame Any f found u × (left u + freeRounds more ≤ left v)
-stays-in x start s = (x, omega arith)
-stays-in {f} {found} {v} x (a-round {v = m} more busy) s = by (stays-in x more (s .0)) (next busy (stays-in x more (s .0) .0))
+record StaysIn (f : Frame) (v u : World) (rounds : ℕ) : Type 0 where
+  found : List ℕ
+  frame : InFrame Any f found u
+  fewer : left u + rounds ≤ left v
+
+stays-in : {f : Frame} {found : List ℕ} {v u : World} → InFrame Any f found v → (more : Run v u) → Staying more → StaysIn f v u (freeRounds more)
+stays-in {found = found} x start s = record { found = found; frame = x; fewer = omega arith }
+stays-in {f} {found} {v} x (a-round {v = m} more busy) s = let y = stays-in x more (s .0) in by y (next busy (y .frame))
   where
-    by : InFrame Any f found m × (left m + freeRounds more ≤ left v) → Next f found m busy → InFrame Any f found (round m busy) × (left (round m busy) + freeRounds (a-round more busy) ≤ left v)
-    by y (leads-on z nearer) = let l = y .1 in let k = counted (isFree m busy) nearer in (z, omega arith)
+    by : (y : StaysIn f v m (freeRounds more)) → Next f (y .found) m busy → StaysIn f v (round m busy) (freeRounds (a-round more busy))
+    by y (leads-on z nearer) = let l = y .fewer in let k = counted (isFree m busy) nearer in record { found = y .found; frame = z; fewer = omega arith }
     by y (is-over e) = absurd (false≢true (sym (ap inFrame e) ∙ s .1))
-stays-in x (a-call more call) s = let y = stays-in x more s in let l = y .1 in let same = left-called call (y .0) in (in-frame-called call (y .0), omega arith)
+stays-in x (a-call {v = m} more call) s =
+    let y = stays-in x more s in
+    let l = y .fewer in
+    let same = left-called call (y .frame) in
+    record { found = foundAfter m call (y .found); frame = in-frame-called call (y .frame); fewer = omega arith }
 
 at-most : {T : Moment} (f : Frame) (found : List ℕ) (w : World) → InFrame T f found w → left w < longest f (w .controller .timeout)
 at-most f found w (begins framed d a) = omega arith
@@ -70,7 +79,7 @@ at-most f found w (hears ear taken quiet {timeout = timeout} framed d l o) = one
 at-most f found w (waits quiet {timeout = timeout} framed d a why) = let k = sits-left (levels w .hsk) (timeout - quiet) a in omega arith
 
 pub frames-end : FramesEnd
-frames-end T f found v x = (at-most f found v x, λ u more s. stays-in (wider-frame (λ own y t. refl) x) more s .1)
+frames-end T f found v x = (at-most f found v x, λ u more s. stays-in (wider-frame (λ own y t. refl) x) more s .fewer)
 
 -- On a run from a quiet start.
 staying-first : {v u : World} (more : Run v u) → Staying more → inFrame (v .controller .stage) ≡ true
@@ -93,12 +102,12 @@ ends-in zero f found w h x = absurd (not-suc-le-zero h)
 ends-in (suc n) f found w h x =
     next-free (λ u more s none busy free.
     let y = stays-in x more s in
-    let l = y .1 in
-    by u busy (λ z k. let less = k .1 free in ends-in n f found (round u busy) (omega arith) z) (next busy (y .0)))
+    let l = y .fewer in
+    by u busy (y .found) (λ z k. let less = k .1 free in ends-in n f (y .found) (round u busy) (omega arith) z) (next busy (y .frame)))
   where
-    by : (u : World) (busy : Busy) → (InFrame Any f found (round u busy) → Nearer u busy → Ends n (round u busy)) → Next f found u busy → Ends n (round u busy)
-    by u busy go (leads-on z nearer) = go z nearer
-    by u busy go (is-over e) = has-ended e
+    by : (u : World) (busy : Busy) (then : List ℕ) → (InFrame Any f then (round u busy) → Nearer u busy → Ends n (round u busy)) → Next f then u busy → Ends n (round u busy)
+    by u busy then go (leads-on z nearer) = go z nearer
+    by u busy then go (is-over e) = has-ended e
 
 pub frames-end-in-time : FramesEndInTime
 frames-end-in-time T f found w x = ends-in (longest f (w .controller .timeout)) f found w (at-most f found w x) (wider-frame (λ own y t. refl) x)
@@ -112,8 +121,8 @@ pub quietly-free : QuietlyFree
 quietly-free w = ap (λ (x : Bool). not x && unitsFree 0 (w .units)) (and-false (pullsOf (w .controller .stage) .hsk)) ∙ units-quiet (w .units)
 
 -- Calls in a row.
-all-in : {f : Frame} {found : List ℕ} {v : World} (calls : List Call) → InFrame Any f found v → InFrame Any f found (calledAll v calls)
-all-in [] x = x
+all-in : {f : Frame} {found : List ℕ} {v : World} (calls : List Call) → InFrame Any f found v → (then : List ℕ) × InFrame Any f then (calledAll v calls)
+all-in {found = found} [] x = (found, x)
 all-in (call ∷ calls) x = all-in calls (in-frame-called call x)
 
 abbrev all-run : {v u : World} (calls : List Call) → Run v u → Run v (calledAll u calls)
@@ -132,11 +141,12 @@ ends-quietly : {n : ℕ} {f : Frame} {found : List ℕ} {w : World} → InFrame 
 ends-quietly x (has-ended e) = quiet-ended e
 ends-quietly {f = f} {found = found} {w = w} x (next-free {n = n} go) =
     next-quiet (λ calls.
-    by calls (λ y. ends-quietly y (go (calledAll w calls) (all-run calls start) (all-stay calls start (frame-runs x)) (all-count calls start) quietly (quietly-free (calledAll w calls)))) (next quietly (all-in calls x)))
+    let z = all-in calls x in
+    by calls (z .0) (λ y. ends-quietly y (go (calledAll w calls) (all-run calls start) (all-stay calls start (frame-runs x)) (all-count calls start) quietly (quietly-free (calledAll w calls)))) (next quietly (z .1)))
   where
-    by : (calls : List Call) → (InFrame Any f found (round (calledAll w calls) quietly) → EndsQuietly n (round (calledAll w calls) quietly)) → Next f found (calledAll w calls) quietly → EndsQuietly n (round (calledAll w calls) quietly)
-    by calls go (leads-on y nearer) = go y
-    by calls go (is-over e) = quiet-ended e
+    by : (calls : List Call) (then : List ℕ) → (InFrame Any f then (round (calledAll w calls) quietly) → EndsQuietly n (round (calledAll w calls) quietly)) → Next f then (calledAll w calls) quietly → EndsQuietly n (round (calledAll w calls) quietly)
+    by calls then go (leads-on y nearer) = go y
+    by calls then go (is-over e) = quiet-ended e
 
 pub frames-end-quietly : FramesEndQuietly
 frames-end-quietly T f found w x = ends-quietly (wider-frame (λ own y t. refl) x) (frames-end-in-time T f found w x)

@@ -19,14 +19,14 @@ use Rattle.answer.specs.declared.Response.{Response}
 use Rattle.phase.specs.declared.Phase.{Phase}
 use Rattle.reply.specs.Reply.{lastNibble}
 use Rattle.unit.specs.Unit.{pullsOf, pullsHsk, pullsNibble}
-use Rattle.delivery.specs.Calls.{Call, host, submits, acknowledges, calledAt, called}
+use Rattle.delivery.specs.Calls.{Call, host, submits, acknowledges, lends, lendsUnit, calledAt, called, bufferAt}
 use Rattle.delivery.specs.Ends.{left, place, phaseLeft, unitsLeft, stageLeft}
 use Rattle.delivery.specs.Promised.{Moment}
 use Rattle.delivery.specs.Lists.{All, none, also, One, this, that}
 use Rattle.delivery.specs.Stages.{Sound, Sits, Talk, talks, InFrame, begins, sends, hears, waits}
 use Rattle.delivery.specs.World.{World, levels}
 use Rattle.delivery.proofs.Promise.{last-is, promise-called}
-use Rattle.delivery.proofs.Run.{not-idle, frame-busy}
+use Rattle.delivery.proofs.Run.{not-idle, frame-busy, frame-runs}
 
 -- What a unit pulls is not its host's.
 pulls-called : {call : HostCall} {st after : Station} → Called call st after → pullsOf (after .unit) ≡ pullsOf (st .unit)
@@ -77,3 +77,6 @@ pub left-called : {T : Moment} {f : Frame} {found : List ℕ} {w : World} (call 
 left-called (host i call) x = host-left i call x
 left-called {w = w} (submits k d buffer range bytes) x = ap left (not-idle w k d buffer range bytes (frame-busy x))
 left-called {w = w} (acknowledges code h) x = acknowledged-left w code (acknowledging (w .controller) code)
+left-called (lends d response) x = refl
+left-called {w = w} (lendsUnit i buffer) x =
+    ap (λ (t : Bool). left (record { controller = w .controller; units = cond t (w .units) (bufferAt i buffer (w .units)); lent = w .lent; response = w .response })) (frame-runs x)

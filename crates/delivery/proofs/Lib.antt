@@ -24,3 +24,4 @@ pub mod Completed
 pub mod Listened
 pub mod Waited
 pub mod FramesEnd
+pub mod TheBus

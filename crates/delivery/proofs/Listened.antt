@@ -22,7 +22,6 @@ use Rattle.phase.specs.declared.Phase.{Phase}
 use Rattle.ring.specs.declared.Ring.{Ring}
 use Rattle.serial.specs.declared.Reply.{Reply}
 use Rattle.unit.specs.Unit.{pullsHsk, pullsNibble}
-use Rattle.delivery.specs.Demand2.{inFrame}
 use Rattle.delivery.specs.Lists.{All, none, also, One, this, that, Has, here, there}
 use Rattle.delivery.specs.Log.{Act, heard, told, Deed, settled, Mark, acts, deedsBy, endedBy, Capture, actsIn, deedsIn}
 use Rattle.delivery.specs.Promised.{Moment}
@@ -58,6 +57,7 @@ use mathlib.Core.List.{map}
 use Rattle.delivery.proofs.Story.{deeds-now}
 use Rattle.delivery.proofs.Deeds.{nibblesFor}
 use Rattle.frame.specs.declared.Moved.{Moved}
+use Rattle.delivery.specs.Calls.{inFrame}
 
 -- While the controller listens: it goes on to, or the frame ends.
 pub listening-next : (f : Frame) (ear : Listener) (taken : Response) (quiet timeout : ℕ) (seen : Lines) (host : Bool) → inFrame (listeningStep f ear taken quiet timeout seen host .stage) ≡ true

@@ -170,8 +170,8 @@ turn-framed e lent found timeout h eight = by (e .marked)
     empty r = record { fields = r; bytes = λ i. lit< tt; short = omega arith }
 
     by : (t : Bool) → Framed (cond t nullFrame (pollOf (e .code))) lent found timeout
-    by true = record { sent = empty (record { device = lit< tt; command = lit< tt; unit = lit< tt; number = lit< tt; buffer = lit< tt }); announced = refl; room = omega arith; fits = refl; eight = eight }
-    by false = record { sent = empty (record { device = h; command = lit< tt; unit = lit< tt; number = lit< tt; buffer = lit< tt }); announced = refl; room = omega arith; fits = refl; eight = eight }
+    by true = record { sent = empty (record { device = lit< tt; command = lit< tt; unit = lit< tt; number = lit< tt; buffer = lit< tt }); announced = refl; room = omega arith; service = λ e. refl; fits = refl; eight = eight }
+    by false = record { sent = empty (record { device = h; command = lit< tt; unit = lit< tt; number = lit< tt; buffer = lit< tt }); announced = refl; room = omega arith; service = λ e. refl; fits = refl; eight = eight }
 
 module _ (T : Moment) (timeout : ℕ) (ring : Ring) (units : List Station) (lent response : List ℕ) (busy : Busy) (codes : Codes ring) (different : Different units) where
   abbrev unitsNext : List Station

@@ -14,7 +14,6 @@ use Rattle.line.specs.Line.{hearOf}
 use Rattle.line.specs.declared.Lines.{Lines}
 use Rattle.phase.specs.declared.Phase.{Phase}
 use Rattle.ring.specs.declared.Ring.{Ring}
-use Rattle.delivery.specs.Demand2.{inFrame}
 use Rattle.delivery.specs.Lists.{All, here, there}
 use Rattle.delivery.specs.Log.{Act, heard, told, acts, endedBy, Capture, actsIn, deedsIn}
 use Rattle.delivery.specs.Promised.{Moment}
@@ -43,6 +42,7 @@ use Rattle.delivery.specs.Log.{acts}
 use Rattle.delivery.proofs.Listening.{still-hsk, units-sit}
 use Rattle.delivery.proofs.Listened.{listening-next}
 use Rattle.line.specs.declared.Listener.the-variants.{Ready}
+use Rattle.delivery.specs.Calls.{inFrame}
 
 module _ {T : Moment} (l : Capture) {found : List ℕ} (quiet timeout : ℕ) (ring : Ring) (units : List Station) (lent : List ℕ) (framed : Framed (l .frame) lent found timeout) (different : Different units) (a : All (λ (st : Station). Sits st × Sound st) units) (why : All (Hushed T (l .frame .command) (dataOf (l .frame) lent)) units) (busy : Busy) (did : All (DidAt l (dataOf (l .frame) lent)) units) (so-far : actsIn (l .marks) ≡ map sent (nibblesFor (l .frame .command) (dataOf (l .frame) lent))) where
   abbrev c : Command

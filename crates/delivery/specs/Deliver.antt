@@ -22,10 +22,11 @@ use Rattle.serial.specs.declared.Reply.the-variants.{Silent}
 use Rattle.turn.specs.Turn.{eventOf}
 use Rattle.whole.specs.Back.{responseFor}
 use Rattle.whole.specs.Whole.{bytesFor}
-use Rattle.delivery.specs.Demand2.{QuietStart, Run, inFrame}
+use Rattle.delivery.specs.Demand2.{QuietStart, Run}
 use Rattle.delivery.specs.Lists.{All, One, Has, Pairs}
 use Rattle.delivery.specs.Log.{Act, sent, heard, told, Deed, took, settled, spoke, done, Mark, begins, acts, does, asks, submitted, log, unitsMarks, Capture, framesOf, actsIn, deedsIn}
 use Rattle.delivery.specs.World.{World, Busy, levels}
+use Rattle.delivery.specs.Calls.{inFrame}
 
 -- The first members of a list, in order.
 abbrev pub Front : {A : Type 0} → List A → List A → Type 0

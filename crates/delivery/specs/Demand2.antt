@@ -18,8 +18,7 @@ use Rattle.turn.specs.declared.Event.{Event}
 use Rattle.controller.specs.Controller.{newController}
 use Rattle.frame.specs.Frame.{dataOf}
 use Rattle.frame.specs.declared.Frame.{Frame}
-use Rattle.frame.specs.declared.Stage.{Stage}
-use Rattle.frame.specs.declared.Stage.the-variants.{Free, Resting, Waiting, Sending, Listening}
+use Rattle.frame.specs.declared.Stage.the-variants.{Resting, Sending, Listening}
 use Rattle.header.specs.declared.Command.{Command}
 use Rattle.inside.specs.Inside.{Inside, insideOf, replyFor, takenFor, responded}
 use Rattle.inside.specs.Lawful.{Lent}
@@ -33,7 +32,7 @@ use Rattle.unit.specs.Calls.{stepping as unitStepping}
 use Rattle.unit.specs.Unit.{newUnit}
 use Rattle.unit.specs.declared.Unit.{Unit}
 use Rattle.whole.specs.Whole.{bytesFor}
-use Rattle.delivery.specs.Calls.{Call, called}
+use Rattle.delivery.specs.Calls.{Call, called, foundAfter, inFrame}
 use Rattle.delivery.specs.Heard.{Heard}
 use Rattle.delivery.specs.Lists.{All, One}
 use Rattle.delivery.specs.Promised.{Moment, Promised}
@@ -65,13 +64,6 @@ pub data Run (w : World) : World → Type 0 where
 
 -- Behind a round the unit with this code has taken the last nibble, with x inside it: in this round, or, as was known before, in an
 -- earlier one of the same frame.
-abbrev pub inFrame : Stage → Bool
-inFrame Free = false
-inFrame (Resting again) = false
-inFrame (Waiting f) = false
-inFrame (Sending f i sender wait) = true
-inFrame (Listening f ear taken quiet) = true
-
 pub data TookBy (v : World) (busy : Busy) (before : Moment) (own : ℕ) (x : Inside) : Type 0 where
   takes-it :
       (st after : Station) → Becomes (levels v) (busy .there) (v .units) st after → isAnswered (st .unit .phase) ≡ false → isAnswered (after .unit .phase) ≡ true
@@ -113,9 +105,9 @@ Responses = (w v : World) (r : Run w v) (f : Frame) (found : List ℕ) → InFra
 abbrev pub TakenOnce : Type 0
 TakenOnce = (w v : World) → QuietStart w → (r : Run w v) (own : ℕ) (x y : Inside) → Took r own x → Took r own y → x ≡ y
 
--- A call in mid-frame leaves the frame as it is.
+-- A call in mid-frame leaves the frame as it is. One that lends a service frame another response buffer has it stand there as found.
 abbrev pub FramesCalled : Type 1
-FramesCalled = (T : Moment) (f : Frame) (found : List ℕ) (w : World) → InFrame T f found w → (call : Call) → InFrame T f found (called w call)
+FramesCalled = (T : Moment) (f : Frame) (found : List ℕ) (w : World) → InFrame T f found w → (call : Call) → InFrame T f (foundAfter w call found) (called w call)
 
 -- Delivery. While nibble i of a command is sent, each unit has taken the first i nibbles of it, or one more: each once and in order. A
 -- unit that the command does not address sits out behind the device code. When the last is taken, the reply is fixed.

@@ -8,8 +8,8 @@ use mathlib.Core.List.{List}
 use Rattle.frame.specs.Frame.{lastNibble}
 use Rattle.frame.specs.declared.Frame.{Frame}
 use Rattle.frame.specs.declared.Stage.the-variants.{Resting}
-use Rattle.delivery.specs.Calls.{Call, calledAll}
-use Rattle.delivery.specs.Demand2.{QuietStart, Run, start, a-round, a-call, inFrame}
+use Rattle.delivery.specs.Calls.{Call, calledAll, inFrame}
+use Rattle.delivery.specs.Demand2.{QuietStart, Run, start, a-round, a-call}
 use Rattle.delivery.specs.Ends.{left, listening, isFree, quietly}
 use Rattle.delivery.specs.Promised.{Moment}
 use Rattle.delivery.specs.Stages.{InFrame}

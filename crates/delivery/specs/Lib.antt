@@ -9,3 +9,4 @@ pub mod Demand2
 pub mod Log
 pub mod Deliver
 pub mod FramesEnd
+pub mod TheBus

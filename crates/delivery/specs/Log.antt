@@ -23,7 +23,7 @@ use Rattle.phase.specs.declared.Phase.{Phase}
 use Rattle.phase.specs.declared.Phase.the-variants.{Idle, Selecting, Receiving, Responding, SittingOut}
 use Rattle.phase.specs.declared.Progress.the-variants.{Taking, Answered}
 use Rattle.turn.specs.declared.Event.{Event}
-use Rattle.delivery.specs.Calls.{Call, host, submits, acknowledges}
+use Rattle.delivery.specs.Calls.{Call, host, submits, acknowledges, lends, lendsUnit}
 use Rattle.delivery.specs.Demand2.{Run, start, a-round, a-call}
 use Rattle.delivery.specs.World.{World, Busy, levels, round}
 
@@ -124,6 +124,8 @@ abbrev pub callMarks : World → Call → List Mark
 callMarks v (host i call) = hostMarks i call (v .units)
 callMarks v (submits k d response r b) = submissionMarks (submitting (v .controller) k (length d) (length response)) (submitted k d response)
 callMarks v (acknowledges code h) = []
+callMarks v (lends d response) = []
+callMarks v (lendsUnit i buffer) = []
 
 -- The log of a run.
 abbrev pub log : {w v : World} → Run w v → List Mark

@@ -118,11 +118,12 @@ pub data Spoke (T : Moment) (f : Frame) (d found : List ℕ) (m : Moved) (buffer
       → m ≡ over f (Complete (replyStatus r) (length (answerData p))) → buffer ≡ received (isSubmitted (f .kind)) (answerData p) found
       → insideOf st ≡ responded (insideOf before) r → Sits st → Spoke T f d found m buffer ss st
 
--- What the types and the calls say of a frame: its command and data, and that what is lent is long enough.
+-- What the types and the calls say of a frame: its command and data, and that what is lent is long enough. A service frame asks for none.
 pub record Framed (f : Frame) (lent found : List ℕ) (timeout : ℕ) : Type 0 where
   pub sent : Sent (f .command) (dataOf f lent)
   pub announced : f .«data_length» ≡ length (dataOf f lent)
   pub room : f .command .«buffer_length» ≤ length found
+  pub service : isSubmitted (f .kind) ≡ false → f .command .«buffer_length» ≡ 0
   pub fits : lentTo f (length lent) (length found) ≡ AsLent
   pub eight : 8 ≤ timeout
 

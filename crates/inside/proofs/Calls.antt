@@ -3,16 +3,19 @@ use mathlib.Core.Path.{_≡_, refl}
 use mathlib.Core.Bool.{Bool, true, false, cond}
 use mathlib.Core.List.{[], _∷_}
 use lib.Dec.{eqb}
+use lib.ListN.{length}
 use Rattle.bus.specs.declared.Station.{Station}
-use Rattle.host.specs.Calls.{feedingIn, takingIn, raisingIn}
+use Rattle.host.specs.Calls.{feeding, feedingIn, takingIn, raisingIn}
 use Rattle.kind.specs.Kinds.{kindOf, isFed}
 use Rattle.kind.specs.declared.Kind.{Kind}
-use Rattle.message.specs.Answer.{Answer, gives, refused}
-use Rattle.queue.specs.Queue.{popped, queueWith, room}
+use Rattle.message.specs.Answer.{Answer, gives, refused, kept}
+use Rattle.queue.specs.Queue.{popped, queueWith, bytesWith, room}
 use Rattle.queue.specs.declared.Popped.{Popped}
 use Rattle.queue.specs.declared.Popped.the-variants.{Byte, Nothing}
+use Rattle.queue.proofs.Laws.{length-with}
 use Rattle.serial.specs.Serial.{withInput, withRequest}
 use Rattle.serial.specs.declared.Serial.{Serial}
+use Rattle.unit.specs.declared.Unit.{Unit}
 use Rattle.inside.specs.Calls.{HostCall, feeds, takes, raises, calledBy, called, stateAfter}
 use Rattle.inside.specs.Inside.{Inside, insideOf, hasRequest}
 
@@ -41,6 +44,16 @@ unit-called raises st = by (raisingIn (st .unit .serial)) refl
     by : (a : Answer Serial) → raisingIn (st .unit .serial) ≡ a → Called raises st (calledBy raises st)
     by (gives s) e = record { own = rw e; retry = rw e; quiet = rw e; asking = rw e; phase = rw e; buffer = refl; inside = rw e }
     by (refused k) e = record { own = rw e; retry = rw e; quiet = rw e; asking = rw e; phase = rw e; buffer = refl; inside = rw e }
+
+-- A unit's memory stays as long as it was.
+pub input-length : (call : HostCall) (st : Station) → length (calledBy call st .input) ≡ length (st .input)
+input-length (feeds b h) st = by (feeding (st .unit) b)
+  where
+    by : (a : Answer Unit) → length (kept a (bytesWith (st .input) (st .unit .serial .input) (b ∷ [])) (st .input)) ≡ length (st .input)
+    by (gives u) = length-with (st .input) (st .unit .serial .input) (b ∷ [])
+    by (refused k) = refl
+input-length takes st = refl
+input-length raises st = refl
 
 -- No call ends a request.
 pub request-called : (kind : Kind) (x : Inside) (call : HostCall) → hasRequest x ≡ true → hasRequest (called kind call x) ≡ true

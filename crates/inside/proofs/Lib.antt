@@ -5,3 +5,4 @@ pub mod Queues
 pub mod SerialUnit
 pub mod Lawful
 pub mod Round
+pub mod Written

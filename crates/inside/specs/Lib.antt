@@ -2,3 +2,4 @@ pub mod Inside
 pub mod Calls
 pub mod Lawful
 pub mod Last
+pub mod Written

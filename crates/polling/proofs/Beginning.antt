@@ -13,7 +13,7 @@ use Rattle.bus.specs.declared.Station.{Station}
 use Rattle.controller.specs.Calls.{stepping}
 use Rattle.controller.specs.Controller.{isIdle, controllerStep, eventIn}
 use Rattle.controller.specs.declared.Controller.{Controller}
-use Rattle.delivery.specs.Calls.{Call, host as at-unit, submits, acknowledges, called, calledAt, calledAll}
+use Rattle.delivery.specs.Calls.{Call, host as at-unit, submits, acknowledges, lends, lendsUnit, called, calledAt, calledAll, bufferAt, withBuffer, inFrame}
 use Rattle.delivery.specs.Demand2.{QuietStart, Run, a-round, a-call}
 use Rattle.delivery.specs.Lists.{Has, here, there}
 use Rattle.delivery.specs.World.{World, Busy, levels, round}
@@ -83,10 +83,19 @@ behind-at (suc i) call here = as-it-is here
 behind-at zero call (there h) = as-it-is (there h)
 behind-at (suc i) call (there h) = deeper (behind-at i call h)
 
+behind-lent : (t : Bool) (i : ℕ) (buffer : List ℕ) {ss : List Station} {st : Station} → Has st ss → Behind st (cond t ss (bufferAt i buffer ss))
+behind-lent true i buffer h = as-it-is h
+behind-lent false zero buffer {st = st} here = record { unit = withBuffer buffer st; has = here; waits = record { retry = refl; quiet = refl; asking = refl; request = λ e. e } }
+behind-lent false (suc i) buffer here = as-it-is here
+behind-lent false zero buffer (there h) = as-it-is (there h)
+behind-lent false (suc i) buffer (there h) = deeper (behind-lent false i buffer h)
+
 behind-call : (v : World) (call : Call) {st : Station} → Has st (v .units) → Behind st (called v call .units)
 behind-call v (at-unit i call) h = behind-at i call h
 behind-call v (submits k d response r b) h = as-it-is h
 behind-call v (acknowledges code x) h = as-it-is h
+behind-call v (lends d response) h = as-it-is h
+behind-call v (lendsUnit i buffer) h = behind-lent (inFrame (v .controller .stage)) i buffer h
 
 -- No call empties the ring.
 some-call : (v : World) (call : Call) → 0 < counted (v .controller .ring) → 0 < counted (called v call .controller .ring)
@@ -111,6 +120,8 @@ some-call v (acknowledges code x) h = by (isMarked code (live (v .controller .ri
         let long : length (withMark false code entries) ≡ length entries = marked-length false code entries in
         omega arith
     by false e = h
+some-call v (lends d response) h = h
+some-call v (lendsUnit i buffer) h = h
 
 -- A row of calls.
 calls-run : {w v : World} (calls : List Call) → Run w v → Run w (calledAll v calls)

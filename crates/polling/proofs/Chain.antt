@@ -11,8 +11,8 @@ use Rattle.bus.specs.Bus.{stationStep}
 use Rattle.bus.specs.declared.Station.{Station}
 use Rattle.controller.specs.Controller.{isIdle}
 use Rattle.controller.specs.declared.Controller.{Controller}
-use Rattle.delivery.specs.Calls.{Call, host, submits as submitsTo, acknowledges as acknowledgesTo, called, calledAt}
-use Rattle.delivery.specs.Demand2.{QuietStart, Run, start, a-round, a-call, Took, takes-it, took-it, inFrame, Changed, unchanged, fixed-now, done-now}
+use Rattle.delivery.specs.Calls.{Call, host, submits as submitsTo, acknowledges as acknowledgesTo, lends, lendsUnit, called, calledAt, inFrame}
+use Rattle.delivery.specs.Demand2.{QuietStart, Run, start, a-round, a-call, Took, takes-it, took-it, Changed, unchanged, fixed-now, done-now}
 use Rattle.delivery.specs.Lists.{All, none, also, One, this, that, Has, here, there}
 use Rattle.delivery.specs.Promised.{Moment}
 use Rattle.delivery.specs.Stages.{On, rests, submitted, ended, runs, InFrame, begins, sends, hears, waits, Goes, on, answered, unanswered, Spoke, spoke, addressed, movedIn, Sound, Sits, Fresh, idles, selects, Talk, talks, isResponding, answerData}
@@ -26,6 +26,7 @@ use Rattle.answer.specs.declared.Response.the-variants.{Complete}
 use Rattle.polling.proofs.Handing.{Shape, a-command, a-poll, a-null, Shapes, shape-since}
 use Rattle.delivery.proofs.Part.{low-step}
 use Rattle.delivery.proofs.Rest.{high-step}
+use Rattle.delivery.proofs.Calls.{all-lends}
 use Rattle.delivery.proofs.Run.{in-frame-called}
 use Rattle.inside.proofs.Ors.{or-left}
 use Rattle.delivery.proofs.Lists.{has-all, all-map, all-zip, all-step, all-becomes}
@@ -60,7 +61,7 @@ use Rattle.polling.specs.BusMoves.{moveOf, movesOf, toldIn}
 use Rattle.polling.specs.History.{isPending, since, isHanded, settles}
 use Rattle.polling.specs.Moves.{Move, submits, acknowledges, after, running, begins as beginsIn, services, isBegun, Without, ahead, eventOf}
 use Rattle.polling.proofs.History.{Ok, ok-after, ok-since, front-mark, agrees-mark}
-use Rattle.polling.proofs.OnTheBus.{made, has-round, has-called, run-coded, runs-it, RunsOne, runs-one, frame-running, isFrame, addressed-own, frame-told, frame-held, spoken, said-by, said-handed, took-fit, hushed-none}
+use Rattle.polling.proofs.OnTheBus.{made, has-round, has-called, has-lent, run-coded, runs-it, RunsOne, runs-one, frame-running, isFrame, addressed-own, frame-told, frame-held, spoken, said-by, said-handed, took-fit, hushed-none}
 use Rattle.polling.proofs.Turns.{Placed, no-service, one-nearer, in-front, placed, none-counted, one-counted}
 use Rattle.polling.proofs.Places.{Found}
 use Rattle.polling.proofs.Does.{held as heldBy, still as none-begins, and-false}
@@ -321,6 +322,8 @@ services-then (a-call {v = x} more (acknowledgesTo code h)) ms =
     let f = services-then more (m ∷ []) in
     let c = split (x .controller) m ms in
     omega arith
+services-then (a-call more (lends d response)) ms = services-then more ms
+services-then (a-call more (lendsUnit i buffer)) ms = services-then more ms
 
 -- Neither a submission nor an acknowledgement begins a service frame.
 submit-none : (c : Controller) (k : Command) (n room : ℕ) → beginsIn c (submits k n room) ≡ false
@@ -472,10 +475,18 @@ module _ (w v : World) (own : ℕ) (q : QuietStart w) (r : Run w v) where
   call-stand {x} more (acknowledgesTo code h) calm (waits-on has requests found ok sum) =
       let m = acknowledges code in
       move-stand more m (a-call more (acknowledgesTo code h)) refl refl (services-then more (m ∷ [])) (acknowledge-none (x .controller) code) refl calm has requests found ok sum
+  call-stand more (lends d response) calm (waits-on has requests found ok sum) = waits-on has requests found ok sum
+  call-stand {x} more (lendsUnit i buffer) calm (waits-on has requests found ok sum) =
+      let t = inFrame (x .controller .stage) in
+      waits-on (has-lent own t i buffer has) (all-lends t i buffer (λ st p. p) requests) found ok sum
   call-stand {x} more (host i call) calm (polled-now has requests run old) =
       call-polled more (host i call) has requests run old (has-called own i call has) (requests-called own i call requests)
   call-stand {x} more (submitsTo c d response p b) calm (polled-now has requests run old) = call-polled more (submitsTo c d response p b) has requests run old has requests
   call-stand {x} more (acknowledgesTo code h) calm (polled-now has requests run old) = call-polled more (acknowledgesTo code h) has requests run old has requests
+  call-stand more (lends d response) calm (polled-now has requests run old) = call-polled more (lends d response) has requests run old has requests
+  call-stand {x} more (lendsUnit i buffer) calm (polled-now has requests run old) =
+      let t = inFrame (x .controller .stage) in
+      call-polled more (lendsUnit i buffer) has requests run old (has-lent own t i buffer has) (all-lends t i buffer (λ st p. p) requests)
 
   stand : {u : World} (more : Run v u) → HasCode own (v .units) → All (Requests own) (v .units) → Found own (live (v .controller .ring)) → Ok own false (v .controller) → Calm own more → Stand more
   stand start has requests found ok calm = waits-on has requests found ok (omega arith)

@@ -15,16 +15,17 @@ use Rattle.bus.specs.declared.Station.{Station}
 use Rattle.controller.specs.Calls.{stepping, ifLent}
 use Rattle.controller.specs.Controller.{eventIn, eventAfter}
 use Rattle.controller.specs.declared.Controller.{Controller}
-use Rattle.delivery.specs.Calls.{Call, host, submits as submitsTo, acknowledges as acknowledgesTo, called, calledAt}
-use Rattle.delivery.specs.Demand2.{QuietStart, Run, start, a-round, a-call, Took, takes-it, took-it, inFrame}
+use Rattle.delivery.specs.Calls.{Call, host, submits as submitsTo, acknowledges as acknowledgesTo, lends, lendsUnit, called, calledAt, bufferAt, inFrame}
+use Rattle.delivery.specs.Demand2.{QuietStart, Run, start, a-round, a-call, Took, takes-it, took-it}
 use Rattle.delivery.specs.Lists.{All, none, also, One, this, that, Has, here, there}
 use Rattle.delivery.specs.Promised.{Moment}
 use Rattle.delivery.specs.Stages.{On, rests, submitted, ended, runs, InFrame, Goes, on, answered, unanswered, Spoke, spoke, Hushed, not-its-own, by-the-rule, addressed, movedIn, Sound, Sits, answerData, begins, sends, hears, waits, AtRest, is-free, is-resting}
 use Rattle.delivery.specs.World.{World, Busy, levels, round, Becomes, in-front, behind}
-use Rattle.delivery.proofs.Demand2.{on-nibble, every-run, every-response, every-step, taken-once, frame-runs, on-sound}
+use Rattle.delivery.proofs.Demand2.{on-nibble, every-run, every-response, every-step, taken-once, on-sound}
 use Rattle.delivery.proofs.Lists.{all-map, all-step}
 use Rattle.delivery.proofs.Frame.{own-kept, becomes-all}
-use Rattle.delivery.proofs.Run.{frame-busy}
+use Rattle.delivery.proofs.Calls.{all-lends}
+use Rattle.delivery.proofs.Run.{frame-busy, frame-runs}
 use Rattle.frame.specs.Frame.{pollOf, over, lentAt}
 use Rattle.frame.specs.declared.Frame.{Frame}
 use Rattle.frame.specs.declared.Lent.{Lent}
@@ -68,6 +69,8 @@ called-moves : (v : World) (call : Call) (ms : List Move) → afterAll (called v
 called-moves v (host i call) ms = refl
 called-moves v (submitsTo k d response r b) ms = refl
 called-moves v (acknowledgesTo code h) ms = refl
+called-moves v (lends d response) ms = refl
+called-moves v (lendsUnit i buffer) ms = refl
 
 pub run-moves : {w v : World} (r : Run w v) (ms : List Move) → afterAll (v .controller) ms ≡ afterAll (w .controller) (movesOf r ms)
 run-moves start ms = refl
@@ -96,6 +99,13 @@ has-called own (suc i) call (it-has e) = it-has e
 has-called own zero call (later h) = later h
 has-called own (suc i) call (later h) = later (has-called own i call h)
 
+pub has-lent : (own : ℕ) (t : Bool) (i : ℕ) (buffer : List ℕ) {ss : List Station} → HasCode own ss → HasCode own (cond t ss (bufferAt i buffer ss))
+has-lent own true i buffer h = h
+has-lent own false zero buffer (it-has e) = it-has e
+has-lent own false (suc i) buffer (it-has e) = it-has e
+has-lent own false zero buffer (later h) = later h
+has-lent own false (suc i) buffer (later h) = later (has-lent own false i buffer h)
+
 becomes-has : {own : ℕ} {seen : Lines} {hosts : ℕ} {ss : List Station} {st after : Station} → Becomes seen hosts ss st after → st .unit .own ≡ own → HasCode own ss
 becomes-has in-front e = it-has e
 becomes-has (behind b) e = later (becomes-has b e)
@@ -107,6 +117,8 @@ took-has w _ q (a-round {v = v} r busy) own x (took-it i t) = has-round own (lev
 took-has w _ q (a-call {v = v} r (host i call)) own x t = has-called own i call (took-has w v q r own x t)
 took-has w _ q (a-call {v = v} r (submitsTo k d response y b)) own x t = took-has w v q r own x t
 took-has w _ q (a-call {v = v} r (acknowledgesTo code h)) own x t = took-has w v q r own x t
+took-has w _ q (a-call {v = v} r (lends d response)) own x t = took-has w v q r own x t
+took-has w _ q (a-call {v = v} r (lendsUnit i buffer)) own x t = has-lent own (inFrame (v .controller .stage)) i buffer (took-has w v q r own x t)
 
 -- No unit has code 0.
 abbrev Coded : Station → Type 0
@@ -123,6 +135,8 @@ every-coded w _ q (a-round {v = v} r busy) = all-step (levels v) (λ st host p e
 every-coded w _ q (a-call {v = v} r (host i call)) = coded-at i call (every-coded w v q r)
 every-coded w _ q (a-call {v = v} r (submitsTo k d response x b)) = every-coded w v q r
 every-coded w _ q (a-call {v = v} r (acknowledgesTo code h)) = every-coded w v q r
+every-coded w _ q (a-call {v = v} r (lends d response)) = every-coded w v q r
+every-coded w _ q (a-call {v = v} r (lendsUnit i buffer)) = all-lends (inFrame (v .controller .stage)) i buffer (λ st p. p) (every-coded w v q r)
 
 has-coded : (own : ℕ) {ss : List Station} → HasCode own ss → All Coded ss → own ≡ 0 → ⊥
 has-coded own (it-has e) (also p a) z = p (e ∙ z)

@@ -7,7 +7,8 @@ use mathlib.Core.Bool.{true, false}
 use mathlib.Core.List.{List, [], _∷_}
 use lib.Dec.{eqb}
 use Rattle.bus.specs.declared.Station.{Station}
-use Rattle.delivery.specs.Demand2.{QuietStart, Run, start, a-round, a-call, inFrame}
+use Rattle.delivery.specs.Calls.{inFrame}
+use Rattle.delivery.specs.Demand2.{QuietStart, Run, start, a-round, a-call}
 use Rattle.delivery.specs.Lists.{All}
 use Rattle.delivery.specs.World.{World, Busy}
 use Rattle.frame.specs.declared.Frame.{Frame}

@@ -5,9 +5,9 @@ use mathlib.Core.Path.{_≡_}
 use mathlib.Core.Bool.{true, false, cond}
 use mathlib.Core.List.{List, [], _∷_, _++_}
 use lib.Dec.{lit<}
-use Rattle.delivery.specs.Calls.{Call, host, submits, called}
+use Rattle.delivery.specs.Calls.{Call, host, submits, called, inFrame}
 use Rattle.inside.specs.Calls.{raises}
-use Rattle.delivery.specs.Demand2.{QuietStart, Run, inFrame}
+use Rattle.delivery.specs.Demand2.{QuietStart, Run}
 use Rattle.delivery.specs.Lists.{All}
 use Rattle.kind.specs.Kinds.{kindOf}
 use Rattle.ring.specs.Ring.{live, isMarked}

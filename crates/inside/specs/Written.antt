@@ -1,0 +1,43 @@
+-- Document 01, "The serial peripheral", write: more than the output room is answered 08 and none is stored, else all is stored. What is
+-- stored stands behind what the output queue held.
+use Prim.Native.Nat.{ℕ, _≤_}
+use mathlib.Core.Path.{_≡_}
+use mathlib.Core.List.{List, _++_}
+use lib.ListN.{length}
+use Rattle.header.specs.declared.Command.{Command}
+use Rattle.kind.specs.Kinds.{verdictOf}
+use Rattle.kind.specs.declared.Kind.{Kind}
+use Rattle.queue.specs.Queue.{contents, room}
+use Rattle.reply.specs.Reply.{replyStatus}
+use Rattle.serial.specs.declared.Effect.the-variants.{Stores}
+use Rattle.inside.specs.Inside.{Inside, taken, replyFor, takenFor}
+
+-- What a unit's output queue holds, oldest byte first.
+abbrev pub outgoing : Inside → List ℕ
+outgoing x = contents (x .output) (x .state .output)
+
+-- Of any kind: data for which there is room, where the verdict on a command stores it, in the 256 bytes that the unit is lent for output.
+abbrev pub StoredBehind : Type 0
+StoredBehind =
+    (kind : Kind) (x : Inside) (c : Command) (n : ℕ) (d : List ℕ)
+    → length (x .output) ≡ 256
+    → verdictOf kind (x .state) c n d .effect ≡ Stores
+    → length d ≤ room (x .state .output)
+    → outgoing (taken kind x c n d) ≡ outgoing x ++ d
+
+-- A write, 04, whose answer has status 00 was accepted: there was room, and its whole data stands at the back.
+abbrev pub WrittenBehind : Type 0
+WrittenBehind =
+    (own : ℕ) (x : Inside) (c : Command) (d : List ℕ)
+    → length (x .output) ≡ 256
+    → c .command ≡ 0x04
+    → replyStatus (replyFor own x c d) ≡ 0x00
+    → outgoing (takenFor own x c d) ≡ outgoing x ++ d
+
+-- A write with any other answer, or with none, leaves all that is inside the unit.
+abbrev pub WrittenNone : Type 0
+WrittenNone =
+    (own : ℕ) (x : Inside) (c : Command) (d : List ℕ)
+    → c .command ≡ 0x04
+    → (replyStatus (replyFor own x c d) ≡ 0x00 → ⊥)
+    → takenFor own x c d ≡ x
