@@ -23,5 +23,6 @@ pub mod Story
 pub mod Completed
 pub mod Listened
 pub mod Waited
+pub mod Logged
 pub mod FramesEnd
 pub mod TheBus

@@ -134,14 +134,14 @@ not-answering e (answering sender wait z) = true≢false (sym (ap isResponding z
 pub answers-at : {phase : Phase} {r r′ : Reply} {j j′ : ℕ} {sender : Sender} {wait : Bool} → phase ≡ Responding r j sender wait → Answering phase r′ j′ → j′ ≡ j
 answers-at e (answering sender wait z) = sym (ap indexOf z) ∙ ap indexOf e
 
-abbrev placeIn : Stage → ℕ
+abbrev pub placeIn : Stage → ℕ
 placeIn Free = 0
 placeIn (Resting first) = 0
 placeIn (Waiting f) = 0
 placeIn (Sending f i sender wait) = i
 placeIn (Listening f ear taken quiet) = 0
 
-abbrev isSending : Stage → Bool
+abbrev pub isSending : Stage → Bool
 isSending Free = false
 isSending (Resting first) = false
 isSending (Waiting f) = false
