@@ -209,7 +209,7 @@ in-frame-sound (sends i sender framed d s l a) = all-map (λ st p. p .1) a
 in-frame-sound (hears ear taken quiet framed d l o) = one-all (λ st p. p .1) (λ st p. p .1) o
 in-frame-sound (waits quiet framed d a why) = all-map (λ st p. p .1) a
 
-rest-pulls : {stage : Stage} → AtRest stage → pullsOf stage ≡ released
+pub rest-pulls : {stage : Stage} → AtRest stage → pullsOf stage ≡ released
 rest-pulls is-free = refl
 rest-pulls is-resting = refl
 

@@ -24,5 +24,6 @@ pub mod Completed
 pub mod Listened
 pub mod Waited
 pub mod Logged
+pub mod Between
 pub mod FramesEnd
 pub mod TheBus

@@ -73,6 +73,21 @@ Plain (does own e) = Unit
 Plain (asks own call) = Unit
 Plain (submitted k d response) = ⊥
 
+-- Marks with which no frame begins.
+abbrev pub Same : Mark → Type 0
+Same (begins f lent found) = ⊥
+Same (acts a) = Unit
+Same (does own e) = Unit
+Same (asks own call) = Unit
+Same (submitted k d response) = Unit
+
+pub plain-same : (m : Mark) → Plain m → Same m
+plain-same (begins f lent found) p = p
+plain-same (acts a) p = p
+plain-same (does own e) p = p
+plain-same (asks own call) p = p
+plain-same (submitted k d response) p = absurd p
+
 abbrev pub grown : Capture → List Mark → Capture
 grown l ms = record { frame = l .frame; lent = l .lent; found = l .found; marks = l .marks ++ ms }
 
@@ -82,21 +97,21 @@ grown-one l m ms = ap (λ (x : List Mark). record { frame = l .frame; lent = l .
 grown-none : (l : Capture) → grown l [] ≡ l
 grown-none l = ap (λ (x : List Mark). record { frame = l .frame; lent = l .lent; found = l .found; marks = x }) (append-nil (l .marks))
 
-pub cut-plain : (l : Capture) (ls : List Capture) {ms : List Mark} → All Plain ms → cutAll (l ∷ ls) ms ≡ grown l ms ∷ ls
-cut-plain l ls none = ap (λ (x : Capture). x ∷ ls) (sym (grown-none l))
-cut-plain l ls (also {x = begins f lent found} p a) = absurd p
-cut-plain l ls (also {x = acts y} {xs = ms} p a) = cut-plain _ ls a ∙ ap (λ (x : Capture). x ∷ ls) (grown-one l (acts y) ms)
-cut-plain l ls (also {x = does own e} {xs = ms} p a) = cut-plain _ ls a ∙ ap (λ (x : Capture). x ∷ ls) (grown-one l (does own e) ms)
-cut-plain l ls (also {x = asks own call} {xs = ms} p a) = cut-plain _ ls a ∙ ap (λ (x : Capture). x ∷ ls) (grown-one l (asks own call) ms)
-cut-plain l ls (also {x = submitted k d response} p a) = absurd p
+pub cut-same : (l : Capture) (ls : List Capture) {ms : List Mark} → All Same ms → cutAll (l ∷ ls) ms ≡ grown l ms ∷ ls
+cut-same l ls none = ap (λ (x : Capture). x ∷ ls) (sym (grown-none l))
+cut-same l ls (also {x = begins f lent found} p a) = absurd p
+cut-same l ls (also {x = acts y} {xs = ms} p a) = cut-same _ ls a ∙ ap (λ (x : Capture). x ∷ ls) (grown-one l (acts y) ms)
+cut-same l ls (also {x = does own e} {xs = ms} p a) = cut-same _ ls a ∙ ap (λ (x : Capture). x ∷ ls) (grown-one l (does own e) ms)
+cut-same l ls (also {x = asks own call} {xs = ms} p a) = cut-same _ ls a ∙ ap (λ (x : Capture). x ∷ ls) (grown-one l (asks own call) ms)
+cut-same l ls (also {x = submitted k d response} {xs = ms} p a) = cut-same _ ls a ∙ ap (λ (x : Capture). x ∷ ls) (grown-one l (submitted k d response) ms)
 
-pub cut-nothing : {ms : List Mark} → All Plain ms → _≡_ {A = List Capture} (cutAll [] ms) []
+pub cut-nothing : {ms : List Mark} → All Same ms → _≡_ {A = List Capture} (cutAll [] ms) []
 cut-nothing none = refl
 cut-nothing (also {x = begins f lent found} p a) = absurd p
 cut-nothing (also {x = acts y} p a) = cut-nothing a
 cut-nothing (also {x = does own e} p a) = cut-nothing a
 cut-nothing (also {x = asks own call} p a) = cut-nothing a
-cut-nothing (also {x = submitted k d response} p a) = absurd p
+cut-nothing (also {x = submitted k d response} p a) = cut-nothing a
 
 pub due-plain : (due : Due) {ms : List Mark} → All Plain ms → dueAll due ms ≡ due
 due-plain due none = refl

@@ -153,7 +153,7 @@ abbrev pub released : Lines
 released = record { bav = false; hsk = false; nibble = 15 }
 
 module _ (units : List Station) (a : All (λ (st : Station). Fresh st × Sound st) units) where
-  rest-hsk : levelsWith released units .hsk ≡ false
+  pub rest-hsk : levelsWith released units .hsk ≡ false
   rest-hsk = hsk-high released refl (all-map (λ st p. fresh-hsk (p .0)) a)
 
   pub rest-nibble : levelsWith released units .nibble < 16

@@ -94,14 +94,14 @@ frame-runs (sends j sender framed d s l a) = refl
 frame-runs (hears ear taken quiet framed d l o) = refl
 frame-runs (waits quiet framed d a why) = refl
 
-frame-kept : {T : Moment} {f : Frame} {found : List ℕ} {w : World} → InFrame T f found w → isKept (w .controller .stage) ≡ isSubmitted (f .kind)
+pub frame-kept : {T : Moment} {f : Frame} {found : List ℕ} {w : World} → InFrame T f found w → isKept (w .controller .stage) ≡ isSubmitted (f .kind)
 frame-kept (begins framed d a) = refl
 frame-kept (sends j sender framed d s l a) = refl
 frame-kept (hears ear taken quiet framed d l o) = refl
 frame-kept (waits quiet framed d a why) = refl
 
 -- A frame that is not a submitted command's has no data of the caller's, and nothing of its response is stored.
-same-data : (f : Frame) (lent d : List ℕ) → isSubmitted (f .kind) ≡ false → dataOf f lent ≡ dataOf f d
+pub same-data : (f : Frame) (lent d : List ℕ) → isSubmitted (f .kind) ≡ false → dataOf f lent ≡ dataOf f d
 same-data f lent d e = ap (λ (t : Bool). cond t lent []) e ∙ sym (ap (λ (t : Bool). cond t d []) e)
 
 either-way : (t : Bool) (buffer : List ℕ) → cond t buffer buffer ≡ buffer
