@@ -25,5 +25,6 @@ pub mod Listened
 pub mod Waited
 pub mod Logged
 pub mod Between
+pub mod Called
 pub mod FramesEnd
 pub mod TheBus
