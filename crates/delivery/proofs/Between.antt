@@ -138,3 +138,10 @@ module _ (timeout : ℕ) (ring : Ring) (seen : Lines) (host : Bool) (lent respon
   rest-marks event after (Waiting f) u e q = none-begun u q
   rest-marks event after (Sending f i sender wait) u e q = absurd (true≢false e)
   rest-marks event after (Listening f ear taken quiet) u e q = absurd (true≢false e)
+
+  pub begun-marks : (event : Event) (after : List ℕ) (stage : Stage) → inFrame stage ≡ false → inFrame (next stage) ≡ true → stageMarks stage (next stage) seen event lent response after ≡ begunBy (next stage) lent response
+  begun-marks event after Free e q = refl
+  begun-marks event after (Resting first) e q = absurd (rests-on (ltb 15 (seen .nibble)) first q)
+  begun-marks event after (Waiting f) e q = refl
+  begun-marks event after (Sending f i sender wait) e q = absurd (true≢false e)
+  begun-marks event after (Listening f ear taken quiet) e q = absurd (true≢false e)

@@ -26,5 +26,6 @@ pub mod Waited
 pub mod Logged
 pub mod Between
 pub mod Called
+pub mod Captured
 pub mod FramesEnd
 pub mod TheBus

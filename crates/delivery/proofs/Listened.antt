@@ -78,7 +78,7 @@ heard-acts false n rest = refl
 pub same-given : {c : Command} {d : List ℕ} {own : ℕ} {r r′ : Reply} {j j′ : ℕ} {e : List Deed} (s : Stands c d own r j e) (s′ : Stands c d own r′ j′ e) → s′ .given ≡ s .given
 same-given s s′ = only s (s′ .given) (stands-has s′)
 
-becomes-after : {P : Station → Type 0} {seen : Lines} {hosts : ℕ} {ss : List Station} {st after : Station} → Becomes seen hosts ss st after → All P (unitsAfter seen hosts ss) → P after
+pub becomes-after : {P : Station → Type 0} {seen : Lines} {hosts : ℕ} {ss : List Station} {st after : Station} → Becomes seen hosts ss st after → All P (unitsAfter seen hosts ss) → P after
 becomes-after in-front (also p a) = p
 becomes-after (behind b) (also p a) = becomes-after b a
 
