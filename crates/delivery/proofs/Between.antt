@@ -21,10 +21,10 @@ use Rattle.turn.specs.declared.Event.{Event}
 use Rattle.delivery.specs.Calls.{inFrame}
 use Rattle.delivery.specs.Lists.{All, none, also}
 use Rattle.delivery.specs.Log.{Deed, does, deedsBy, stationDeeds, unitsMarks, stageMarks, begunBy}
-use Rattle.delivery.specs.Promised.{Moment}
-use Rattle.delivery.specs.Stages.{Fresh, idles, selects, Sits, On, rests, submitted, ended, runs}
-use Rattle.delivery.specs.World.{World, levels, round}
-use Rattle.delivery.proofs.Demand2.{rest-pulls}
+use Rattle.delivery.proofs.Promised.{Moment}
+use Rattle.delivery.proofs.Stages.{Fresh, idles, selects, Sits, On, rests, submitted, ended, runs}
+use Rattle.delivery.specs.World.{World, levels}
+use Rattle.delivery.proofs.EveryRound.{rest-pulls}
 use Rattle.delivery.proofs.Lists.{all-map}
 use Rattle.delivery.proofs.Rest.{released, rest-hsk}
 use Rattle.delivery.proofs.Run.{frame-runs}

@@ -16,11 +16,11 @@ use Rattle.line.specs.declared.Listener.{Listener}
 use Rattle.message.specs.Answer.{Answer, gives, refused, kept}
 use Rattle.phase.specs.declared.Phase.{Phase}
 use Rattle.delivery.specs.Calls.{Call, host, submits, acknowledges, lends, lendsUnit, called, calledAt, bufferAt, inFrame, foundAfter}
-use Rattle.delivery.specs.Deliver.{Answerer, nobody, unit, actsOf, Answers, Hushes, not-meant, by-the-rule, codesOf}
+use Rattle.delivery.specs.Demand2.{Answerer, nobody, unit, actsOf, Answers, Hushes, not-meant, by-the-rule, codesOf}
 use Rattle.delivery.specs.Lists.{All, none, also, Has, Pairs, no-pair, a-pair}
 use Rattle.delivery.specs.Log.{Act, Deed, settled, Mark, submitted, callMarks, submissionMarks, Capture, actsIn, deedsIn}
-use Rattle.delivery.specs.Promised.{Moment}
-use Rattle.delivery.specs.Stages.{InFrame, isResponding}
+use Rattle.delivery.proofs.Promised.{Moment}
+use Rattle.delivery.proofs.Stages.{InFrame, isResponding}
 use Rattle.delivery.specs.World.{World}
 use Rattle.delivery.proofs.Completed.{Complete, one-both}
 use Rattle.delivery.proofs.Deeds.{Did}

@@ -19,10 +19,10 @@ use Rattle.line.specs.declared.Sender.{Sender}
 use Rattle.phase.specs.declared.Phase.{Phase}
 use Rattle.whole.specs.Whole.{bytesFor}
 use Rattle.delivery.specs.Calls.{calledAt, withBuffer, bufferAt}
-use Rattle.delivery.specs.Heard.{Heard}
+use Rattle.delivery.proofs.Taking.{Heard}
 use Rattle.delivery.specs.Lists.{All, none, also, One, this, that}
-use Rattle.delivery.specs.Promised.{Moment, Promised}
-use Rattle.delivery.specs.Stages.{Fresh, Part, Sits, Sound, Talk, addressed, answers, idles, listens, selects, sits, talks}
+use Rattle.delivery.proofs.Promised.{Moment, Promised}
+use Rattle.delivery.proofs.Stages.{Fresh, Part, Sits, Sound, Talk, addressed, answers, idles, listens, selects, sits, talks}
 use Rattle.delivery.proofs.Promise.{promise-called}
 
 -- A unit that is sound is so behind a call.

@@ -21,17 +21,18 @@ use Rattle.message.specs.Answer.{Answer, gives, refused, kept}
 use Rattle.turn.specs.declared.Event.{Event}
 use lib.ListN.{length}
 use Rattle.delivery.specs.Calls.{Call, host, submits, acknowledges, lends, lendsUnit, called, inFrame}
-use Rattle.delivery.specs.Deliver.{codesOf}
-use Rattle.delivery.specs.Demand2.{QuietStart, Run, start, a-round, a-call, Took, takes-it, took-it}
+use Rattle.delivery.specs.Demand2.{codesOf}
+use Rattle.delivery.specs.Run.{QuietStart, Run, start, a-round, a-call}
+use Rattle.delivery.proofs.Rounds.{Took, takes-it, took-it}
 use Rattle.delivery.specs.Lists.{All, none, also, Has, here, there}
 use Rattle.delivery.specs.Log.{Act, sent, heard, told, acts, settled, Mark, stageMarks, begunBy, endedBy, roundMarks, callMarks, log, Capture, cutAll, framesOf, deedsIn}
-use Rattle.delivery.specs.Promised.{Moment}
-use Rattle.delivery.specs.Stages.{Fresh, idles, selects, InFrame, begins, sends, hears, waits, On, rests, submitted, ended, runs, is-free, is-resting, isAnswered}
+use Rattle.delivery.proofs.Promised.{Moment}
+use Rattle.delivery.proofs.Stages.{Fresh, idles, selects, InFrame, begins, sends, hears, waits, On, rests, submitted, ended, runs, is-free, is-resting, isAnswered}
 use Rattle.delivery.specs.World.{World, Busy, levels, round}
 use Rattle.delivery.proofs.Between.{isBegun, nothing-between, begins-by, buffer-rests, rest-marks, begun-marks}
 use Rattle.delivery.proofs.Called.{Idle, call-idle, complete-idle, alike-called, codes-alike, story-called}
 use Rattle.delivery.proofs.Completed.{Complete, codes-after}
-use Rattle.delivery.proofs.Demand2.{every-run, every-response, in-frame-different, in-frame-low, in-frame-sound, in-frame-step, becomes-step}
+use Rattle.delivery.proofs.EveryRound.{every-run, every-response, in-frame-different, in-frame-low, in-frame-sound, in-frame-step, becomes-step}
 use Rattle.delivery.proofs.Frame.{becomes-all}
 use Rattle.delivery.proofs.Lists.{all-map}
 use Rattle.delivery.proofs.Listened.{becomes-after}

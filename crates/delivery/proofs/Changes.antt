@@ -31,12 +31,12 @@ use Rattle.serial.specs.declared.Reply.{Reply}
 use Rattle.unit.specs.Unit.{pullsHsk}
 use Rattle.whole.specs.Whole.{bytesFor, Sent}
 use Rattle.whole.proofs.Whole.{length-bytes}
-use Rattle.delivery.specs.Demand2.{FixedBy, Changed, unchanged, fixed-now, done-now}
-use Rattle.delivery.specs.Heard.{Heard}
-use Rattle.delivery.specs.Stages.{isAnswered, Fresh, idles, selects, Talk, talks, addressed, Part, listens, answers, sits}
+use Rattle.delivery.proofs.Rounds.{FixedBy, Changed, unchanged, fixed-now, done-now}
+use Rattle.delivery.proofs.Taking.{Heard}
+use Rattle.delivery.proofs.Stages.{isAnswered, Fresh, idles, selects, Talk, talks, addressed, Part, listens, answers, sits}
 use Rattle.delivery.proofs.Heard.{Round, Pair, rests, takes, sends, pair, Waits, waits, heard-waits, Takes, takes-it, Fixed, heard-takes, heard-last, heard-other}
 use Rattle.delivery.proofs.Part.{Stepped, Shows, sees, heard-hsk, heard-open}
-use Rattle.delivery.specs.Promised.{Moment}
+use Rattle.delivery.proofs.Promised.{Moment}
 use Rattle.delivery.proofs.Frame.{fresh-selects}
 
 -- A round that leaves the state and the queues' bytes as they are.

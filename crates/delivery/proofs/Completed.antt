@@ -1,19 +1,17 @@
 -- The end of a frame in its log: who answered, and that every unit has done all that is its part.
-use mathlib.Core.Path.{_≡_, refl, sym, _∙_, ap, subst}
-use mathlib.Core.Bool.{Bool, true, false, cond}
+use mathlib.Core.Path.{_≡_, refl, sym, _∙_, subst}
+use mathlib.Core.Bool.{true, false}
 use mathlib.Core.List.{List, [], _∷_, _++_, map}
 use Prim.Native.Nat.{ℕ, _/_}
-use lib.ListN.{take}
 use Rattle.bus.specs.Bus.{unitsAfter, isOdd}
 use Rattle.bus.specs.declared.Station.{Station}
-use Rattle.header.specs.declared.Command.{Command}
 use Rattle.inside.specs.Inside.{Inside, replyFor}
 use Rattle.line.specs.declared.Lines.{Lines}
 use Rattle.reply.specs.Reply.{isSilent}
-use Rattle.delivery.specs.Deliver.{Answerer, actsOf, deedsOf, Answers, Hushes, not-meant as not-meant-by, by-the-rule, codesOf}
+use Rattle.delivery.specs.Demand2.{Answerer, actsOf, deedsOf, Answers, Hushes, not-meant as not-meant-by, by-the-rule, codesOf}
 use Rattle.delivery.specs.Lists.{All, none, also, One, this, that, Has, here, there}
 use Rattle.delivery.specs.Log.{Capture, Deed, took, settled, spoke, done, actsIn, deedsIn}
-use Rattle.delivery.specs.Stages.{addressed}
+use Rattle.delivery.proofs.Stages.{addressed}
 use Rattle.delivery.proofs.Deeds.{nibblesFor, answerFor, Hush, not-meant, by-rule}
 use Rattle.delivery.proofs.Frame.{own-kept}
 use Rattle.delivery.proofs.Lists.{all-map, all-zip, has-all}

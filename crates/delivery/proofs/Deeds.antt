@@ -2,7 +2,7 @@
 use Prim.Native.Nat.{ℕ, zero, suc, _+_, _*_, _<_, _≤_}
 use native.Mathlib.Omega.{arith}
 use mathlib.Core.Path.{_≡_, refl, sym, _∙_, ap, subst}
-use mathlib.Core.Bool.{Bool, true, false, cond, true≢false, false≢true}
+use mathlib.Core.Bool.{Bool, true, false, cond, true≢false}
 use mathlib.Core.List.{List, [], _∷_, _++_, map, append-nil, append-assoc}
 use borrow.Author.Tests.{ltb-true, ltb-false}
 use lib.Dec.{ltb}
@@ -16,7 +16,7 @@ use Rattle.inside.specs.Inside.{Inside, insideOf, replyFor, dataIn}
 use Rattle.line.specs.Line.{hearOf, takenOf, isReady}
 use Rattle.line.specs.declared.Lines.{Lines}
 use Rattle.line.specs.declared.Listener.{Listener}
-use Rattle.line.specs.declared.Listener.the-variants.{Ready, Holding}
+use Rattle.line.specs.declared.Listener.the-variants.{Ready}
 use Rattle.line.specs.declared.Sender.{Sender}
 use Rattle.line.specs.declared.Sender.the-variants.{Next}
 use Rattle.message.specs.Nibbles.{nibbleIn}
@@ -30,11 +30,11 @@ use Rattle.unit.specs.Unit.{pullsHsk}
 use Rattle.whole.specs.Back.{responseFor}
 use Rattle.whole.specs.Whole.{bytesFor, Sent}
 use Rattle.whole.proofs.Whole.{length-bytes}
-use Rattle.delivery.specs.Heard.{Heard, h-none, h-first, h-byte, h-half}
-use Rattle.delivery.specs.Log.{Deed, took, settled, spoke, done, deedsBy, settledBy}
-use Rattle.delivery.specs.Stages.{isAnswered, Fresh, idles, selects, addressed, Part, listens, answers, sits}
+use Rattle.delivery.proofs.Taking.{Heard, h-none, h-first, h-byte, h-half}
+use Rattle.delivery.specs.Log.{Deed, took, settled, spoke, deedsBy, settledBy}
+use Rattle.delivery.proofs.Stages.{isAnswered, Fresh, idles, selects, addressed, Part, listens, answers, sits}
 use Rattle.delivery.proofs.Frame.{fresh-selects}
-use Rattle.delivery.proofs.Heard.{Pair, rests, takes, sends, pair, Round, Waits, waits, heard-waits, Takes, takes-it, Fixed, heard-takes, heard-last, heard-other}
+use Rattle.delivery.proofs.Heard.{Pair, rests, takes, sends, pair, Waits, waits, heard-waits, Takes, takes-it, Fixed, heard-takes, heard-last, heard-other}
 use Rattle.delivery.proofs.Part.{Stepped, Shows, sees, heard-hsk, heard-open}
 
 abbrev pub nibblesFor : Command → List ℕ → List ℕ

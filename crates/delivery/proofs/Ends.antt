@@ -21,9 +21,9 @@ use Rattle.serial.specs.declared.Reply.{Reply}
 use Rattle.unit.specs.Unit.{pullsHsk}
 use Rattle.whole.specs.Whole.{bytesFor}
 use Rattle.delivery.specs.Ends.{Falls, unitsFree}
-use Rattle.delivery.specs.Heard.{Fits, f-holds, f-waits}
+use Rattle.delivery.proofs.Taking.{Fits, f-holds, f-waits}
 use Rattle.delivery.specs.Lists.{All, none, also}
-use Rattle.delivery.specs.Stages.{Part, listens, answers, sits}
+use Rattle.delivery.proofs.Stages.{Part, listens, answers, sits}
 use Rattle.delivery.proofs.Heard.{Waits, waits, heard-waits}
 use Rattle.delivery.proofs.Part.{Stepped, heard-hsk}
 

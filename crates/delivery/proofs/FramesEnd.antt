@@ -2,7 +2,7 @@
 use Prim.Native.Nat.{ℕ, zero, suc, _+_, _-_, _<_, _≤_}
 use native.Mathlib.Nat.{not-suc-le-zero}
 use native.Mathlib.Omega.{arith}
-use mathlib.Core.Path.{_≡_, refl, sym, _∙_, ap}
+use mathlib.Core.Path.{_≡_, refl, sym, _∙_, ap, subst}
 use mathlib.Core.Bool.{Bool, true, false, cond, not, _&&_, false≢true, and-false}
 use mathlib.Core.List.{List, [], _∷_}
 use Rattle.answer.specs.Answer.{nothingTaken}
@@ -14,19 +14,19 @@ use Rattle.frame.specs.declared.Frame.{Frame}
 use Rattle.frame.specs.declared.Moved.{Moved}
 use Rattle.frame.specs.declared.Stage.the-variants.{Resting}
 use Rattle.unit.specs.Unit.{pullsHsk}
-use Rattle.delivery.specs.Calls.{Call, calledAll, foundAfter, inFrame}
-use Rattle.delivery.specs.Demand2.{Run, start, a-round, a-call}
+use Rattle.delivery.specs.Calls.{Call, calledAll, foundAfter, inFrame, running}
+use Rattle.delivery.specs.Run.{Run, start, a-round, a-call}
 use Rattle.delivery.specs.Ends.{left, unitsFree, isFree, quietly, Falls, Nearer}
-use Rattle.delivery.specs.FramesEnd.{longest, Staying, freeRounds, FramesEnd, FramesEndOnRuns, Ends, has-ended, next-free, FramesEndInTime, EndsQuietly, quiet-ended, next-quiet, QuietlyFree, FramesEndQuietly}
-use Rattle.delivery.specs.Promised.{Moment}
-use Rattle.delivery.specs.Stages.{InFrame, begins, sends, hears, waits, Goes, on, answered, unanswered, Finishes, movedIn, On, rests, submitted, ended, runs}
+use Rattle.delivery.specs.FramesEnd.{longest, Staying, freeRounds, FramesEnd, Ends, has-ended, next-free, FramesEndInTime, EndsQuietly, quiet-ended, next-quiet, QuietlyFree, FramesEndQuietly}
+use Rattle.delivery.proofs.Promised.{Moment}
+use Rattle.delivery.proofs.Stages.{InFrame, begins, sends, hears, waits, Goes, on, answered, unanswered, Finishes, movedIn, On, rests, submitted, ended, runs, is-free, is-resting}
 use Rattle.delivery.specs.World.{World, Busy, levels, round}
-use Rattle.delivery.proofs.Demand2.{wider-frame, every-run}
+use Rattle.delivery.proofs.EveryRound.{wider-frame, every-run}
 use Rattle.delivery.proofs.Frame.{frame-round, one-bound, sits-left}
 use Rattle.delivery.proofs.Left.{left-called}
 use Rattle.delivery.proofs.Listening.{one-known}
 use Rattle.delivery.proofs.Rest.{spoke-moved}
-use Rattle.delivery.proofs.Run.{in-frame-called, frame-runs, rest-free}
+use Rattle.delivery.proofs.Run.{in-frame-called, frame-runs}
 use Rattle.delivery.proofs.Talk.{place-most}
 
 -- Where nothing is asked of the moments.
@@ -78,23 +78,37 @@ at-most f found w (sends i sender framed d s l a) = let four = place-most sender
 at-most f found w (hears ear taken quiet {timeout = timeout} framed d l o) = one-known (λ (x : ℕ). x < longest f timeout) (timeout - quiet) (one-bound f (omega arith) o)
 at-most f found w (waits quiet {timeout = timeout} framed d a why) = let k = sits-left (levels w .hsk) (timeout - quiet) a in omega arith
 
+-- The frame that a run is in.
+record Runs (f : Frame) (v : World) : Type 0 where
+  found : List ℕ
+  frame : InFrame Any f found v
+
+abbrev first : Frame → List Frame → Frame
+first f [] = f
+first f (g ∷ gs) = g
+
+named : {T : Moment} {f : Frame} {found : List ℕ} {v : World} → InFrame T f found v → running (v .controller .stage) ≡ f ∷ []
+named (begins framed d a) = refl
+named (sends i sender framed d s l a) = refl
+named (hears ear taken quiet framed d l o) = refl
+named (waits quiet framed d a why) = refl
+
+nobody-runs : {f : Frame} → _≡_ {A = List Frame} [] (f ∷ []) → ⊥
+nobody-runs e = false≢true (ap isThere e)
+  where
+    isThere : List Frame → Bool
+    isThere [] = false
+    isThere (f ∷ fs) = true
+
+runs-in : {T : Moment} {f : Frame} {v : World} → On T v → running (v .controller .stage) ≡ f ∷ [] → Runs f v
+runs-in (rests is-free eight codes d a) e = absurd (nobody-runs e)
+runs-in (rests is-resting eight codes d a) e = absurd (nobody-runs e)
+runs-in (submitted f framed codes d a) e = absurd (nobody-runs e)
+runs-in (ended eight codes d a) e = absurd (nobody-runs e)
+runs-in {f = f} {v = v} (runs g found x codes) e = record { found = found; frame = subst (λ (y : Frame). InFrame Any y found v) (ap (first f) (sym (named x) ∙ e)) (wider-frame (λ own y t. refl) x) }
+
 pub frames-end : FramesEnd
-frames-end T f found v x = (at-most f found v x, λ u more s. stays-in (wider-frame (λ own y t. refl) x) more s .fewer)
-
--- On a run from a quiet start.
-staying-first : {v u : World} (more : Run v u) → Staying more → inFrame (v .controller .stage) ≡ true
-staying-first start s = s
-staying-first (a-round more busy) s = staying-first more (s .0)
-staying-first (a-call more call) s = staying-first more s
-
-on-ends : {T : Moment} {v u : World} → On T v → inFrame (v .controller .stage) ≡ true → (more : Run v u) → Staying more → left u + freeRounds more ≤ left v
-on-ends (rests r eight codes d a) e more s = absurd (false≢true (sym (rest-free r) ∙ e))
-on-ends (submitted f framed codes d a) e more s = absurd (false≢true e)
-on-ends (ended eight codes d a) e more s = absurd (false≢true e)
-on-ends {T} {v} {u} (runs f found x codes) e more s = frames-end T f found v x .1 u more s
-
-pub frames-end-on-runs : FramesEndOnRuns
-frames-end-on-runs w v u q r more s = on-ends (every-run w v q r) (staying-first more s) more s
+frames-end w v f q r e = let k = runs-in (every-run w v q r) e in (at-most f (k .found) v (k .frame), λ u more s. stays-in (k .frame) more s .fewer)
 
 -- So many free rounds are enough.
 ends-in : (n : ℕ) (f : Frame) (found : List ℕ) (w : World) → left w < n → InFrame Any f found w → Ends n w
@@ -109,8 +123,11 @@ ends-in (suc n) f found w h x =
     by u busy then go (leads-on z nearer) = go z nearer
     by u busy then go (is-over e) = has-ended e
 
+in-time : (f : Frame) (found : List ℕ) (v : World) → InFrame Any f found v → Ends (longest f (v .controller .timeout)) v
+in-time f found v x = ends-in (longest f (v .controller .timeout)) f found v (at-most f found v x) x
+
 pub frames-end-in-time : FramesEndInTime
-frames-end-in-time T f found w x = ends-in (longest f (w .controller .timeout)) f found w (at-most f found w x) (wider-frame (λ own y t. refl) x)
+frames-end-in-time w v f q r e = let k = runs-in (every-run w v q r) e in in-time f (k .found) v (k .frame)
 
 -- A round with no host busy is free.
 units-quiet : (ss : List Station) → unitsFree 0 ss ≡ true
@@ -149,4 +166,4 @@ ends-quietly {f = f} {found = found} {w = w} x (next-free {n = n} go) =
     by calls then go (is-over e) = quiet-ended e
 
 pub frames-end-quietly : FramesEndQuietly
-frames-end-quietly T f found w x = ends-quietly (wider-frame (λ own y t. refl) x) (frames-end-in-time T f found w x)
+frames-end-quietly w v f q r e = let k = runs-in (every-run w v q r) e in ends-quietly (k .frame) (in-time f (k .found) v (k .frame))

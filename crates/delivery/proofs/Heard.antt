@@ -29,7 +29,7 @@ use Rattle.phase.specs.declared.Progress.the-variants.{Taking, Answered}
 use Rattle.whole.specs.Whole.{bytesFor, byteAt, headAt, bufferAt, headerFor, withData, storedOf, Sent}
 use Rattle.whole.proofs.Whole.{bytes-below, next-header, length-bytes, not-last, last, whole-header, whole-buffer, whole-data}
 use Rattle.whole.proofs.Back.{low-nibble, high-nibble, byte-own}
-use Rattle.delivery.specs.Heard.{Fits, f-next, f-placed, f-holds, f-waits, Sees, Heard, h-none, h-first, h-byte, h-half}
+use Rattle.delivery.proofs.Taking.{Fits, f-next, f-placed, f-holds, f-waits, Sees, Heard, h-none, h-first, h-byte, h-half}
 
 -- A round of the pair: nothing changes but the places; or the nibble is taken; or it counts as sent.
 pub data Pair (n : ℕ) (sender : Sender) (ear : Listener) (t : ℕ) (low : Bool) (seen : ℕ) (busy : Bool) : Type 0 where

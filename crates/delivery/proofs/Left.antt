@@ -21,9 +21,9 @@ use Rattle.reply.specs.Reply.{lastNibble}
 use Rattle.unit.specs.Unit.{pullsOf, pullsHsk, pullsNibble}
 use Rattle.delivery.specs.Calls.{Call, host, submits, acknowledges, lends, lendsUnit, calledAt, called, bufferAt}
 use Rattle.delivery.specs.Ends.{left, place, phaseLeft, unitsLeft, stageLeft}
-use Rattle.delivery.specs.Promised.{Moment}
+use Rattle.delivery.proofs.Promised.{Moment}
 use Rattle.delivery.specs.Lists.{All, none, also, One, this, that}
-use Rattle.delivery.specs.Stages.{Sound, Sits, Talk, talks, InFrame, begins, sends, hears, waits}
+use Rattle.delivery.proofs.Stages.{Sound, Sits, Talk, talks, InFrame, begins, sends, hears, waits}
 use Rattle.delivery.specs.World.{World, levels}
 use Rattle.delivery.proofs.Promise.{last-is, promise-called}
 use Rattle.delivery.proofs.Run.{not-idle, frame-busy, frame-runs}

@@ -1,5 +1,9 @@
 pub mod Lists
 pub mod World
+pub mod Taking
+pub mod Promised
+pub mod Stages
+pub mod Rounds
 pub mod Heard
 pub mod Lines
 pub mod Part
@@ -15,7 +19,7 @@ pub mod Rest
 pub mod Run
 pub mod Changes
 pub mod Left
-pub mod Demand2
+pub mod EveryRound
 pub mod Deeds
 pub mod Spoken
 pub mod Logs

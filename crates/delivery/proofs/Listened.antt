@@ -24,11 +24,11 @@ use Rattle.serial.specs.declared.Reply.{Reply}
 use Rattle.unit.specs.Unit.{pullsHsk, pullsNibble}
 use Rattle.delivery.specs.Lists.{All, none, also, One, this, that, Has, here, there}
 use Rattle.delivery.specs.Log.{Act, heard, told, Deed, settled, Mark, acts, deedsBy, endedBy, Capture, actsIn, deedsIn}
-use Rattle.delivery.specs.Promised.{Moment}
-use Rattle.delivery.specs.Stages.{Sits, Sound, Talk, talks, InFrame, hears, on, isResponding, Speaking, Framed, world}
+use Rattle.delivery.proofs.Promised.{Moment}
+use Rattle.delivery.proofs.Stages.{Sits, Sound, Talk, talks, InFrame, hears, isResponding, Speaking, Framed, world}
 use Rattle.delivery.specs.World.{World, Busy, levels, round, Becomes, in-front, behind, Different}
 use Rattle.delivery.proofs.Deeds.{answerFor, Stands, Did, sits-did}
-use Rattle.delivery.proofs.Demand2.{in-frame-nibble, in-frame-low}
+use Rattle.delivery.proofs.EveryRound.{in-frame-nibble, in-frame-low}
 use Rattle.delivery.proofs.Frame.{control, own-kept}
 use Rattle.delivery.proofs.Lists.{all-map, all-zip, all-becomes, one-all}
 use Rattle.delivery.proofs.Listening.{hearing as lines, one-seen, talk-nibble, sits-step}
@@ -41,14 +41,14 @@ use Rattle.inside.specs.Inside.{dataIn}
 use Rattle.reply.specs.Reply.{isSilent, replyStatus}
 use Rattle.turn.specs.Turn.{eventOf}
 use Rattle.whole.specs.Back.{received}
-use Rattle.delivery.specs.Deliver.{unit, actsOf, endBy, codesOf}
-use Rattle.delivery.specs.Stages.{addressed, Finishes, movedIn, Spoke, spoke as spoke-it, answerData}
+use Rattle.delivery.specs.Demand2.{unit, actsOf, endBy, codesOf}
+use Rattle.delivery.proofs.Stages.{addressed, Finishes, movedIn, Spoke, spoke as spoke-it, answerData}
 use Rattle.delivery.proofs.Completed.{Complete, codes-after, all-codes, one-codes, one-both, one-zip, has-one, hush-hushes, hush-part, spoken-has, spoken-part}
 use Rattle.delivery.proofs.Deeds.{Hush}
 use Rattle.delivery.proofs.Listening.{Seen}
 use Rattle.delivery.proofs.Spoken.{took-no, spoke-no, settled-first}
 use Rattle.delivery.specs.Log.{sent, took, spoke, done}
-use Rattle.delivery.specs.Promised.{Promised}
+use Rattle.delivery.proofs.Promised.{Promised}
 use Rattle.frame.specs.declared.Stage.the-variants.{Resting}
 use Rattle.inside.specs.Inside.{replyFor}
 use lib.ListN.{drop}
@@ -293,12 +293,12 @@ module _ {T : Moment} (l : Capture) {found : List ℕ} (ear : Listener) (taken :
             answerer = unit (w .0) (w .1);
             acted = end-of (w .2) spoken;
             answers = one-codes (one-both (λ st k.
-            let own = k .code in
-            record {
-              named = own;
-              meant = subst (λ (n : ℕ). addressed c n ≡ true) own (k .meant);
-              inside = subst (λ (n : ℕ). Has (settled (w .1)) (deedsIn n (later .marks))) own (spoken-has ended (st .unit .own) (w .1) (map spoke (answerFor c d (st .unit .own) (w .1)) ++ (done ∷ [])) (k .deeds));
-              defined = subst (λ (n : ℕ). isSilent (replyFor n (w .1) c d) ≡ false) own (k .defined);
-            }) (λ st q. hush-hushes ended (st .unit .own) (q .1)) (w .2));
+                let own = k .code in
+                record {
+                  named = own;
+                  meant = subst (λ (n : ℕ). addressed c n ≡ true) own (k .meant);
+                  inside = subst (λ (n : ℕ). Has (settled (w .1)) (deedsIn n (later .marks))) own (spoken-has ended (st .unit .own) (w .1) (map spoke (answerFor c d (st .unit .own) (w .1)) ++ (done ∷ [])) (k .deeds));
+                  defined = subst (λ (n : ℕ). isSilent (replyFor n (w .1) c d) ≡ false) own (k .defined);
+                }) (λ st q. hush-hushes ended (st .unit .own) (q .1)) (w .2));
             parts = all-codes (one-all (λ st k. (w .1, spoken-part ended (st .unit .own) (w .1) (k .meant) (k .defined) (k .deeds))) (λ st q. hush-part ended (st .unit .own) (w .1) (q .1)) (w .2));
           })

@@ -1,13 +1,12 @@
 -- A frame that runs, with its log: each round of it leads on in it, or completes it.
-use Prim.Native.Nat.{ℕ, suc, _+_}
+use Prim.Native.Nat.{ℕ}
 use mathlib.Core.Path.{_≡_, refl, sym, _∙_, ap, subst}
 use mathlib.Core.Bool.{Bool, true, false, cond, _||_, true≢false, false≢true}
-use mathlib.Core.List.{List, [], _∷_, _++_, map, append-nil}
+use mathlib.Core.List.{List, [], _∷_, map, append-nil}
 use lib.ListN.{take}
 use lib.Dec.{ltb, eqb}
 use Rattle.answer.specs.Answer.{nothingTaken}
 use Rattle.answer.specs.declared.Response.{Response}
-use Rattle.bus.specs.Bus.{stationStep}
 use Rattle.bus.specs.declared.Station.{Station}
 use Rattle.controller.specs.declared.Controller.{Controller}
 use Rattle.field.specs.Field.{byteFrom}
@@ -31,15 +30,15 @@ use Rattle.phase.specs.declared.Phase.the-variants.{Idle, Selecting, Receiving,
 use Rattle.phase.specs.declared.Progress.the-variants.{Taking, Answered}
 use Rattle.reply.specs.Reply.{lastNibble}
 use Rattle.delivery.specs.Calls.{inFrame}
-use Rattle.delivery.specs.Deliver.{codesOf}
-use Rattle.delivery.specs.Lists.{All, none, also, One, this, that, Has, here, there}
-use Rattle.delivery.specs.Log.{Act, sent, Deed, took, settled, settledBy, deedsBy, Capture, actsIn, deedsIn}
-use Rattle.delivery.specs.Promised.{Moment}
-use Rattle.delivery.specs.Stages.{Fresh, Sits, Sound, Talk, talks, InFrame, begins, sends, hears, waits, Goes, on, answered, unanswered, Spoke, spoke, Finishes, movedIn, isAnswered, isResponding, world}
+use Rattle.delivery.specs.Demand2.{codesOf}
+use Rattle.delivery.specs.Lists.{All, also, One, this, that, Has, here, there}
+use Rattle.delivery.specs.Log.{sent, took, settled, settledBy, deedsBy, Capture, actsIn, deedsIn}
+use Rattle.delivery.proofs.Promised.{Moment}
+use Rattle.delivery.proofs.Stages.{Sits, Sound, Talk, talks, InFrame, begins, sends, hears, waits, Goes, on, answered, unanswered, Spoke, spoke, Finishes, movedIn, isAnswered, isResponding}
 use Rattle.delivery.specs.World.{World, Busy, levels, round}
 use Rattle.delivery.proofs.Completed.{Complete}
 use Rattle.delivery.proofs.Deeds.{nibblesFor}
-use Rattle.delivery.proofs.Demand2.{in-frame-nibble, in-frame-low}
+use Rattle.delivery.proofs.EveryRound.{in-frame-nibble, in-frame-low}
 use Rattle.delivery.proofs.Frame.{control, begin-high}
 use Rattle.delivery.proofs.Listened.{Known, hears-did, hears-acted, hears-complete}
 use Rattle.delivery.proofs.Lists.{all-map, has-all, one-all}

@@ -4,25 +4,21 @@ use mathlib.Core.Path.{_≡_, refl, sym, _∙_, ap}
 use mathlib.Core.Bool.{Bool, true, false, cond}
 use mathlib.Core.List.{List, [], _∷_, _++_, map, append-nil, append-assoc}
 use borrow.Author.Tests.{eq-eqb, ne-eqb}
-use lib.Dec.{eqb}
-use Rattle.application.specs.Calls.{Done}
-use Rattle.bus.specs.Bus.{stationStep, unitsAfter, isOdd}
+use Rattle.bus.specs.Bus.{isOdd}
 use Rattle.bus.specs.declared.Station.{Station}
 use Rattle.frame.specs.Frame.{isSubmitted}
-use Rattle.frame.specs.declared.Frame.{Frame}
 use Rattle.frame.specs.declared.Stage.{Stage}
 use Rattle.frame.specs.declared.Stage.the-variants.{Free, Resting, Waiting, Sending, Listening}
-use Rattle.header.specs.declared.Command.{Command}
 use Rattle.inside.specs.Calls.{HostCall}
 use Rattle.inside.specs.Inside.{insideOf}
 use Rattle.line.specs.Line.{sentOf, takenOf, senderNibble}
 use Rattle.line.specs.declared.Lines.{Lines}
-use Rattle.message.specs.Answer.{Answer, gives, refused}
 use Rattle.turn.specs.declared.Event.{Event}
-use Rattle.delivery.specs.Deliver.{Due, service, command, InTurn, Whole, followingAll, following, codesOf}
+use Rattle.delivery.specs.Demand2.{Due, dueBy, dueAll}
+use Rattle.delivery.specs.Following.{Whole, followingAll, following}
 use Rattle.delivery.specs.Lists.{All, none, also}
-use Rattle.delivery.specs.Log.{Act, sent, heard, told, Deed, Mark, begins, acts, does, asks, submitted, stationDeeds, unitsMarks, stageMarks, begunBy, endedBy, hostMarks, submissionMarks, Capture, withMark, cut, cutAll, actIn, actsIn, deedIn, deedsIn, deedsBy}
-use Rattle.delivery.specs.World.{Becomes, in-front, behind, Different, nobody, another}
+use Rattle.delivery.specs.Log.{Act, sent, heard, told, Deed, Mark, begins, acts, does, asks, submitted, stationDeeds, unitsMarks, stageMarks, begunBy, endedBy, hostMarks, Capture, cut, cutAll, actIn, actsIn, deedIn, deedsIn, deedsBy}
+use Rattle.delivery.specs.World.{Becomes, in-front, behind, Different, another}
 
 -- One after the other.
 pub acts-append : (a b : List Mark) → actsIn (a ++ b) ≡ actsIn a ++ actsIn b
@@ -42,28 +38,9 @@ following-append own u [] b = refl
 following-append own u (m ∷ a) b = following-append own (following own u m) a b
 
 -- What is due behind marks.
-abbrev pub dueBy : Due → Mark → Due
-dueBy due (begins f lent found) = service
-dueBy due (acts a) = due
-dueBy due (does own e) = due
-dueBy due (asks own call) = due
-dueBy due (submitted k d response) = command k d response
-
-abbrev pub dueAll : Due → List Mark → Due
-dueAll due [] = due
-dueAll due (m ∷ ms) = dueAll (dueBy due m) ms
-
 pub due-append : (due : Due) (a b : List Mark) → dueAll due (a ++ b) ≡ dueAll (dueAll due a) b
 due-append due [] b = refl
 due-append due (m ∷ a) b = due-append (dueBy due m) a b
-
-pub turn-append : (due : Due) (a b : List Mark) → InTurn due a → InTurn (dueAll due a) b → InTurn due (a ++ b)
-turn-append due [] b p q = q
-turn-append due (begins f lent found ∷ a) b p q = (p .0, turn-append service a b (p .1) q)
-turn-append due (acts x ∷ a) b p q = turn-append due a b p q
-turn-append due (does own e ∷ a) b p q = turn-append due a b p q
-turn-append due (asks own call ∷ a) b p q = turn-append due a b p q
-turn-append due (submitted k d response ∷ a) b p q = turn-append (command k d response) a b p q
 
 -- Marks with which no frame begins and nothing is submitted.
 abbrev pub Plain : Mark → Type 0
@@ -120,14 +97,6 @@ due-plain due (also {x = acts y} p a) = due-plain due a
 due-plain due (also {x = does own e} p a) = due-plain due a
 due-plain due (also {x = asks own call} p a) = due-plain due a
 due-plain due (also {x = submitted k d response} p a) = absurd p
-
-pub turn-plain : (due : Due) {ms : List Mark} → All Plain ms → InTurn due ms
-turn-plain due none = tt
-turn-plain due (also {x = begins f lent found} p a) = absurd p
-turn-plain due (also {x = acts y} p a) = turn-plain due a
-turn-plain due (also {x = does own e} p a) = turn-plain due a
-turn-plain due (also {x = asks own call} p a) = turn-plain due a
-turn-plain due (also {x = submitted k d response} p a) = absurd p
 
 pub all-append {ℓ κ} : {A : Type ℓ} {P : A → Type κ} {xs ys : List A} → All P xs → All P ys → All P (xs ++ ys)
 all-append none b = b

@@ -29,8 +29,8 @@ use Rattle.serial.specs.declared.Reply.{Reply}
 use Rattle.unit.specs.Unit.{pullsHsk, pullsNibble}
 use Rattle.whole.specs.Whole.{bytesFor, Sent}
 use Rattle.whole.proofs.Whole.{length-bytes}
-use Rattle.delivery.specs.Stages.{isAnswered, Part, addressed, answers, listens, sits}
-use Rattle.delivery.specs.Heard.{Fits, f-next, f-holds, f-waits, Sees, Heard, h-none, h-first, h-byte, h-half}
+use Rattle.delivery.proofs.Stages.{isAnswered, Part, addressed, answers, listens, sits}
+use Rattle.delivery.proofs.Taking.{Fits, f-next, f-holds, f-waits, Sees, Heard, h-none, h-first, h-byte, h-half}
 use Rattle.delivery.proofs.Heard.{Pair, rests, takes, sends, pair, Round, Waits, waits, heard-waits, Takes, takes-it, Fixed, heard-takes, heard-last, heard-other}
 
 -- What a round with BAV seen low makes of a unit.

@@ -19,8 +19,8 @@ use Rattle.reply.proofs.Laws.{length-data}
 use Rattle.serial.specs.declared.Reply.{Reply}
 use Rattle.whole.specs.Back.{Answered, responseFor, lengthOf}
 use Rattle.whole.specs.Whole.{storedOf}
-use Rattle.delivery.specs.Promised.{Moment, Promised}
-use Rattle.delivery.specs.Stages.{answerData, answerBytes}
+use Rattle.delivery.proofs.Promised.{Moment, Promised}
+use Rattle.delivery.proofs.Stages.{answerData, answerBytes}
 
 module _ {T : Moment} {own : ℕ} {c : Command} {d : List ℕ} {r : Reply} {x : Inside} (p : Promised T own c d r x) where
   data-stands : dataIn x r ≡ answerData p

@@ -36,9 +36,9 @@ use Rattle.ring.proofs.Laws.{live-ring, live-below, marked-length}
 use Rattle.turn.specs.Turn.{turnOf, ringBy, ringEnded}
 use Rattle.unit.specs.Unit.{pullsNibble}
 use Rattle.whole.specs.Whole.{Sent}
-use Rattle.delivery.specs.Stages.{AtRest, Codes, Finishes, Framed, Fresh, Goes, InFrame, Noted, On, Sits, Sound, Spoke, answerData, answered, begins, ended, hears, idles, is-free, is-resting, movedIn, on, rests, runs, selects, sends, spoke, submitted, unanswered, waits, world}
+use Rattle.delivery.proofs.Stages.{AtRest, Codes, Finishes, Framed, Fresh, Goes, InFrame, Noted, On, Sits, Sound, Spoke, answerData, answered, begins, ended, hears, idles, is-free, is-resting, movedIn, on, rests, runs, selects, sends, spoke, submitted, unanswered, waits, world}
 use Rattle.delivery.specs.Calls.{host}
-use Rattle.delivery.specs.Promised.{Moment}
+use Rattle.delivery.proofs.Promised.{Moment}
 use Rattle.delivery.specs.Lists.{All, none, also, One, this, that}
 use Rattle.delivery.specs.World.{World, Busy, round, Different}
 use Rattle.delivery.proofs.Lists.{all-map, all-step, one-all}

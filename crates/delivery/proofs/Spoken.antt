@@ -1,5 +1,5 @@
 -- The unit that responds and the controller beside it, in one round: what each of them does then.
-use Prim.Native.Nat.{ℕ, zero, suc, _+_, _-_, _*_, _<_, _≤_}
+use Prim.Native.Nat.{ℕ, suc, _+_, _-_, _<_, _≤_}
 use native.Mathlib.Omega.{arith}
 use mathlib.Core.Path.{_≡_, refl, sym, _∙_, ap, subst}
 use mathlib.Core.Bool.{Bool, true, false, cond, _||_, true≢false}
@@ -14,7 +14,7 @@ use Rattle.field.specs.Field.{nibbles}
 use Rattle.field.proofs.Laws.{length-nibbles}
 use Rattle.header.specs.declared.Command.{Command}
 use Rattle.inside.specs.Inside.{Inside, insideOf, replyFor, dataIn}
-use Rattle.line.specs.Line.{hearOf, takenOf, sendOf, sentOf, listenerHsk, senderHsk, senderNibble}
+use Rattle.line.specs.Line.{hearOf, takenOf, sendOf, sentOf, listenerHsk, senderNibble}
 use Rattle.line.specs.declared.Lines.{Lines}
 use Rattle.line.specs.declared.Listener.{Listener}
 use Rattle.line.specs.declared.Listener.the-variants.{Ready, Holding, Waiting}
@@ -27,16 +27,15 @@ use Rattle.phase.specs.declared.Phase.{Phase}
 use Rattle.phase.specs.declared.Phase.the-variants.{Responding, SittingOut}
 use Rattle.queue.specs.Queue.{contents}
 use Rattle.reply.specs.Reply.{isSilent, replyStatus, responseBytes, lastNibble}
-use Rattle.serial.specs.Serial.{finished}
 use Rattle.serial.specs.declared.Reply.{Reply}
 use Rattle.unit.specs.Unit.{pullsHsk, pullsNibble}
 use Rattle.whole.specs.Back.{responseFor, lengthOf}
-use Rattle.delivery.specs.Heard.{Fits, f-next, f-placed, f-holds, f-waits}
+use Rattle.delivery.proofs.Taking.{Fits, f-next, f-placed, f-holds, f-waits}
 use Rattle.delivery.specs.Log.{Act, sent, heard, Deed, took, settled, spoke, done, deedsBy, doneBy}
 use Rattle.delivery.specs.Lists.{Has, here, there}
-use Rattle.delivery.specs.Promised.{Moment, Promised}
-use Rattle.delivery.specs.Stages.{addressed, Talk, talks, answerData, answerBytes}
-use Rattle.delivery.proofs.Deeds.{nibblesFor, answerFor, Stands, Did, one-more, map-append}
+use Rattle.delivery.proofs.Promised.{Moment, Promised}
+use Rattle.delivery.proofs.Stages.{addressed, Talk, talks, answerData, answerBytes}
+use Rattle.delivery.proofs.Deeds.{nibblesFor, answerFor, Stands, Did, one-more}
 use Rattle.delivery.proofs.Heard.{Pair, rests, takes, sends, pair}
 use Rattle.delivery.proofs.Part.{Stepped}
 use Rattle.delivery.proofs.Promise.{last-is}

@@ -30,9 +30,9 @@ use Rattle.serial.specs.declared.Reply.{Reply}
 use Rattle.unit.specs.Unit.{pullsHsk}
 use Rattle.whole.specs.Whole.{bytesFor, Sent}
 use Rattle.whole.proofs.Whole.{length-bytes}
-use Rattle.delivery.specs.Stages.{isAnswered, Part, Sends, Sound, s-kept, s-next, s-placed}
+use Rattle.delivery.proofs.Stages.{isAnswered, Part, Sends, Sound, s-kept, s-next, s-placed}
 use Rattle.delivery.specs.Lists.{All}
-use Rattle.delivery.specs.Promised.{Moment, Promised}
+use Rattle.delivery.proofs.Promised.{Moment, Promised}
 use Rattle.delivery.specs.World.{Becomes}
 use Rattle.delivery.proofs.Lines.{hsk-kept, bav-kept, hsk-high, hsk-own, nibble-kept}
 use Rattle.delivery.proofs.Lists.{all-map, all-zip, all-step, all-becomes}

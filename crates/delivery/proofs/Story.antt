@@ -40,12 +40,12 @@ use Rattle.serial.specs.declared.Reply.the-variants.{Silent}
 use Rattle.whole.specs.Whole.{bytesFor}
 use Rattle.whole.proofs.Whole.{length-bytes}
 use Rattle.delivery.specs.Lists.{All, Has, here, there}
-use Rattle.delivery.specs.Log.{Act, sent, heard, told, Deed, took, settled, spoke, done, Mark, acts, deedsBy, unitsMarks, stageMarks, roundMarks, Capture, actsIn, deedsIn}
-use Rattle.delivery.specs.Promised.{Moment, Promised}
-use Rattle.delivery.specs.Stages.{Fresh, idles, selects, Sound, Sends, s-next, s-placed, s-kept, Part, InFrame, sends, on, isResponding, spoke, Framed, world}
-use Rattle.delivery.specs.World.{World, Busy, levels, round, Becomes, behind, Different}
+use Rattle.delivery.specs.Log.{Act, sent, heard, Deed, took, settled, spoke, Mark, acts, deedsBy, unitsMarks, stageMarks, roundMarks, Capture, actsIn, deedsIn}
+use Rattle.delivery.proofs.Promised.{Moment, Promised}
+use Rattle.delivery.proofs.Stages.{Fresh, idles, selects, Sound, Sends, s-next, s-placed, s-kept, Part, InFrame, sends, isResponding, spoke, Framed, world}
+use Rattle.delivery.specs.World.{World, Busy, levels, round, Becomes, Different}
 use Rattle.delivery.proofs.Deeds.{nibblesFor, answerFor, Stands, Did, one-more, part-did, fresh-did}
-use Rattle.delivery.proofs.Demand2.{in-frame-nibble, in-frame-low, in-frame-different}
+use Rattle.delivery.proofs.EveryRound.{in-frame-nibble, in-frame-low, in-frame-different}
 use Rattle.delivery.proofs.Frame.{control, own-kept}
 use Rattle.delivery.proofs.Lines.{hsk-own}
 use Rattle.delivery.proofs.Lists.{all-zip, all-becomes}

@@ -30,11 +30,11 @@ use Rattle.message.proofs.Fields.{below-take, below-drop}
 use Rattle.unit.specs.Unit.{newUnit}
 use Rattle.unit.specs.declared.Unit.{Unit}
 use Rattle.delivery.specs.Calls.{Call, host, submits, acknowledges, lends, lendsUnit, calledAt, inFrame, withBuffer, bufferAt}
-use Rattle.delivery.specs.Demand2.{New, Run, start, a-round, a-call}
+use Rattle.delivery.specs.Run.{New, Run, start, a-round, a-call}
 use Rattle.delivery.specs.Lists.{All, none, also}
 use Rattle.delivery.specs.TheBus.{Caller, Typed, worldIn, withUnits, callerWith, Made, no-unit, one-more, Starts, busyOf, roundOn, Rounds, Outcomes, stationIn, withStation, atUnit, calledOn, Fitting, Calls, Uses, as-it-was, then-round, then-call, UsesRun, Tells}
 use Rattle.delivery.specs.World.{Different, nobody, another}
-use Rattle.delivery.proofs.Demand2.{every-step}
+use Rattle.delivery.proofs.EveryRound.{every-step}
 use Rattle.delivery.proofs.World.{the-bus}
 
 -- A bus whose units are these.

@@ -18,10 +18,10 @@ use Rattle.line.specs.declared.Sender.the-variants.{Next}
 use Rattle.reply.specs.Reply.{isSilent}
 use Rattle.serial.specs.declared.Reply.{Reply}
 use Rattle.whole.specs.Whole.{storedOf}
-use Rattle.delivery.specs.Stages.{Hushed, not-its-own, by-the-rule, Sits, Sound, Talk, addressed, talks}
-use Rattle.delivery.specs.Heard.{f-next}
+use Rattle.delivery.proofs.Stages.{Hushed, not-its-own, by-the-rule, Sits, Sound, Talk, addressed, talks}
+use Rattle.delivery.proofs.Taking.{f-next}
 use Rattle.delivery.specs.Lists.{All, none, also, One, this, that}
-use Rattle.delivery.specs.Promised.{Moment, Promised}
+use Rattle.delivery.proofs.Promised.{Moment, Promised}
 use Rattle.delivery.specs.World.{Different, nobody, another}
 use Rattle.delivery.proofs.Part.{Turned, speaks, silent, Hush, not-mine, ruled}
 

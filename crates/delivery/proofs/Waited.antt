@@ -16,18 +16,18 @@ use Rattle.phase.specs.declared.Phase.{Phase}
 use Rattle.ring.specs.declared.Ring.{Ring}
 use Rattle.delivery.specs.Lists.{All, here, there}
 use Rattle.delivery.specs.Log.{Act, heard, told, acts, endedBy, Capture, actsIn, deedsIn}
-use Rattle.delivery.specs.Promised.{Moment}
-use Rattle.delivery.specs.Stages.{Sits, Sound, InFrame, isResponding, Framed, world}
+use Rattle.delivery.proofs.Promised.{Moment}
+use Rattle.delivery.proofs.Stages.{Sits, Sound, InFrame, isResponding, Framed, world}
 use Rattle.delivery.specs.World.{World, Busy, levels, round, Different}
 use Rattle.delivery.proofs.Deeds.{Did, sits-did}
-use Rattle.delivery.proofs.Demand2.{in-frame-nibble, in-frame-low}
+use Rattle.delivery.proofs.EveryRound.{in-frame-nibble, in-frame-low}
 use Rattle.delivery.proofs.Frame.{control, own-kept}
 use Rattle.delivery.proofs.Lists.{all-map, all-zip, all-becomes}
 use Rattle.delivery.proofs.Story.{DidAt, Acted, listening-so, laterOf, acts-now, did-now, not-answering, step-in}
 use Rattle.controller.specs.Controller.{eventAfter}
 use Rattle.turn.specs.Turn.{eventOf}
-use Rattle.delivery.specs.Deliver.{unit, endBy, codesOf}
-use Rattle.delivery.specs.Stages.{Finishes, movedIn}
+use Rattle.delivery.specs.Demand2.{unit, endBy, codesOf}
+use Rattle.delivery.proofs.Stages.{Finishes, movedIn}
 use Rattle.delivery.proofs.Completed.{Complete, all-codes, hush-hushes, hush-part}
 use Rattle.delivery.proofs.Deeds.{Hush}
 use Rattle.delivery.specs.Log.{sent}
@@ -36,8 +36,8 @@ use mathlib.Core.List.{map}
 use Rattle.delivery.proofs.Deeds.{nibblesFor}
 use Rattle.frame.specs.declared.Moved.{Moved}
 use Rattle.answer.specs.Answer.{nothingTaken}
-use Rattle.delivery.specs.Deliver.{nobody}
-use Rattle.delivery.specs.Stages.{waits, Hushed}
+use Rattle.delivery.specs.Demand2.{nobody}
+use Rattle.delivery.proofs.Stages.{waits, Hushed}
 use Rattle.delivery.specs.Log.{acts}
 use Rattle.delivery.proofs.Listening.{still-hsk, units-sit}
 use Rattle.delivery.proofs.Listened.{listening-next}

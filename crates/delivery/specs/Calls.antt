@@ -8,6 +8,7 @@ use Rattle.application.specs.Calls.{submitting, controllerSubmitted, controller
 use Rattle.bus.specs.declared.Station.{Station}
 use Rattle.field.specs.Field.{Below}
 use Rattle.frame.specs.Frame.{isSubmitted}
+use Rattle.frame.specs.declared.Frame.{Frame}
 use Rattle.frame.specs.declared.Stage.{Stage}
 use Rattle.frame.specs.declared.Stage.the-variants.{Free, Resting, Waiting, Sending, Listening}
 use Rattle.header.specs.Header.{InRange}
@@ -31,6 +32,14 @@ isKept (Resting again) = false
 isKept (Waiting f) = isSubmitted (f .kind)
 isKept (Sending f i sender wait) = isSubmitted (f .kind)
 isKept (Listening f ear taken quiet) = isSubmitted (f .kind)
+
+-- The frame that runs, in the stages from its beginning to its end.
+abbrev pub running : Stage → List Frame
+running Free = []
+running (Resting again) = []
+running (Waiting f) = []
+running (Sending f i sender wait) = f ∷ []
+running (Listening f ear taken quiet) = f ∷ []
 
 -- "Each step is lent a command buffer ... The caller keeps it for the frame, a premise of demand 2." So a unit's is kept while a frame runs.
 abbrev pub inFrame : Stage → Bool

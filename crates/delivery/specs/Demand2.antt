@@ -1,180 +1,148 @@
 -- Demand 2: "On a bus run in rounds, from a quiet start, with one controller, different codes and no step refused, each nibble sent
 -- reaches the addressed unit once and in order; code 0 addresses all. That unit gives the one response defined for its state, or the
 -- defined silence. No other unit's opening, queues, enabling or request is changed by the frame."
--- The statements; `proofs/Demand2.antt` proves them. Where the parties can be is in `Stages`, the bus in `World` and `Calls`.
-use Prim.Native.Nat.{ℕ, suc, _*_, _≤_}
+-- `QuietStart` and `Run` are the bus, `log` what happens on it. `proofs/Demand2.antt` proves the theorem.
+use Prim.Native.Nat.{ℕ, _<_, _≤_, min}
 use mathlib.Core.Path.{_≡_}
-use mathlib.Core.Bool.{Bool, true, false}
-use mathlib.Core.List.{List}
-use lib.ListN.{length}
-use Rattle.whole.specs.Back.{takenAt}
-use Rattle.answer.specs.declared.Response.{Response}
-use Rattle.answer.specs.Answer.{nothingTaken}
-use Rattle.bus.specs.Bus.{stationStep}
+use mathlib.Core.Bool.{Bool, true, false, cond, _||_}
+use mathlib.Core.List.{List, [], _∷_, _++_, map}
+use lib.Dec.{eqb}
+use lib.ListN.{length, take, drop}
 use Rattle.bus.specs.declared.Station.{Station}
-use Rattle.controller.specs.Calls.{stepping}
-use Rattle.message.specs.Answer.{gives}
-use Rattle.turn.specs.declared.Event.{Event}
-use Rattle.controller.specs.Controller.{newController}
-use Rattle.frame.specs.Frame.{dataOf}
+use Rattle.field.specs.Field.{nibbles}
+use Rattle.frame.specs.Frame.{isSubmitted, submittedFrame}
 use Rattle.frame.specs.declared.Frame.{Frame}
-use Rattle.frame.specs.declared.Stage.the-variants.{Resting, Sending, Listening}
 use Rattle.header.specs.declared.Command.{Command}
-use Rattle.inside.specs.Inside.{Inside, insideOf, replyFor, takenFor, responded}
-use Rattle.inside.specs.Lawful.{Lent}
-use Rattle.kind.specs.Kinds.{kindOf, isShort}
-use Rattle.line.specs.declared.Listener.{Listener}
-use Rattle.line.specs.declared.Sender.{Sender}
-use Rattle.phase.specs.declared.Phase.the-variants.{Receiving, Responding, SittingOut}
-use Rattle.phase.specs.declared.Progress.the-variants.{Answered}
+use Rattle.inside.specs.Inside.{Inside, insideOf, replyFor, dataIn}
+use Rattle.reply.specs.Reply.{isSilent, replyStatus}
 use Rattle.serial.specs.declared.Reply.{Reply}
-use Rattle.unit.specs.Calls.{stepping as unitStepping}
-use Rattle.unit.specs.Unit.{newUnit}
-use Rattle.unit.specs.declared.Unit.{Unit}
+use Rattle.turn.specs.Turn.{eventOf}
+use Rattle.unit.specs.Unit.{pullsOf}
+use Rattle.whole.specs.Back.{responseFor}
 use Rattle.whole.specs.Whole.{bytesFor}
-use Rattle.delivery.specs.Calls.{Call, called, foundAfter, inFrame}
-use Rattle.delivery.specs.Heard.{Heard}
-use Rattle.delivery.specs.Lists.{All, One}
-use Rattle.delivery.specs.Promised.{Moment, Promised}
-use Rattle.delivery.specs.Stages.{addressed, isAnswered, Noted, InFrame, Goes, On, answerBytes, Sits}
-use Rattle.delivery.specs.World.{World, Busy, levels, round, Becomes, Different}
+use Rattle.delivery.specs.Calls.{inFrame}
+use Rattle.delivery.specs.Run.{QuietStart, Run}
+use Rattle.delivery.specs.Lists.{All, One, Has, Pairs, Front}
+use Rattle.delivery.specs.Following.{wholeOf, followingAll}
+use Rattle.delivery.specs.Log.{Act, sent, heard, told, Deed, took, settled, spoke, done, Mark, begins, acts, does, asks, submitted, roundMarks, log, unitsMarks, Capture, framesOf, actsIn, deedsIn}
+use Rattle.delivery.specs.World.{World, Busy, levels}
 
--- A quiet start: every party is new, and each unit is lent its memory. The time-out is the controller's own setting. Own code 0 is
--- refused when a unit is made.
-pub record New (st : Station) : Type 0 where
-  pub own : ℕ
-  pub retry : ℕ
-  pub coded : own ≡ 0 → ⊥
-  pub is-new : st .unit ≡ newUnit own retry
-  pub room : isShort (kindOf own) (length (st .buffer)) ≡ false
-  pub lent : Lent (kindOf own) (insideOf st)
+-- A frame's message. Own code or code 0 is addressed.
+abbrev pub message : Capture → List ℕ
+message l = nibbles (bytesFor (l .frame .command) (l .lent))
 
-pub record QuietStart (w : World) : Type 0 where
-  pub timeout : ℕ
-  pub least : 8 ≤ timeout
-  pub is-new : w .controller ≡ newController timeout
-  pub units : All New (w .units)
-  pub codes : Different (w .units)
+abbrev pub isAddressed : Capture → ℕ → Bool
+isAddressed l own = eqb (l .frame .command .device) own || eqb (l .frame .command .device) 0
 
--- A run: rounds, with any hosts busy, and calls of any hosts between any two of them, in mid-frame too.
-pub data Run (w : World) : World → Type 0 where
-  start : Run w w
-  a-round : {v : World} → Run w v → (busy : Busy) → Run w (round v busy)
-  a-call : {v : World} → Run w v → (call : Call) → Run w (called v call)
+-- The one response of the unit with a code in which x is inside as it takes the last nibble.
+abbrev pub replyTo : Capture → ℕ → Inside → Reply
+replyTo l own x = replyFor own x (l .frame .command) (l .lent)
 
--- Behind a round the unit with this code has taken the last nibble, with x inside it: in this round, or, as was known before, in an
--- earlier one of the same frame.
-pub data TookBy (v : World) (busy : Busy) (before : Moment) (own : ℕ) (x : Inside) : Type 0 where
-  takes-it :
-      (st after : Station) → Becomes (levels v) (busy .there) (v .units) st after → isAnswered (st .unit .phase) ≡ false → isAnswered (after .unit .phase) ≡ true
-      → st .unit .own ≡ own → insideOf st ≡ x → TookBy v busy before own x
-  took-it : inFrame (v .controller .stage) ≡ true → before own x → TookBy v busy before own x
+abbrev pub response : Capture → ℕ → Inside → List ℕ
+response l own x = nibbles (responseFor (dataIn x (replyTo l own x)) (replyStatus (replyTo l own x)))
 
--- So on a run: in the frame that runs, or has just ended.
-abbrev pub Took : {w v : World} → Run w v → Moment
-Took start = λ own x. ⊥
-Took (a-round {v = v} r busy) = TookBy v busy (Took r)
-Took (a-call r call) = Took r
+-- All that this unit does in the frame: it takes each nibble once, and gives its response, or is silent. One that is not addressed takes
+-- the device code.
+abbrev pub answerOf : Capture → ℕ → Inside → List Deed
+answerOf l own x = cond (isSilent (replyTo l own x)) [] (map spoke (response l own x) ++ (done ∷ []))
 
--- A run from a quiet start is always at rest, or in a frame.
-abbrev pub Runs : Type 0
-Runs = (w v : World) → QuietStart w → (r : Run w v) → On (Took r) v
+abbrev pub deedsOf : Capture → ℕ → Inside → List Deed
+deedsOf l own x = cond (isAddressed l own) (map took (message l) ++ (settled x ∷ answerOf l own x)) (map took (take 2 (message l)))
 
--- No step is refused: neither the controller's nor any unit's.
-abbrev pub Steps : Type 0
-Steps =
-    (w v : World)
-    → QuietStart w
-    → Run w v
-    → (busy : Bool)
-    → ((e : Event) × (stepping (v .controller) (levels v) busy (v .lent) (v .response) ≡ gives e))
-    × All (λ (st : Station). (u : Unit) × (unitStepping (st .unit) (levels v) busy (st .buffer) (st .input) ≡ gives u)) (v .units)
+-- All that the controller does, by who answers: it sends each nibble once, takes each of the response once, and tells the application
+-- status and count, with the data at the front of the response buffer and the rest unchanged; or FF and 0, with the buffer unchanged.
+pub data Answerer : Type 0 where
+  nobody : Answerer
+  unit : (own : ℕ) → Inside → Answerer
 
--- Each round of a frame leads on in it, or ends it: with the status, the data and the count that the whole-message definition gives for
--- what was inside the addressed unit when the last nibble was taken, at the front of the response buffer that the frame found, and what
--- waited done; or with nothing taken (FF), where no response is defined. T is whatever is known of the moments in which last nibbles are
--- taken:
-abbrev pub Frames : Type 1
-Frames = (T : Moment) (f : Frame) (found : List ℕ) (w : World) → (busy : Busy) → Noted T w busy → InFrame T f found w → Goes T f found w busy
+abbrev pub statusBy : Capture → Answerer → ℕ
+statusBy l nobody = 0xFF
+statusBy l (unit own x) = replyStatus (replyTo l own x)
 
--- so on a run those are the moments in which the units took it, in this very frame.
-abbrev pub Responses : Type 0
-Responses = (w v : World) (r : Run w v) (f : Frame) (found : List ℕ) → InFrame (Took r) f found v → (busy : Busy) → Goes (Took (a-round r busy)) f found v busy
+abbrev pub dataBy : Capture → Answerer → List ℕ
+dataBy l nobody = []
+dataBy l (unit own x) = dataIn x (replyTo l own x)
 
--- And a unit takes the last nibble of a frame once: there is one such moment.
-abbrev pub TakenOnce : Type 0
-TakenOnce = (w v : World) → QuietStart w → (r : Run w v) (own : ℕ) (x y : Inside) → Took r own x → Took r own y → x ≡ y
+abbrev pub heardBy : Capture → Answerer → List ℕ
+heardBy l nobody = []
+heardBy l (unit own x) = response l own x
 
--- A call in mid-frame leaves the frame as it is. One that lends a service frame another response buffer has it stand there as found.
-abbrev pub FramesCalled : Type 1
-FramesCalled = (T : Moment) (f : Frame) (found : List ℕ) (w : World) → InFrame T f found w → (call : Call) → InFrame T f (foundAfter w call found) (called w call)
+abbrev pub endBy : Capture → Answerer → Act
+endBy l a = told (eventOf (l .frame) (statusBy l a) (length (dataBy l a))) (cond (isSubmitted (l .frame .kind)) (dataBy l a ++ drop (length (dataBy l a)) (l .found)) [])
 
--- Delivery. While nibble i of a command is sent, each unit has taken the first i nibbles of it, or one more: each once and in order. A
--- unit that the command does not address sits out behind the device code. When the last is taken, the reply is fixed.
-pub data Delivered (T : Moment) (c : Command) (d : List ℕ) (i : ℕ) (st : Station) : Type 0 where
-  listening : (ear : Listener) (k : ℕ) → i ≤ k → k ≤ suc i → (2 ≤ k → addressed c (st .unit .own) ≡ true) → Heard (bytesFor c d) ear k (st .unit .phase) (st .buffer) → Delivered T c d i st
-  whole :
-      (ear : Listener) (r : Reply) → addressed c (st .unit .own) ≡ true → suc i ≡ 2 * length (bytesFor c d) → st .unit .phase ≡ Receiving ear (Answered r)
-      → Promised T (st .unit .own) c d r (insideOf st) → Delivered T c d i st
-  sitting : (now : Bool) → addressed c (st .unit .own) ≡ false → st .unit .phase ≡ SittingOut now → Delivered T c d i st
+abbrev pub actsOf : Capture → Answerer → List Act
+actsOf l a = map sent (message l) ++ (map heard (heardBy l a) ++ (endBy l a ∷ []))
 
-abbrev pub Delivery : Type 0
-Delivery =
-    (w v : World) (f : Frame) (i : ℕ) (sender : Sender)
-    → QuietStart w
-    → (r : Run w v)
-    → v .controller .stage ≡ Sending f i sender false
-    → All (Delivered (Took r) (f .command) (dataOf f (v .lent)) i) (v .units)
+-- Who answers: the one addressed unit for which a response is defined, with what was inside it at the last nibble; nobody, where every
+-- addressed unit's definition says silence, or no unit has the code.
+pub data Hushes (l : Capture) (own : ℕ) : Type 0 where
+  not-meant : isAddressed l own ≡ false → Hushes l own
+  by-the-rule : (x : Inside) → Has (settled x) (deedsIn own (l .marks)) → isSilent (replyTo l own x) ≡ true → Hushes l own
 
--- The same for the response. While the controller listens, one unit responds, and the controller has taken the first j nibbles of its
--- response, which count as sent, or one more: each once and in order. Or nobody does, and nothing was taken.
-pub data Returned (T : Moment) (c : Command) (d : List ℕ) (taken : Response) (st : Station) : Type 0 where
-  returned :
-      (r : Reply) (j k : ℕ) (sender : Sender) (wait : Bool) → st .unit .phase ≡ Responding r j sender wait → (p : Promised T (st .unit .own) c d r (insideOf st)) → j ≤ k → k ≤ suc j
-      → taken ≡ takenAt (answerBytes p) (c .«buffer_length») k → Returned T c d taken st
+pub record Speaks (l : Capture) (own : ℕ) (x : Inside) (code : ℕ) : Type 0 where
+  pub named : code ≡ own
+  pub meant : isAddressed l own ≡ true
+  pub inside : Has (settled x) (deedsIn own (l .marks))
+  pub defined : isSilent (replyTo l own x) ≡ false
 
-pub data Back (T : Moment) (c : Command) (d : List ℕ) (taken : Response) (ss : List Station) : Type 0 where
-  from-one : One (Returned T c d taken) Sits ss → Back T c d taken ss
-  from-nobody : All Sits ss → taken ≡ nothingTaken → Back T c d taken ss
+abbrev pub Answers : List ℕ → Capture → Answerer → Type 0
+Answers codes l nobody = All (Hushes l) codes
+Answers codes l (unit own x) = One (Speaks l own x) (Hushes l) codes
 
-abbrev pub DeliveryBack : Type 0
-DeliveryBack =
-    (w v : World) (f : Frame) (ear : Listener) (taken : Response) (quiet : ℕ)
-    → QuietStart w
-    → (r : Run w v)
-    → v .controller .stage ≡ Listening f ear taken quiet
-    → Back (Took r) (f .command) (dataOf f (v .lent)) taken (v .units)
+-- A unit's part in a frame: what it does is the front of that, as far as the controller has come; all of it when the frame has ended.
+pub record Part (l : Capture) (a : Answerer) (own : ℕ) : Type 0 where
+  pub inside : Inside
+  pub in-order : Front (deedsIn own (l .marks)) (deedsOf l own inside)
+  pub reached : min (length (actsIn (l .marks))) (min (length (message l)) (length (deedsOf l own inside))) ≤ length (deedsIn own (l .marks))
+  pub whole : actsIn (l .marks) ≡ actsOf l a → deedsIn own (l .marks) ≡ deedsOf l own inside
 
--- What a round of a frame makes of a unit. Nothing of what is inside it changes; or it takes the last nibble: its reply is fixed, by the
--- whole-message definition for what is inside it, and the effects happen; or the last nibble of its response is done, and what waited for
--- that happens.
-abbrev pub Untouched : Station → Station → Type 0
-Untouched st after = insideOf after ≡ insideOf st
+-- Each frame of a log, on a bus of units with these codes. Behind the last nibble of the command it is settled who answers.
+pub record Delivered (codes : List ℕ) (l : Capture) : Type 0 where
+  pub answerer : Answerer
+  pub in-order : Front (actsIn (l .marks)) (actsOf l answerer)
+  pub answers : length (message l) < length (actsIn (l .marks)) → Answers codes l answerer
+  pub parts : All (Part l answerer) codes
 
-pub record FixedBy (c : Command) (d : List ℕ) (st after : Station) : Type 0 where
-  pub ear : Listener
-  pub reply : after .unit .phase ≡ Receiving ear (Answered (replyFor (st .unit .own) (insideOf st) c d))
-  pub inside : insideOf after ≡ takenFor (st .unit .own) (insideOf st) c d
+-- An accepted submission is the next frame that begins, in the next round, with its own command, data and response buffer. Every other
+-- frame is a service frame.
+pub data Due : Type 0 where
+  service : Due
+  command : Command → (d response : List ℕ) → Due
 
-pub data Changed (c : Command) (d : List ℕ) (st after : Station) : Type 0 where
-  unchanged : Untouched st after → (isAnswered (after .unit .phase) ≡ true → isAnswered (st .unit .phase) ≡ true) → Changed c d st after
-  fixed-now : addressed c (st .unit .own) ≡ true → isAnswered (st .unit .phase) ≡ false → FixedBy c d st after → Changed c d st after
-  done-now :
-      addressed c (st .unit .own) ≡ true → (r : Reply) (j : ℕ) (sender : Sender) → st .unit .phase ≡ Responding r j sender false → after .unit .phase ≡ SittingOut false
-      → insideOf after ≡ responded (insideOf st) r → Changed c d st after
+abbrev pub dueBy : Due → Mark → Due
+dueBy due (begins f lent found) = service
+dueBy due (acts a) = due
+dueBy due (does own e) = due
+dueBy due (asks own call) = due
+dueBy due (submitted k d response) = command k d response
 
-abbrev pub Changes : Type 1
-Changes =
-    (T : Moment) (f : Frame) (found : List ℕ) (w : World)
-    → InFrame T f found w
-    → (host : Bool)
-    → All (λ (st : Station). Changed (f .command) (dataOf f (w .lent)) st (stationStep st (levels w) host)) (w .units)
+abbrev pub dueAll : Due → List Mark → Due
+dueAll due [] = due
+dueAll due (m ∷ ms) = dueAll (dueBy due m) ms
 
--- Nobody else: in no round of a frame does anything change inside a unit that the command does not address: opening, queues, enabling or
--- request.
-abbrev pub NobodyElse : Type 1
-NobodyElse =
-    (T : Moment) (f : Frame) (found : List ℕ) (w : World)
-    → InFrame T f found w
-    → (host : Bool)
-    → All (λ (st : Station). addressed (f .command) (st .unit .own) ≡ false → Untouched st (stationStep st (levels w) host)) (w .units)
+abbrev pub IsService : Mark → Type 0
+IsService m = (f : Frame) (lent found : List ℕ) → m ≡ begins f lent found → isSubmitted (f .kind) ≡ false
+
+abbrev pub InTurn : Due → List Mark → Type 0
+InTurn service ms = All IsService ms
+InTurn (command k d response) ms = ms ≡ begins (submittedFrame k (length d)) d response ∷ []
+
+-- A unit pulls a data line only in its response: no other has placed a nibble.
+pub data Places (frames : List Capture) (st : Station) : Type 0 where
+  no-nibble : pullsOf (st .unit) .nibble ≡ 15 → Places frames st
+  its-own : (l : Capture) (before : List Capture) (x : Inside) → frames ≡ l ∷ before → Speaks l (st .unit .own) x (st .unit .own) → Places frames st
+
+-- The demand, for a run, and so for every shorter one: its frames; the frame that begins in its next round; what is inside each unit, where
+-- nothing changes but by its own deeds and its host's calls; and that no unit does anything between frames.
+abbrev pub codesOf : List Station → List ℕ
+codesOf ss = map (λ (st : Station). st .unit .own) ss
+
+pub record Demand2 {w v : World} (r : Run w v) : Type 0 where
+  pub frames : All (Delivered (codesOf (v .units))) (framesOf (log r))
+  pub in-turn : (busy : Busy) → InTurn (dueAll service (log r)) (roundMarks v busy)
+  pub insides : Pairs (λ (st after : Station). insideOf after ≡ followingAll (st .unit .own) (wholeOf st) (log r) .inside) (w .units) (v .units)
+  pub placed : All (Places (framesOf (log r))) (v .units)
+  pub between : inFrame (v .controller .stage) ≡ false → (busy : Busy) → unitsMarks (levels v) (busy .there) (v .units) ≡ []
+
+abbrev pub Demand : Type 0
+Demand = (w v : World) → QuietStart w → (r : Run w v) → Demand2 r

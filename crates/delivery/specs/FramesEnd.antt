@@ -1,18 +1,16 @@
 -- Frames end, however busy hosts are now and then: the rounds that are left are never more than before, and fewer behind each round in
--- which no party that holds HSK has a busy host (`Nearer`, which `Frames` promises of each round that leads on in a frame). So only a host
--- that is busy for ever while its party holds HSK keeps a frame from its end. Here that is counted over any run.
+-- which no party that holds HSK has a busy host. So only a host that is busy for ever while its party holds HSK keeps a frame from its end.
+-- Here that is counted over any run.
 use Prim.Native.Nat.{ℕ, suc, _+_, _*_, _<_, _≤_}
 use mathlib.Core.Path.{_≡_}
 use mathlib.Core.Bool.{true, cond}
-use mathlib.Core.List.{List}
+use mathlib.Core.List.{List, [], _∷_}
 use Rattle.frame.specs.Frame.{lastNibble}
 use Rattle.frame.specs.declared.Frame.{Frame}
 use Rattle.frame.specs.declared.Stage.the-variants.{Resting}
-use Rattle.delivery.specs.Calls.{Call, calledAll, inFrame}
-use Rattle.delivery.specs.Demand2.{QuietStart, Run, start, a-round, a-call}
+use Rattle.delivery.specs.Calls.{Call, calledAll, inFrame, running}
+use Rattle.delivery.specs.Run.{QuietStart, Run, start, a-round, a-call}
 use Rattle.delivery.specs.Ends.{left, listening, isFree, quietly}
-use Rattle.delivery.specs.Promised.{Moment}
-use Rattle.delivery.specs.Stages.{InFrame}
 use Rattle.delivery.specs.World.{World, Busy, round}
 
 -- Four rounds for each nibble of the command, four for each of the longest response that fits the buffer length field, the time-out, and
@@ -36,15 +34,13 @@ freeRounds (a-call more call) = freeRounds more
 -- From any world of a frame on, whatever is called and whoever is busy: as long as the frame goes on, each free round has taken at least
 -- one away of those that were left, and these were fewer than `longest`. So fewer than `longest` rounds of a frame are free; how many are
 -- not is up to the hosts alone. If they are at most b for each nibble, that is a bound for all rounds of it.
-abbrev pub FramesEnd : Type 1
+abbrev pub FramesEnd : Type 0
 FramesEnd =
-    (T : Moment) (f : Frame) (found : List ℕ) (v : World)
-    → InFrame T f found v
+    (w v : World) (f : Frame)
+    → QuietStart w
+    → Run w v
+    → running (v .controller .stage) ≡ f ∷ []
     → (left v < longest f (v .controller .timeout)) × ((u : World) (more : Run v u) → Staying more → left u + freeRounds more ≤ left v)
-
--- So on a run from a quiet start.
-abbrev pub FramesEndOnRuns : Type 0
-FramesEndOnRuns = (w v u : World) → QuietStart w → Run w v → (more : Run v u) → Staying more → left u + freeRounds more ≤ left v
 
 -- The same as what can be waited for. A frame ends within n free rounds: it has ended; or, whatever is called and however many rounds that
 -- are not free have passed while it goes on, the next free round leaves it one that ends within one fewer.
@@ -53,8 +49,8 @@ pub data Ends : ℕ → World → Type 0 where
   next-free :
       {n : ℕ} {w : World} → ((u : World) (more : Run w u) → Staying more → freeRounds more ≡ 0 → (busy : Busy) → isFree u busy ≡ true → Ends n (round u busy)) → Ends (suc n) w
 
-abbrev pub FramesEndInTime : Type 1
-FramesEndInTime = (T : Moment) (f : Frame) (found : List ℕ) (w : World) → InFrame T f found w → Ends (longest f (w .controller .timeout)) w
+abbrev pub FramesEndInTime : Type 0
+FramesEndInTime = (w v : World) (f : Frame) → QuietStart w → Run w v → running (v .controller .stage) ≡ f ∷ [] → Ends (longest f (v .controller .timeout)) v
 
 -- And with no host busy, which is free wherever the parties are: at most `longest` such rounds in a row, whatever is called before each.
 pub data EndsQuietly : ℕ → World → Type 0 where
@@ -64,5 +60,5 @@ pub data EndsQuietly : ℕ → World → Type 0 where
 abbrev pub QuietlyFree : Type 0
 QuietlyFree = (w : World) → isFree w quietly ≡ true
 
-abbrev pub FramesEndQuietly : Type 1
-FramesEndQuietly = (T : Moment) (f : Frame) (found : List ℕ) (w : World) → InFrame T f found w → EndsQuietly (longest f (w .controller .timeout)) w
+abbrev pub FramesEndQuietly : Type 0
+FramesEndQuietly = (w v : World) (f : Frame) → QuietStart w → Run w v → running (v .controller .stage) ≡ f ∷ [] → EndsQuietly (longest f (v .controller .timeout)) v

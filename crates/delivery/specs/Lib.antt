@@ -1,12 +1,10 @@
 pub mod Lists
-pub mod Heard
-pub mod Promised
 pub mod World
 pub mod Calls
-pub mod Ends
-pub mod Stages
-pub mod Demand2
+pub mod Run
 pub mod Log
-pub mod Deliver
+pub mod Following
+pub mod Demand2
+pub mod Ends
 pub mod FramesEnd
 pub mod TheBus

@@ -1,5 +1,6 @@
--- Lists of which all members have a property, or exactly one has another; and a member.
-use mathlib.Core.List.{List, [], _∷_}
+-- Lists of which all members have a property, or exactly one has another; a member; the first members, in order.
+use mathlib.Core.Path.{_≡_}
+use mathlib.Core.List.{List, [], _∷_, _++_}
 
 pub data All {ℓ κ} {A : Type ℓ} (P : A → Type κ) : List A → Type (ℓ ⊔ κ) where
   none : All P []
@@ -16,3 +17,6 @@ pub data Has {ℓ} {A : Type ℓ} (x : A) : List A → Type ℓ where
 pub data Pairs {ℓ κ} {A B : Type ℓ} (P : A → B → Type κ) : List A → List B → Type (ℓ ⊔ κ) where
   no-pair : Pairs P [] []
   a-pair : {x : A} {y : B} {xs : List A} {ys : List B} → P x y → Pairs P xs ys → Pairs P (x ∷ xs) (y ∷ ys)
+
+abbrev pub Front : {A : Type 0} → List A → List A → Type 0
+Front {A} xs ys = (rest : List A) × (ys ≡ xs ++ rest)

@@ -24,7 +24,7 @@ use Rattle.phase.specs.declared.Phase.the-variants.{Idle, Selecting, Receiving,
 use Rattle.phase.specs.declared.Progress.the-variants.{Taking, Answered}
 use Rattle.turn.specs.declared.Event.{Event}
 use Rattle.delivery.specs.Calls.{Call, host, submits, acknowledges, lends, lendsUnit}
-use Rattle.delivery.specs.Demand2.{Run, start, a-round, a-call}
+use Rattle.delivery.specs.Run.{Run, start, a-round, a-call}
 use Rattle.delivery.specs.World.{World, Busy, levels, round}
 
 -- What the controller does in a frame: a nibble of the command counts as sent; it takes a nibble of the response; the frame ends, and the

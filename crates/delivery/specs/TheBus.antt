@@ -21,7 +21,7 @@ use Rattle.turn.specs.declared.Event.{Event}
 use Rattle.unit.specs.Unit.{newUnit}
 use Rattle.unit.specs.declared.Unit.{Unit}
 use Rattle.delivery.specs.Calls.{Call, host, submits, acknowledges, lends, lendsUnit, called, isKept, inFrame, withBuffer}
-use Rattle.delivery.specs.Demand2.{QuietStart, Run}
+use Rattle.delivery.specs.Run.{QuietStart, Run}
 use Rattle.delivery.specs.Lists.{All}
 use Rattle.delivery.specs.World.{World, Busy, levels, round, worldOf}
 

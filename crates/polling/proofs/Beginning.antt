@@ -14,11 +14,11 @@ use Rattle.controller.specs.Calls.{stepping}
 use Rattle.controller.specs.Controller.{isIdle, controllerStep, eventIn}
 use Rattle.controller.specs.declared.Controller.{Controller}
 use Rattle.delivery.specs.Calls.{Call, host as at-unit, submits, acknowledges, lends, lendsUnit, called, calledAt, calledAll, bufferAt, withBuffer, inFrame}
-use Rattle.delivery.specs.Demand2.{QuietStart, Run, a-round, a-call}
+use Rattle.delivery.specs.Run.{QuietStart, Run, a-round, a-call}
 use Rattle.delivery.specs.Lists.{Has, here, there}
 use Rattle.delivery.specs.World.{World, Busy, levels, round}
 use Rattle.delivery.proofs.Lists.{has-all}
-use Rattle.delivery.proofs.Demand2.{every-run, on-nibble, on-sound}
+use Rattle.delivery.proofs.EveryRound.{every-run, on-nibble, on-sound}
 use Rattle.frame.specs.Frame.{pullsOf as framePulls}
 use Rattle.inside.specs.Calls.{HostCall, calledBy}
 use Rattle.inside.specs.Inside.{insideOf, isServed, hasRequest}

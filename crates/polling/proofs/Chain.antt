@@ -11,13 +11,14 @@ use Rattle.bus.specs.Bus.{stationStep}
 use Rattle.bus.specs.declared.Station.{Station}
 use Rattle.controller.specs.Controller.{isIdle}
 use Rattle.controller.specs.declared.Controller.{Controller}
-use Rattle.delivery.specs.Calls.{Call, host, submits as submitsTo, acknowledges as acknowledgesTo, lends, lendsUnit, called, calledAt, inFrame}
-use Rattle.delivery.specs.Demand2.{QuietStart, Run, start, a-round, a-call, Took, takes-it, took-it, Changed, unchanged, fixed-now, done-now}
+use Rattle.delivery.specs.Calls.{Call, host, submits as submitsTo, acknowledges as acknowledgesTo, lends, lendsUnit, called, calledAt, inFrame, running}
+use Rattle.delivery.specs.Run.{QuietStart, Run, start, a-round, a-call}
+use Rattle.delivery.proofs.Rounds.{Took, takes-it, took-it, Changed, unchanged, fixed-now, done-now}
 use Rattle.delivery.specs.Lists.{All, none, also, One, this, that, Has, here, there}
-use Rattle.delivery.specs.Promised.{Moment}
-use Rattle.delivery.specs.Stages.{On, rests, submitted, ended, runs, InFrame, begins, sends, hears, waits, Goes, on, answered, unanswered, Spoke, spoke, addressed, movedIn, Sound, Sits, Fresh, idles, selects, Talk, talks, isResponding, answerData}
+use Rattle.delivery.proofs.Promised.{Moment}
+use Rattle.delivery.proofs.Stages.{On, rests, submitted, ended, runs, InFrame, begins, sends, hears, waits, Goes, on, answered, unanswered, Spoke, spoke, addressed, movedIn, Sound, Sits, Fresh, idles, selects, Talk, talks, isResponding, answerData}
 use Rattle.delivery.specs.World.{World, Busy, levels, round, Becomes, in-front as first-one, behind, Different, another}
-use Rattle.delivery.proofs.Demand2.{every-run, every-response, changes, on-different, on-nibble}
+use Rattle.delivery.proofs.EveryRound.{every-run, every-response, changes, on-different, on-nibble}
 use Rattle.delivery.proofs.Frame.{becomes-all, own-kept, fresh-quiet, part-quiet}
 use Rattle.line.specs.declared.Listener.{Listener}
 use Rattle.answer.specs.Answer.{statusOf, countOf}
@@ -59,7 +60,7 @@ use Rattle.whole.specs.Whole.{storedOf}
 use Rattle.polling.specs.Chain.{HasCode, Requests, Harmless, Calm, now, earlier, HandedIn, Chain}
 use Rattle.polling.specs.BusMoves.{moveOf, movesOf, toldIn}
 use Rattle.polling.specs.History.{isPending, since, isHanded, settles}
-use Rattle.polling.specs.Moves.{Move, submits, acknowledges, after, running, begins as beginsIn, services, isBegun, Without, ahead, eventOf}
+use Rattle.polling.specs.Moves.{Move, submits, acknowledges, after, begins as beginsIn, services, isBegun, Without, ahead, eventOf}
 use Rattle.polling.proofs.History.{Ok, ok-after, ok-since, front-mark, agrees-mark}
 use Rattle.polling.proofs.OnTheBus.{made, has-round, has-called, has-lent, run-coded, runs-it, RunsOne, runs-one, frame-running, isFrame, addressed-own, frame-told, frame-held, spoken, said-by, said-handed, took-fit, hushed-none}
 use Rattle.polling.proofs.Turns.{Placed, no-service, one-nearer, in-front, placed, none-counted, one-counted}

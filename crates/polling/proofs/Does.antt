@@ -33,7 +33,8 @@ use Rattle.ring.specs.Ring.{counted, live, ringOf, withMark, isMarked}
 use Rattle.turn.specs.Turn.{ringEnded, eventOf as frameEvent}
 use Rattle.turn.specs.declared.Event.{Event}
 use Rattle.turn.specs.declared.Event.the-variants.{Nothing}
-use Rattle.polling.specs.Moves.{Move, steps, submits, acknowledges, after, running, isBegun, begins, isFor, told, eventOf, Stays, runs, goes-on, ends as ends-now}
+use Rattle.polling.specs.Moves.{Move, steps, submits, acknowledges, after, isBegun, begins, isFor, told, eventOf, Stays, runs, goes-on, ends as ends-now}
+use Rattle.delivery.specs.Calls.{running}
 use Rattle.polling.specs.History.{isDone, anyFor, settles}
 
 -- A poll's frame.

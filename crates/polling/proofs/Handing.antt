@@ -26,7 +26,8 @@ use Rattle.turn.specs.declared.Event.the-variants.{Nothing, Ended, Handed}
 use Rattle.polling.specs.Beyond.{PollEnds}
 use Rattle.polling.specs.Demand3.{Starts, HandsOnly}
 use Rattle.polling.specs.History.{since}
-use Rattle.polling.specs.Moves.{Move, steps, after, afterAll, running, isBegun, told, eventOf}
+use Rattle.polling.specs.Moves.{Move, steps, after, afterAll, isBegun, told, eventOf}
+use Rattle.delivery.specs.Calls.{running}
 use Rattle.polling.proofs.Does.{isPoll, held, Onward, same-frame, no-more, Does, keeps, accepts, serves, frame-ends, clears, does}
 use Rattle.controller.specs.Controller.{newController}
 

@@ -7,7 +7,8 @@ use Rattle.controller.specs.Controller.{newController}
 use Rattle.controller.specs.declared.Controller.{Controller}
 use Rattle.frame.specs.Frame.{begun}
 use Rattle.polling.specs.History.{since}
-use Rattle.polling.specs.Moves.{Move, after, afterAll, running, begins, ahead, inRing}
+use Rattle.polling.specs.Moves.{Move, after, afterAll, begins, ahead, inRing}
+use Rattle.delivery.specs.Calls.{running}
 use Rattle.polling.specs.Demand3.{turnFrame, TurnComes}
 use Rattle.polling.proofs.Does.{stays-on}
 use Rattle.polling.proofs.History.{every-turn}

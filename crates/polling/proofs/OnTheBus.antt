@@ -15,13 +15,14 @@ use Rattle.bus.specs.declared.Station.{Station}
 use Rattle.controller.specs.Calls.{stepping, ifLent}
 use Rattle.controller.specs.Controller.{eventIn, eventAfter}
 use Rattle.controller.specs.declared.Controller.{Controller}
-use Rattle.delivery.specs.Calls.{Call, host, submits as submitsTo, acknowledges as acknowledgesTo, lends, lendsUnit, called, calledAt, bufferAt, inFrame}
-use Rattle.delivery.specs.Demand2.{QuietStart, Run, start, a-round, a-call, Took, takes-it, took-it}
+use Rattle.delivery.specs.Calls.{Call, host, submits as submitsTo, acknowledges as acknowledgesTo, lends, lendsUnit, called, calledAt, bufferAt, inFrame, running}
+use Rattle.delivery.specs.Run.{QuietStart, Run, start, a-round, a-call}
+use Rattle.delivery.proofs.Rounds.{Took, takes-it, took-it}
 use Rattle.delivery.specs.Lists.{All, none, also, One, this, that, Has, here, there}
-use Rattle.delivery.specs.Promised.{Moment}
-use Rattle.delivery.specs.Stages.{On, rests, submitted, ended, runs, InFrame, Goes, on, answered, unanswered, Spoke, spoke, Hushed, not-its-own, by-the-rule, addressed, movedIn, Sound, Sits, answerData, begins, sends, hears, waits, AtRest, is-free, is-resting}
+use Rattle.delivery.proofs.Promised.{Moment}
+use Rattle.delivery.proofs.Stages.{On, rests, submitted, ended, runs, InFrame, Goes, on, answered, unanswered, Spoke, spoke, Hushed, not-its-own, by-the-rule, addressed, movedIn, Sound, Sits, answerData, begins, sends, hears, waits, AtRest, is-free, is-resting}
 use Rattle.delivery.specs.World.{World, Busy, levels, round, Becomes, in-front, behind}
-use Rattle.delivery.proofs.Demand2.{on-nibble, every-run, every-response, every-step, taken-once, on-sound}
+use Rattle.delivery.proofs.EveryRound.{on-nibble, every-run, every-response, every-step, taken-once, on-sound}
 use Rattle.delivery.proofs.Lists.{all-map, all-step}
 use Rattle.delivery.proofs.Frame.{own-kept, becomes-all}
 use Rattle.delivery.proofs.Calls.{all-lends}
@@ -60,7 +61,7 @@ use Rattle.polling.specs.Beyond.{BusStarts}
 use Rattle.polling.specs.BusMoves.{moveOf, callOf, movesOf, toldIn}
 use Rattle.polling.specs.Demand3.{PolledHands, HeldWhenPolled, HandedHeld}
 use Rattle.polling.specs.History.{since}
-use Rattle.polling.specs.Moves.{Move, after, afterAll, running, told, eventOf}
+use Rattle.polling.specs.Moves.{Move, after, afterAll, told, eventOf}
 use Rattle.polling.proofs.Does.{held, Does, keeps, accepts, serves, frame-ends, clears, does, firstOf}
 use Rattle.polling.proofs.Handing.{starts, hands-by, hands-only, isHand}
 

@@ -20,7 +20,8 @@ use Rattle.ring.proofs.Laws.{live-ring, live-below, marked-length}
 use Rattle.turn.specs.Turn.{ringBy}
 use Rattle.controller.specs.Controller.{service}
 use Rattle.polling.specs.Beyond.{Reaches, AnyController}
-use Rattle.polling.specs.Moves.{running, Move, after, begins, services, ahead, isFor, Without, Spared, spared}
+use Rattle.polling.specs.Moves.{Move, after, begins, services, ahead, isFor, Without, Spared, spared}
+use Rattle.delivery.specs.Calls.{running}
 use Rattle.polling.proofs.Does.{Does, keeps, accepts, serves, frame-ends, clears, does}
 use Rattle.polling.proofs.Places.{Found, place-removed, place-marked, found-marked, place-joined, place-turned}
 

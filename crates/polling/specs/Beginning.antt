@@ -6,7 +6,7 @@ use mathlib.Core.List.{List}
 use Rattle.bus.specs.declared.Station.{Station}
 use Rattle.controller.specs.Controller.{isIdle}
 use Rattle.delivery.specs.Calls.{Call, calledAll}
-use Rattle.delivery.specs.Demand2.{QuietStart, Run}
+use Rattle.delivery.specs.Run.{QuietStart, Run}
 use Rattle.delivery.specs.Lists.{Has}
 use Rattle.delivery.specs.World.{World, Busy, round}
 use Rattle.inside.specs.Inside.{insideOf, hasRequest}

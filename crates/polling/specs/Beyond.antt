@@ -10,7 +10,7 @@ use Rattle.bus.specs.declared.Station.{Station}
 use Rattle.controller.specs.Calls.{stepping}
 use Rattle.controller.specs.Controller.{isIdle, eventIn, frameOf}
 use Rattle.controller.specs.declared.Controller.{Controller}
-use Rattle.delivery.specs.Demand2.{QuietStart, Run}
+use Rattle.delivery.specs.Run.{QuietStart, Run}
 use Rattle.delivery.specs.Lists.{Has}
 use Rattle.delivery.specs.World.{World, Busy}
 use Rattle.frame.specs.Frame.{begun, pollOf}

@@ -2,7 +2,7 @@
 use mathlib.Core.List.{List, _∷_}
 use lib.ListN.{length}
 use Rattle.delivery.specs.Calls.{Call, host, submits as submitsTo, acknowledges as acknowledgesTo, lends, lendsUnit}
-use Rattle.delivery.specs.Demand2.{Run, start, a-round, a-call}
+use Rattle.delivery.specs.Run.{Run, start, a-round, a-call}
 use Rattle.delivery.specs.World.{World, Busy, levels}
 use Rattle.turn.specs.declared.Event.{Event}
 use Rattle.polling.specs.Moves.{Move, steps, submits, acknowledges, eventOf}

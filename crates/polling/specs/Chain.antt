@@ -7,8 +7,8 @@ use mathlib.Core.Bool.{true, false}
 use mathlib.Core.List.{List, [], _∷_}
 use lib.Dec.{eqb}
 use Rattle.bus.specs.declared.Station.{Station}
-use Rattle.delivery.specs.Calls.{inFrame}
-use Rattle.delivery.specs.Demand2.{QuietStart, Run, start, a-round, a-call}
+use Rattle.delivery.specs.Calls.{inFrame, running}
+use Rattle.delivery.specs.Run.{QuietStart, Run, start, a-round, a-call}
 use Rattle.delivery.specs.Lists.{All}
 use Rattle.delivery.specs.World.{World, Busy}
 use Rattle.frame.specs.declared.Frame.{Frame}
@@ -16,7 +16,7 @@ use Rattle.inside.specs.Inside.{insideOf, hasRequest}
 use Rattle.ring.specs.Ring.{live, isMarked}
 use Rattle.turn.specs.declared.Event.the-variants.{Handed}
 use Rattle.polling.specs.BusMoves.{movesOf, toldIn}
-use Rattle.polling.specs.Moves.{running, services, ahead, inRing, isFor}
+use Rattle.polling.specs.Moves.{services, ahead, inRing, isFor}
 
 -- The unit with this code is on the bus, and holds a request.
 pub data HasCode (own : ℕ) : List Station → Type 0 where

@@ -7,7 +7,8 @@ use mathlib.Core.List.{List, [], _∷_, _++_}
 use lib.Dec.{ltb, leb}
 use Rattle.controller.specs.Controller.{isIdle, service}
 use Rattle.controller.specs.declared.Controller.{Controller}
-use Rattle.delivery.specs.Demand2.{QuietStart, Run, a-round, Took}
+use Rattle.delivery.specs.Run.{QuietStart, Run, a-round}
+use Rattle.delivery.proofs.Rounds.{Took}
 use Rattle.delivery.specs.World.{World, Busy, round}
 use Rattle.frame.specs.Frame.{begun, pollOf, nullFrame, nibbleOf}
 use Rattle.frame.specs.declared.Frame.{Frame}
@@ -19,9 +20,9 @@ use Rattle.turn.specs.declared.Event.the-variants.{Ended, Handed}
 use Rattle.unit.specs.declared.Unit.{Unit}
 use Rattle.polling.specs.BusMoves.{toldIn}
 use Rattle.polling.specs.History.{since, isPending, isEnabling}
-use Rattle.polling.specs.Moves.{Move, steps, after, running, begins, services, ahead, inRing, Spared, eventOf, Stays}
+use Rattle.polling.specs.Moves.{Move, steps, after, begins, services, ahead, inRing, Spared, eventOf, Stays}
+use Rattle.delivery.specs.Calls.{running, inFrame}
 use Rattle.polling.specs.UnitMoves.{UnitMove, steps as unitSteps, raises, moved, isSeen, Stands, rowOf, unitSince, Fills}
-use Rattle.delivery.specs.Calls.{inFrame}
 
 -- "A unit whose enabling (08) ends with 00 joins the polling ring": behind the call that tells of the end it is there.
 abbrev pub Joins : Type 0

@@ -10,7 +10,8 @@ use Rattle.frame.specs.declared.Frame.{Frame}
 use Rattle.frame.specs.declared.Kind.the-variants.{Submitted}
 use Rattle.turn.specs.declared.Event.{Event}
 use Rattle.turn.specs.declared.Event.the-variants.{Nothing, Ended, Handed}
-use Rattle.polling.specs.Moves.{Move, steps, submits, acknowledges, after, afterAll, running, isFor, eventOf}
+use Rattle.polling.specs.Moves.{Move, steps, submits, acknowledges, after, afterAll, isFor, eventOf}
+use Rattle.delivery.specs.Calls.{running}
 
 -- A call hands a request of the unit to the application.
 abbrev pub isHanded : ℕ → Event → Bool

@@ -8,9 +8,8 @@ use Rattle.application.specs.Calls.{controllerSubmitted, controllerAcknowledged
 use Rattle.controller.specs.Calls.{stepping, controllerStepped}
 use Rattle.controller.specs.Controller.{isIdle}
 use Rattle.controller.specs.declared.Controller.{Controller}
+use Rattle.delivery.specs.Calls.{running}
 use Rattle.frame.specs.declared.Frame.{Frame}
-use Rattle.frame.specs.declared.Stage.{Stage}
-use Rattle.frame.specs.declared.Stage.the-variants.{Free, Resting, Waiting, Sending, Listening}
 use Rattle.header.specs.declared.Command.{Command}
 use Rattle.line.specs.declared.Lines.{Lines}
 use Rattle.message.specs.Answer.{Answer, gives, refused}
@@ -33,14 +32,6 @@ after c (acknowledges code) = controllerAcknowledged c code
 abbrev pub afterAll : Controller → List Move → Controller
 afterAll c [] = c
 afterAll c (m ∷ ms) = afterAll (after c m) ms
-
--- The frame that runs, in the stages from its beginning to its end.
-abbrev pub running : Stage → List Frame
-running Free = []
-running (Resting first) = []
-running (Waiting f) = []
-running (Sending f i sender wait) = f ∷ []
-running (Listening f ear response quiet) = f ∷ []
 
 -- A service frame begins in a call that finds the controller idle and leaves it in a frame.
 abbrev pub isBegun : List Frame → Bool

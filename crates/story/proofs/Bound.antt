@@ -5,10 +5,10 @@ use mathlib.Core.Path.{_≡_, refl, sym, _∙_, subst}
 use mathlib.Core.Bool.{Bool, true, false, cond, _&&_, not, false≢true}
 use mathlib.Core.List.{List, [], _∷_}
 use lib.Dec.{eqb, lit<}
-use Rattle.delivery.specs.Calls.{called, host}
+use Rattle.delivery.specs.Calls.{called, host, running}
 use Rattle.inside.specs.Calls.{raises}
 use Rattle.kind.specs.Kinds.{kindOf}
-use Rattle.delivery.specs.Demand2.{Run, start, a-round, a-call}
+use Rattle.delivery.specs.Run.{Run, start, a-round, a-call}
 use Rattle.story.specs.Frames.{quietBus, rounds}
 use Rattle.delivery.specs.Lists.{none, also}
 use Rattle.delivery.specs.World.{World, round}
@@ -17,7 +17,7 @@ use Rattle.story.proofs.Frames.{meets, runs-on, then}
 use Rattle.frame.specs.declared.Frame.{Frame}
 use Rattle.polling.specs.Chain.{it-has, later, Harmless, Calm}
 use Rattle.story.specs.Bound.{opens, enables, firstIn, raised, Reached, Met}
-use Rattle.polling.specs.Moves.{running, begins, services, isFor}
+use Rattle.polling.specs.Moves.{begins, services, isFor}
 use Rattle.polling.specs.BusMoves.{moveOf, movesOf}
 use Rattle.polling.proofs.Chain.{services-then}
 use Rattle.polling.proofs.Turns.{none-counted, one-counted}

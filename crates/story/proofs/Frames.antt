@@ -9,7 +9,7 @@ use Rattle.inside.specs.Lawful.{Lent}
 use Rattle.kind.specs.Kinds.{kindOf}
 use Rattle.message.proofs.Fields.{zeros-below}
 use Rattle.unit.specs.Unit.{newUnit}
-use Rattle.delivery.specs.Demand2.{New, QuietStart, Run, start, a-round, a-call}
+use Rattle.delivery.specs.Run.{New, QuietStart, Run, start, a-round, a-call}
 use Rattle.delivery.specs.Calls.{Call, called}
 use Rattle.story.specs.Frames.{quietBus, rounds, opens, writes, feedsOne, feedsTwo, reads, enables, raisesOne, opened, written, fed, read, enabled, polled, Story, Meets}
 use Rattle.delivery.specs.Lists.{none, also}

@@ -5,9 +5,9 @@ use mathlib.Core.Path.{_≡_}
 use mathlib.Core.Bool.{true, false, cond}
 use mathlib.Core.List.{List, [], _∷_, _++_}
 use lib.Dec.{lit<}
-use Rattle.delivery.specs.Calls.{Call, host, submits, called, inFrame}
+use Rattle.delivery.specs.Calls.{Call, host, submits, called, inFrame, running}
 use Rattle.inside.specs.Calls.{raises}
-use Rattle.delivery.specs.Demand2.{QuietStart, Run}
+use Rattle.delivery.specs.Run.{QuietStart, Run}
 use Rattle.delivery.specs.Lists.{All}
 use Rattle.kind.specs.Kinds.{kindOf}
 use Rattle.ring.specs.Ring.{live, isMarked}
@@ -20,7 +20,7 @@ use Rattle.frame.specs.declared.Frame.{Frame}
 use Rattle.turn.specs.declared.Event.{Event}
 use Rattle.turn.specs.declared.Event.the-variants.{Nothing, Ended, Handed}
 use Rattle.polling.specs.BusMoves.{moveOf, movesOf, toldIn}
-use Rattle.polling.specs.Moves.{running, begins, services, ahead, inRing}
+use Rattle.polling.specs.Moves.{begins, services, ahead, inRing}
 
 -- Both are opened and enabled; then the second raises.
 abbrev pub opens : (device : ℕ) → device < 256 → Call

@@ -19,7 +19,7 @@ use Rattle.serial.specs.Serial.{newSerial, withOpening, withService, withReques
 use Rattle.serial.specs.declared.Mode.the-variants.{Update}
 use Rattle.serial.specs.declared.Opening.the-variants.{OpenFor}
 use mathlib.Core.Path.{_≡_}
-use Rattle.delivery.specs.Demand2.{QuietStart, Run}
+use Rattle.delivery.specs.Run.{QuietStart, Run}
 use Rattle.header.specs.Header.{InRange}
 use Rattle.bus.specs.declared.Station.{Station}
 use Rattle.ring.specs.Ring.{live}

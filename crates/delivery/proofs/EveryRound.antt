@@ -19,8 +19,8 @@ use Rattle.line.specs.Line.{isReady, hearOf, sentOf}
 use Rattle.phase.specs.declared.Moved.{Moved as Step}
 use Rattle.delivery.proofs.Part.{Stepped, low-step}
 use Rattle.delivery.proofs.Changes.{fresh-changes, sits-changes, talk-changes, part-changes}
-use Rattle.delivery.specs.Demand2.{Changed, unchanged, fixed-now, done-now, Changes, Returned, returned, Back, from-one, from-nobody, DeliveryBack}
-use Rattle.delivery.specs.Stages.{Sits}
+use Rattle.delivery.proofs.Rounds.{Changed, unchanged, fixed-now, done-now, Changes, Returned, returned, Back, from-one, from-nobody, DeliveryBack}
+use Rattle.delivery.proofs.Stages.{Sits}
 use Rattle.answer.specs.Answer.{nothingTaken}
 use Rattle.answer.specs.declared.Response.{Response}
 use Rattle.bus.specs.Bus.{stationStep, isOdd}
@@ -43,12 +43,13 @@ use Rattle.serial.specs.declared.Reply.{Reply}
 use Rattle.serial.specs.Serial.{finished}
 use Rattle.serial.specs.declared.Serial.{Serial}
 use Rattle.unit.specs.declared.Unit.{Unit}
-use Rattle.delivery.specs.Heard.{Fits, f-next, f-placed, f-holds, f-waits}
+use Rattle.delivery.proofs.Taking.{Fits, f-next, f-placed, f-holds, f-waits}
 use Rattle.delivery.specs.Lists.{All, none, also, One, this, that}
-use Rattle.delivery.specs.Promised.{Moment, Promised}
-use Rattle.delivery.specs.Stages.{isAnswered, Noted, Hushed, not-its-own, by-the-rule, Sound, addressed, Talk, talks, Part, listens, answers, sits, InFrame, begins, sends, hears, waits, Fresh, idles, On, AtRest, is-free, is-resting, rests, submitted, ended, runs}
+use Rattle.delivery.proofs.Promised.{Moment, Promised}
+use Rattle.delivery.proofs.Stages.{isAnswered, Noted, Hushed, not-its-own, by-the-rule, Sound, addressed, Talk, talks, Part, listens, answers, sits, InFrame, begins, sends, hears, waits, Fresh, idles, On, AtRest, is-free, is-resting, rests, submitted, ended, runs}
 use Rattle.delivery.specs.World.{World, Busy, levels, round, Becomes, in-front, behind, Different, another}
-use Rattle.delivery.specs.Demand2.{New, QuietStart, Run, start, a-round, a-call, Took, takes-it, took-it, Runs, Frames, Responses, TakenOnce, FramesCalled, Delivered, listening, whole, sitting, Delivery, Untouched, NobodyElse}
+use Rattle.delivery.specs.Run.{New, QuietStart, Run, start, a-round, a-call}
+use Rattle.delivery.proofs.Rounds.{Took, takes-it, took-it, Runs, Frames, Responses, TakenOnce, FramesCalled, Delivered, listening, whole, sitting, Delivery, Untouched, NobodyElse}
 use borrow.Author.Tests.{le-ltb}
 use Rattle.controller.specs.Calls.{stepping}
 use Rattle.controller.specs.Controller.{eventIn}
@@ -58,7 +59,7 @@ use Rattle.line.specs.declared.Listener.the-variants.{Ready}
 use Rattle.line.specs.declared.Sender.the-variants.{Next}
 use Rattle.unit.specs.Calls.{stepping as unitStepping}
 use Rattle.unit.specs.Unit.{unitStep, pullsNibble}
-use Rattle.delivery.specs.Demand2.{Steps}
+use Rattle.delivery.specs.Run.{Steps}
 use Rattle.delivery.proofs.Lines.{nibble-kept, hsk-own, bav-kept}
 use Rattle.delivery.proofs.Stage.{sending, sent-nibble, shows, nibble-below}
 use Rattle.delivery.proofs.Listening.{heard-nibble, still-nibble, hearing}
