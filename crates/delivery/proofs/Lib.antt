@@ -31,5 +31,7 @@ pub mod Logged
 pub mod Between
 pub mod Called
 pub mod Captured
+pub mod Shown
+pub mod Placed
 pub mod FramesEnd
 pub mod TheBus

@@ -70,15 +70,15 @@ earIn (Sending f i sender wait) = Ready
 earIn (Listening f ear taken quiet) = ear
 
 -- What was done before the round, by the stage.
-sent-so-far : {l : Capture} {d : List ℕ} {units : List Station} {i : ℕ} {sender : Sender} {wait : Bool} → Acted l d (Sending (l .frame) i sender wait) units → actsIn (l .marks) ≡ map sent (take i (nibblesFor (l .frame .command) d))
+pub sent-so-far : {l : Capture} {d : List ℕ} {units : List Station} {i : ℕ} {sender : Sender} {wait : Bool} → Acted l d (Sending (l .frame) i sender wait) units → actsIn (l .marks) ≡ map sent (take i (nibblesFor (l .frame .command) d))
 sent-so-far {l} {d} (sending-so j k w e was) = was ∙ ap (λ (n : ℕ). map sent (take n (nibblesFor (l .frame .command) d))) (sym (ap placeIn e))
 sent-so-far (listening-so ear taken quiet e tells nobody) = absurd (true≢false (ap isSending e))
 
-told-so-far : {l : Capture} {d : List ℕ} {units : List Station} {ear : Listener} {taken : Response} {quiet : ℕ} → Acted l d (Listening (l .frame) ear taken quiet) units → All (TellsAt l d ear) units
+pub told-so-far : {l : Capture} {d : List ℕ} {units : List Station} {ear : Listener} {taken : Response} {quiet : ℕ} → Acted l d (Listening (l .frame) ear taken quiet) units → All (TellsAt l d ear) units
 told-so-far (sending-so j k w e was) = absurd (false≢true (ap isSending e))
 told-so-far {l} {d} {units} (listening-so ear taken quiet e tells nobody) = subst (λ (x : Listener). All (TellsAt l d x) units) (sym (ap earIn e)) tells
 
-nobody-so-far : {l : Capture} {d : List ℕ} {units : List Station} {ear : Listener} {taken : Response} {quiet : ℕ} → Acted l d (Listening (l .frame) ear taken quiet) units → All Still units → actsIn (l .marks) ≡ map sent (nibblesFor (l .frame .command) d)
+pub nobody-so-far : {l : Capture} {d : List ℕ} {units : List Station} {ear : Listener} {taken : Response} {quiet : ℕ} → Acted l d (Listening (l .frame) ear taken quiet) units → All Still units → actsIn (l .marks) ≡ map sent (nibblesFor (l .frame .command) d)
 nobody-so-far (sending-so j k w e was) = absurd (false≢true (ap isSending e))
 nobody-so-far (listening-so ear taken quiet e tells nobody) = nobody
 

@@ -106,7 +106,7 @@ fits-one : {n : ℕ} {sender : Sender} {ear : Listener} → Fits n sender ear 1 
 fits-one f-holds = refl
 fits-one f-waits = refl
 
-heard-short : {bytes : List ℕ} {ear : Listener} {k : ℕ} {phase : Phase} {buffer : List ℕ} → 9 ≤ length bytes → Heard bytes ear k phase buffer → k < 2 * length bytes
+pub heard-short : {bytes : List ℕ} {ear : Listener} {k : ℕ} {phase : Phase} {buffer : List ℕ} → 9 ≤ length bytes → Heard bytes ear k phase buffer → k < 2 * length bytes
 heard-short l (h-none room) = omega arith
 heard-short l (h-first room) = omega arith
 heard-short l (h-byte j buffer room g h) = omega arith
