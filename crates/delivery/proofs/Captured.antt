@@ -37,7 +37,7 @@ use Rattle.delivery.proofs.Frame.{becomes-all}
 use Rattle.delivery.proofs.Lists.{all-map}
 use Rattle.delivery.proofs.Listened.{becomes-after}
 use Rattle.delivery.proofs.Logged.{Story, Onward, runs-on, is-complete, round-by, answered-deeds}
-use Rattle.delivery.proofs.Logs.{Same, plain-same, all-append, units-plain, cut-append, cut-same, cut-nothing, deeds-append}
+use Rattle.delivery.proofs.Logs.{Plain, Same, plain-same, all-append, units-plain, cut-append, cut-same, cut-nothing, deeds-append}
 use Rattle.delivery.proofs.Deeds.{Did}
 use Rattle.delivery.proofs.Part.{Stepped}
 use Rattle.delivery.proofs.Run.{frame-runs}
@@ -47,29 +47,29 @@ pub data Frames (T : Moment) (v : World) : List Capture → Type 0 where
   at-rest : {ls : List Capture} → inFrame (v .controller .stage) ≡ false → All (Complete (codesOf (v .units))) ls → Frames T v ls
   in-one : {l : Capture} {ls : List Capture} → Story T l v → All (Complete (codesOf (v .units))) ls → Frames T v (l ∷ ls)
 
--- A round of a frame begins no other.
-if-same : (t : Bool) (a : Act) → All Same (cond t (acts a ∷ []) [])
-if-same true a = also tt none
-if-same false a = none
+-- A round of a frame begins no other, and submits nothing.
+if-plain : (t : Bool) (a : Act) → All Plain (cond t (acts a ∷ []) [])
+if-plain true a = also tt none
+if-plain false a = none
 
-ended-same : (u : Stage) (a : Act) → All Same (endedBy u a)
-ended-same Free a = none
-ended-same (Resting first) a = also tt none
-ended-same (Waiting f) a = none
-ended-same (Sending f i sender wait) a = none
-ended-same (Listening f ear taken quiet) a = none
+ended-plain : (u : Stage) (a : Act) → All Plain (endedBy u a)
+ended-plain Free a = none
+ended-plain (Resting first) a = also tt none
+ended-plain (Waiting f) a = none
+ended-plain (Sending f i sender wait) a = none
+ended-plain (Listening f ear taken quiet) a = none
 
-frame-same : (stage u : Stage) (seen : Lines) (event : Event) (lent response after : List ℕ) → inFrame stage ≡ true → All Same (stageMarks stage u seen event lent response after)
-frame-same Free u seen event lent response after e = absurd (false≢true e)
-frame-same (Resting first) u seen event lent response after e = absurd (false≢true e)
-frame-same (Waiting f) u seen event lent response after e = absurd (false≢true e)
-frame-same (Sending f i sender wait) u seen event lent response after e = if-same (sentOf sender (seen .hsk)) (sent (senderNibble sender))
-frame-same (Listening f ear taken quiet) u seen event lent response after e = all-append (if-same (takenOf ear (seen .hsk)) (heard (seen .nibble))) (ended-same u (told event (cond (isSubmitted (f .kind)) after [])))
+pub frame-plain : (stage u : Stage) (seen : Lines) (event : Event) (lent response after : List ℕ) → inFrame stage ≡ true → All Plain (stageMarks stage u seen event lent response after)
+frame-plain Free u seen event lent response after e = absurd (false≢true e)
+frame-plain (Resting first) u seen event lent response after e = absurd (false≢true e)
+frame-plain (Waiting f) u seen event lent response after e = absurd (false≢true e)
+frame-plain (Sending f i sender wait) u seen event lent response after e = if-plain (sentOf sender (seen .hsk)) (sent (senderNibble sender))
+frame-plain (Listening f ear taken quiet) u seen event lent response after e = all-append (if-plain (takenOf ear (seen .hsk)) (heard (seen .nibble))) (ended-plain u (told event (cond (isSubmitted (f .kind)) after [])))
 
 round-same : (v : World) (busy : Busy) → inFrame (v .controller .stage) ≡ true → All Same (roundMarks v busy)
 round-same v busy e =
-    all-append (all-map plain-same (units-plain (levels v) (busy .there) (v .units)))
-    (frame-same (v .controller .stage) (round v busy .controller .stage) (levels v) (eventIn (v .controller) (levels v) (busy .here) (v .lent)) (v .lent) (v .response) (round v busy .response) e)
+    all-map plain-same (all-append (units-plain (levels v) (busy .there) (v .units))
+    (frame-plain (v .controller .stage) (round v busy .controller .stage) (levels v) (eventIn (v .controller) (levels v) (busy .here) (v .lent)) (v .lent) (v .response) (round v busy .response) e))
 
 -- The moments that a run has noted are in its log.
 has-left {ℓ} : {A : Type ℓ} {x : A} {xs : List A} (ys : List A) → Has x xs → Has x (xs ++ ys)

@@ -33,5 +33,6 @@ pub mod Called
 pub mod Captured
 pub mod Shown
 pub mod Placed
+pub mod InTurn
 pub mod FramesEnd
 pub mod TheBus
