@@ -1,5 +1,5 @@
 -- Demand 2, from the rounds and calls of the stages.
-use Prim.Native.Nat.{ℕ, zero, suc, _+_, _<_, _≤_}
+use Prim.Native.Nat.{ℕ, zero, suc, _+_, _<_}
 use native.Mathlib.Omega.{arith}
 use mathlib.Core.Path.{_≡_, refl, sym, _∙_, ap, subst}
 use mathlib.Core.Bool.{Bool, true, false, cond, true≢false, false≢true}
@@ -19,9 +19,7 @@ use Rattle.line.specs.Line.{isReady, hearOf, sentOf}
 use Rattle.phase.specs.declared.Moved.{Moved as Step}
 use Rattle.delivery.proofs.Part.{Stepped, low-step}
 use Rattle.delivery.proofs.Changes.{fresh-changes, sits-changes, talk-changes, part-changes}
-use Rattle.delivery.proofs.Rounds.{Changed, unchanged, fixed-now, done-now, Changes, Returned, returned, Back, from-one, from-nobody, DeliveryBack}
-use Rattle.delivery.proofs.Stages.{Sits}
-use Rattle.answer.specs.Answer.{nothingTaken}
+use Rattle.delivery.proofs.Rounds.{Changed, Changes}
 use Rattle.answer.specs.declared.Response.{Response}
 use Rattle.bus.specs.Bus.{stationStep, isOdd}
 use Rattle.bus.specs.declared.Station.{Station}
@@ -29,7 +27,6 @@ use Rattle.controller.specs.Controller.{newController}
 use Rattle.frame.specs.Frame.{dataOf}
 use Rattle.frame.specs.declared.Frame.{Frame}
 use Rattle.frame.specs.declared.Stage.{Stage}
-use Rattle.frame.specs.declared.Stage.the-variants.{Free, Resting, Waiting, Sending, Listening}
 use Rattle.header.specs.declared.Command.{Command}
 use Rattle.line.specs.declared.Listener.{Listener}
 use Rattle.line.specs.declared.Sender.{Sender}
@@ -43,13 +40,12 @@ use Rattle.serial.specs.declared.Reply.{Reply}
 use Rattle.serial.specs.Serial.{finished}
 use Rattle.serial.specs.declared.Serial.{Serial}
 use Rattle.unit.specs.declared.Unit.{Unit}
-use Rattle.delivery.proofs.Taking.{Fits, f-next, f-placed, f-holds, f-waits}
-use Rattle.delivery.specs.Lists.{All, none, also, One, this, that}
+use Rattle.delivery.specs.Lists.{All, none, also}
 use Rattle.delivery.proofs.Promised.{Moment, Promised}
 use Rattle.delivery.proofs.Stages.{isAnswered, Noted, Hushed, not-its-own, by-the-rule, Sound, addressed, Talk, talks, Part, listens, answers, sits, InFrame, begins, sends, hears, waits, Fresh, idles, On, AtRest, is-free, is-resting, rests, submitted, ended, runs}
 use Rattle.delivery.specs.World.{World, Busy, levels, round, Becomes, in-front, behind, Different, another}
 use Rattle.delivery.specs.Run.{New, QuietStart, Run, start, a-round, a-call}
-use Rattle.delivery.proofs.Rounds.{Took, takes-it, took-it, Runs, Frames, Responses, TakenOnce, FramesCalled, Delivered, listening, whole, sitting, Delivery, Untouched, NobodyElse}
+use Rattle.delivery.proofs.Rounds.{Took, takes-it, took-it, Runs, Responses, TakenOnce}
 use borrow.Author.Tests.{le-ltb}
 use Rattle.controller.specs.Calls.{stepping}
 use Rattle.controller.specs.Controller.{eventIn}
@@ -68,7 +64,7 @@ use Rattle.bus.specs.Bus.{levelsWith}
 use Rattle.delivery.proofs.Frame.{frame-round, becomes-all, own-kept, begin-nibble, begin-high}
 use Rattle.delivery.proofs.Lists.{all-map, one-all, all-zip, all-step, all-becomes, one-map}
 use Rattle.delivery.proofs.Rest.{on-round}
-use Rattle.delivery.proofs.Run.{on-called, in-frame-called, frame-runs, rest-free}
+use Rattle.delivery.proofs.Run.{on-called, frame-runs, rest-free}
 use Rattle.delivery.proofs.Calls.{all-lends}
 
 -- A quiet start is a rest.
@@ -125,71 +121,8 @@ every-run w v q start = starts _ w q
 every-run w _ q (a-round {v = v} r busy) = on-round (Took (a-round r busy)) busy (notes r busy) (wider-on (λ e own x t. took-it e t) (every-run w v q r))
 every-run w _ q (a-call {v = v} r call) = on-called (every-run w v q r) call
 
-pub every-frame : Frames
-every-frame T f found w busy noted x = frame-round T f found busy noted x
-
 pub every-response : Responses
 every-response w v r f found x busy = frame-round (Took (a-round r busy)) f found busy (notes r busy) (wider-frame (λ own y t. took-it (frame-runs x) t) x)
-
-pub every-call : FramesCalled
-every-call T f found w x call = in-frame-called call x
-
--- What a unit's part says of what it has taken.
-fits-count : {n t : ℕ} {sender : Sender} {ear : Listener} → Fits n sender ear t → t ≤ 1
-fits-count f-next = omega arith
-fits-count f-placed = omega arith
-fits-count f-holds = omega arith
-fits-count f-waits = omega arith
-
-delivered : (T : Moment) {c : Command} {d : List ℕ} {i : ℕ} {sender : Sender} (st : Station) → Part (Promised T (st .unit .own) c d) c d i sender st → Delivered T c d i st
-delivered T {i = i} st (listens ear t f h a q) = let n : t ≤ 1 = fits-count f in listening ear (i + t) (omega arith) (omega arith) a h
-delivered T st (answers ear r f l a e p q) = whole ear r a l e p
-delivered T st (sits now a e k q) = sitting now a e
-
--- What a sending stage says.
-abbrev indexIn : Stage → ℕ
-indexIn Free = 0
-indexIn (Resting first) = 0
-indexIn (Waiting f) = 0
-indexIn (Sending f i sender wait) = i
-indexIn (Listening f ear taken quiet) = 0
-
-abbrev frameIn : Frame → Stage → Frame
-frameIn g Free = g
-frameIn g (Resting first) = g
-frameIn g (Waiting f) = g
-frameIn g (Sending f i sender wait) = f
-frameIn g (Listening f ear taken quiet) = f
-
-abbrev isSending : Stage → Bool
-isSending Free = false
-isSending (Resting first) = false
-isSending (Waiting f) = false
-isSending (Sending f i sender true) = false
-isSending (Sending f i sender false) = true
-isSending (Listening f ear taken quiet) = false
-
-rest-sends : {stage : Stage} → AtRest stage → isSending stage ≡ false
-rest-sends is-free = refl
-rest-sends is-resting = refl
-
-in-frame-delivers : {T : Moment} {g : Frame} {found : List ℕ} {v : World} (f : Frame) (i : ℕ) (sender : Sender) → v .controller .stage ≡ Sending f i sender false → InFrame T g found v → All (Delivered T (f .command) (dataOf f (v .lent)) i) (v .units)
-in-frame-delivers f i sender e (begins framed d a) = absurd (false≢true (ap isSending e))
-in-frame-delivers {T} {g} f i sender e (sends j s {units = units} {lent = lent} framed d x l a) =
-    let frames : g ≡ f = ap (frameIn g) e in
-    let places : j ≡ i = ap indexIn e in
-    subst (λ (k : ℕ). All (Delivered T (f .command) (dataOf f lent) k) units) places (subst (λ (h : Frame). All (Delivered T (h .command) (dataOf h lent) j) units) frames (all-map (λ st p. delivered T st (p .0)) a))
-in-frame-delivers f i sender e (hears ear taken quiet framed d l o) = absurd (false≢true (ap isSending e))
-in-frame-delivers f i sender e (waits quiet framed d a why) = absurd (false≢true (ap isSending e))
-
-on-delivers : {T : Moment} {v : World} (f : Frame) (i : ℕ) (sender : Sender) → v .controller .stage ≡ Sending f i sender false → On T v → All (Delivered T (f .command) (dataOf f (v .lent)) i) (v .units)
-on-delivers f i sender e (rests r eight codes d a) = absurd (false≢true (sym (rest-sends r) ∙ ap isSending e))
-on-delivers f i sender e (submitted g framed codes d a) = absurd (false≢true (ap isSending e))
-on-delivers f i sender e (ended eight codes d a) = absurd (false≢true (ap isSending e))
-on-delivers f i sender e (runs g found x codes) = in-frame-delivers f i sender e x
-
-pub delivery : Delivery
-delivery w v f i sender q r e = on-delivers f i sender e (every-run w v q r)
 
 -- No step is refused: the nibble that is seen is one, what is lent fits, and each unit has room for a command.
 pub in-frame-nibble : {T : Moment} {f : Frame} {found : List ℕ} {w : World} → InFrame T f found w → levels w .nibble < 16
@@ -276,14 +209,6 @@ changes-by T f found w host (waits quiet {lent = lent} framed d a why) step = al
 
 pub changes : Changes
 changes T f found w x host = changes-by T f found w host x (λ st s. in-frame-step x st host s)
-
-pub nobody-else : NobodyElse
-nobody-else T f found w x host = all-map (λ st y e. by e y) (changes T f found w x host)
-  where
-    by : {c : Command} {d : List ℕ} {st after : Station} → addressed c (st .unit .own) ≡ false → Changed c d st after → Untouched st after
-    by e (unchanged same as-before) = same
-    by e (fixed-now a old new) = absurd (true≢false (sym a ∙ e))
-    by e (done-now a r j sender p phase inside) = absurd (true≢false (sym a ∙ e))
 
 -- A unit that has taken the last nibble takes no other in that frame.
 data Past : Phase → Type 0 where
@@ -399,47 +324,3 @@ taken-once w _ q (a-round {v = v} r busy) own x y (takes-it st after b e now o i
 taken-once w _ q (a-round {v = v} r busy) own x y (took-it f u) (takes-it st after b e now o i) = absurd (not-again w v q r busy own x f u st after b e now o)
 taken-once w _ q (a-round {v = v} r busy) own x y (took-it f u) (took-it f′ u′) = taken-once w v q r own x y u u′
 taken-once w _ q (a-call {v = v} r call) own x y u u′ = taken-once w v q r own x y u u′
-
--- What a listening stage says.
-abbrev takenIn : Response → Stage → Response
-takenIn x Free = x
-takenIn x (Resting first) = x
-takenIn x (Waiting f) = x
-takenIn x (Sending f i sender wait) = x
-takenIn x (Listening f ear taken quiet) = taken
-
-abbrev isListening : Stage → Bool
-isListening Free = false
-isListening (Resting first) = false
-isListening (Waiting f) = false
-isListening (Sending f i sender wait) = false
-isListening (Listening f ear taken quiet) = true
-
-rest-hears : {stage : Stage} → AtRest stage → isListening stage ≡ false
-rest-hears is-free = refl
-rest-hears is-resting = refl
-
-give-back : (T : Moment) {c : Command} {d : List ℕ} {stores : Bool} {found : List ℕ} {ear : Listener} {taken : Response} {quiet : ℕ} {buffer : List ℕ} (st : Station) → Talk T c d stores found ear taken quiet buffer st → Returned T c d taken st
-give-back T st (talks r j t sender wait e p fits g b l w c q own) = let n : t ≤ 1 = fits-count fits in returned r j (j + t) sender wait e p (omega arith) (omega arith) g
-
-one-back : (T : Moment) {c : Command} {d : List ℕ} {stores : Bool} {found : List ℕ} {ear : Listener} {taken : Response} {quiet : ℕ} {buffer : List ℕ} {ss : List Station} → One (λ (st : Station). Talk T c d stores found ear taken quiet buffer st × Sound st) (λ (st : Station). Sits st × Sound st) ss → One (Returned T c d taken) Sits ss
-one-back T (this {x = st} p a) = this (give-back T st (p .0)) (all-map (λ x q. q .0) a)
-one-back T (that q o) = that (q .0) (one-back T o)
-
-back-as : {T : Moment} {g : Frame} (lent : List ℕ) {taken′ : Response} {units : List Station} (f : Frame) (taken : Response) → g ≡ f → taken′ ≡ taken → Back T (g .command) (dataOf g lent) taken′ units → Back T (f .command) (dataOf f lent) taken units
-back-as {T} {g} lent {taken′} {units} f taken e q b = subst (λ (x : Response). Back T (f .command) (dataOf f lent) x units) q (subst (λ (h : Frame). Back T (h .command) (dataOf h lent) taken′ units) e b)
-
-in-frame-back : {T : Moment} {g : Frame} {found : List ℕ} {v : World} (f : Frame) (ear : Listener) (taken : Response) (quiet : ℕ) → v .controller .stage ≡ Listening f ear taken quiet → InFrame T g found v → Back T (f .command) (dataOf f (v .lent)) taken (v .units)
-in-frame-back f ear taken quiet e (begins framed d a) = absurd (false≢true (ap isListening e))
-in-frame-back f ear taken quiet e (sends j s framed d x l a) = absurd (false≢true (ap isListening e))
-in-frame-back {T} {g} f ear taken quiet e (hears ear′ taken′ quiet′ {lent = lent} framed d l o) = back-as lent f taken (ap (frameIn g) e) (ap (takenIn taken′) e) (from-one (one-back T o))
-in-frame-back {T} {g} f ear taken quiet e (waits quiet′ {lent = lent} framed d a why) = back-as lent f taken (ap (frameIn g) e) (ap (takenIn nothingTaken) e) (from-nobody (all-map (λ st p. p .0) a) refl)
-
-on-back : {T : Moment} {v : World} (f : Frame) (ear : Listener) (taken : Response) (quiet : ℕ) → v .controller .stage ≡ Listening f ear taken quiet → On T v → Back T (f .command) (dataOf f (v .lent)) taken (v .units)
-on-back f ear taken quiet e (rests r eight codes d a) = absurd (false≢true (sym (rest-hears r) ∙ ap isListening e))
-on-back f ear taken quiet e (submitted g framed codes d a) = absurd (false≢true (ap isListening e))
-on-back f ear taken quiet e (ended eight codes d a) = absurd (false≢true (ap isListening e))
-on-back f ear taken quiet e (runs g found x codes) = in-frame-back f ear taken quiet e x
-
-pub delivery-back : DeliveryBack
-delivery-back w v f ear taken quiet q r e = on-back f ear taken quiet e (every-run w v q r)

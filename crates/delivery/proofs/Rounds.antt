@@ -1,17 +1,12 @@
 -- What each round of a run comes to, and what is known of the moments in which units take last nibbles.
-use Prim.Native.Nat.{ℕ, suc, _*_, _≤_}
+use Prim.Native.Nat.{ℕ}
 use mathlib.Core.Path.{_≡_}
 use mathlib.Core.Bool.{Bool, true, false}
 use mathlib.Core.List.{List}
-use lib.ListN.{length}
-use Rattle.whole.specs.Back.{takenAt}
-use Rattle.answer.specs.declared.Response.{Response}
-use Rattle.answer.specs.Answer.{nothingTaken}
 use Rattle.bus.specs.Bus.{stationStep}
 use Rattle.bus.specs.declared.Station.{Station}
 use Rattle.frame.specs.Frame.{dataOf}
 use Rattle.frame.specs.declared.Frame.{Frame}
-use Rattle.frame.specs.declared.Stage.the-variants.{Sending, Listening}
 use Rattle.header.specs.declared.Command.{Command}
 use Rattle.inside.specs.Inside.{Inside, insideOf, replyFor, takenFor, responded}
 use Rattle.line.specs.declared.Listener.{Listener}
@@ -19,12 +14,10 @@ use Rattle.line.specs.declared.Sender.{Sender}
 use Rattle.phase.specs.declared.Phase.the-variants.{Receiving, Responding, SittingOut}
 use Rattle.phase.specs.declared.Progress.the-variants.{Answered}
 use Rattle.serial.specs.declared.Reply.{Reply}
-use Rattle.whole.specs.Whole.{bytesFor}
-use Rattle.delivery.specs.Calls.{Call, called, foundAfter, inFrame}
-use Rattle.delivery.proofs.Taking.{Heard}
-use Rattle.delivery.specs.Lists.{All, One}
-use Rattle.delivery.proofs.Promised.{Moment, Promised}
-use Rattle.delivery.proofs.Stages.{addressed, isAnswered, Noted, InFrame, Goes, On, answerBytes, Sits}
+use Rattle.delivery.specs.Calls.{inFrame}
+use Rattle.delivery.specs.Lists.{All}
+use Rattle.delivery.proofs.Promised.{Moment}
+use Rattle.delivery.proofs.Stages.{addressed, isAnswered, InFrame, Goes, On}
 use Rattle.delivery.specs.World.{World, Busy, levels, Becomes}
 use Rattle.delivery.specs.Run.{QuietStart, Run, start, a-round, a-call}
 
@@ -48,58 +41,13 @@ Runs = (w v : World) → QuietStart w → (r : Run w v) → On (Took r) v
 
 -- Each round of a frame leads on in it, or ends it: with the status, the data and the count that the whole-message definition gives for
 -- what was inside the addressed unit when the last nibble was taken, at the front of the response buffer that the frame found, and what
--- waited done; or with nothing taken (FF), where no response is defined. T is whatever is known of the moments in which last nibbles are
--- taken:
-abbrev pub Frames : Type 1
-Frames = (T : Moment) (f : Frame) (found : List ℕ) (w : World) → (busy : Busy) → Noted T w busy → InFrame T f found w → Goes T f found w busy
-
--- so on a run those are the moments in which the units took it, in this very frame.
+-- waited done; or with nothing taken (FF), where no response is defined.
 abbrev pub Responses : Type 0
 Responses = (w v : World) (r : Run w v) (f : Frame) (found : List ℕ) → InFrame (Took r) f found v → (busy : Busy) → Goes (Took (a-round r busy)) f found v busy
 
 -- And a unit takes the last nibble of a frame once: there is one such moment.
 abbrev pub TakenOnce : Type 0
 TakenOnce = (w v : World) → QuietStart w → (r : Run w v) (own : ℕ) (x y : Inside) → Took r own x → Took r own y → x ≡ y
-
--- A call in mid-frame leaves the frame as it is. One that lends a service frame another response buffer has it stand there as found.
-abbrev pub FramesCalled : Type 1
-FramesCalled = (T : Moment) (f : Frame) (found : List ℕ) (w : World) → InFrame T f found w → (call : Call) → InFrame T f (foundAfter w call found) (called w call)
-
--- Delivery. While nibble i of a command is sent, each unit has taken the first i nibbles of it, or one more: each once and in order. A
--- unit that the command does not address sits out behind the device code. When the last is taken, the reply is fixed.
-pub data Delivered (T : Moment) (c : Command) (d : List ℕ) (i : ℕ) (st : Station) : Type 0 where
-  listening : (ear : Listener) (k : ℕ) → i ≤ k → k ≤ suc i → (2 ≤ k → addressed c (st .unit .own) ≡ true) → Heard (bytesFor c d) ear k (st .unit .phase) (st .buffer) → Delivered T c d i st
-  whole :
-      (ear : Listener) (r : Reply) → addressed c (st .unit .own) ≡ true → suc i ≡ 2 * length (bytesFor c d) → st .unit .phase ≡ Receiving ear (Answered r)
-      → Promised T (st .unit .own) c d r (insideOf st) → Delivered T c d i st
-  sitting : (now : Bool) → addressed c (st .unit .own) ≡ false → st .unit .phase ≡ SittingOut now → Delivered T c d i st
-
-abbrev pub Delivery : Type 0
-Delivery =
-    (w v : World) (f : Frame) (i : ℕ) (sender : Sender)
-    → QuietStart w
-    → (r : Run w v)
-    → v .controller .stage ≡ Sending f i sender false
-    → All (Delivered (Took r) (f .command) (dataOf f (v .lent)) i) (v .units)
-
--- The same for the response. While the controller listens, one unit responds, and the controller has taken the first j nibbles of its
--- response, which count as sent, or one more: each once and in order. Or nobody does, and nothing was taken.
-pub data Returned (T : Moment) (c : Command) (d : List ℕ) (taken : Response) (st : Station) : Type 0 where
-  returned :
-      (r : Reply) (j k : ℕ) (sender : Sender) (wait : Bool) → st .unit .phase ≡ Responding r j sender wait → (p : Promised T (st .unit .own) c d r (insideOf st)) → j ≤ k → k ≤ suc j
-      → taken ≡ takenAt (answerBytes p) (c .«buffer_length») k → Returned T c d taken st
-
-pub data Back (T : Moment) (c : Command) (d : List ℕ) (taken : Response) (ss : List Station) : Type 0 where
-  from-one : One (Returned T c d taken) Sits ss → Back T c d taken ss
-  from-nobody : All Sits ss → taken ≡ nothingTaken → Back T c d taken ss
-
-abbrev pub DeliveryBack : Type 0
-DeliveryBack =
-    (w v : World) (f : Frame) (ear : Listener) (taken : Response) (quiet : ℕ)
-    → QuietStart w
-    → (r : Run w v)
-    → v .controller .stage ≡ Listening f ear taken quiet
-    → Back (Took r) (f .command) (dataOf f (v .lent)) taken (v .units)
 
 -- What a round of a frame makes of a unit. Nothing of what is inside it changes; or it takes the last nibble: its reply is fixed, by the
 -- whole-message definition for what is inside it, and the effects happen; or the last nibble of its response is done, and what waited for
@@ -125,12 +73,3 @@ Changes =
     → InFrame T f found w
     → (host : Bool)
     → All (λ (st : Station). Changed (f .command) (dataOf f (w .lent)) st (stationStep st (levels w) host)) (w .units)
-
--- Nobody else: in no round of a frame does anything change inside a unit that the command does not address: opening, queues, enabling or
--- request.
-abbrev pub NobodyElse : Type 1
-NobodyElse =
-    (T : Moment) (f : Frame) (found : List ℕ) (w : World)
-    → InFrame T f found w
-    → (host : Bool)
-    → All (λ (st : Station). addressed (f .command) (st .unit .own) ≡ false → Untouched st (stationStep st (levels w) host)) (w .units)
