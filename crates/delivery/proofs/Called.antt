@@ -15,7 +15,7 @@ use Rattle.inside.proofs.Calls.{unit-called}
 use Rattle.line.specs.declared.Listener.{Listener}
 use Rattle.message.specs.Answer.{Answer, gives, refused, kept}
 use Rattle.phase.specs.declared.Phase.{Phase}
-use Rattle.delivery.specs.Calls.{Call, host, submits, acknowledges, lends, lendsUnit, called, calledAt, bufferAt, inFrame, foundAfter}
+use Rattle.delivery.specs.Calls.{Call, host, submits, acknowledges, lends, lendsUnit, called, calledAt, bufferAt, withBuffer, inFrame, foundAfter}
 use Rattle.delivery.specs.Demand2.{Answerer, nobody, unit, actsOf, Answers, Hushes, not-meant, by-the-rule, codesOf}
 use Rattle.delivery.specs.Lists.{All, none, also, Has, Pairs, no-pair, a-pair}
 use Rattle.delivery.specs.Log.{Act, Deed, settled, Mark, submitted, callMarks, submissionMarks, Capture, actsIn, deedsIn}
@@ -86,30 +86,34 @@ pub record Alike (st after : Station) : Type 0 where
   pub own : after .unit .own ≡ st .unit .own
   pub phase : after .unit .phase ≡ st .unit .phase
 
-alike-all : (ss : List Station) → Pairs Alike ss ss
-alike-all [] = no-pair
-alike-all (st ∷ ss) = a-pair (record { own = refl; phase = refl }) (alike-all ss)
+-- At no unit of a list, or at one that is lent another command buffer.
+pub pairs-same : {R : Station → Station → Type 0} → ((st : Station) → R st st) → (ss : List Station) → Pairs R ss ss
+pairs-same f [] = no-pair
+pairs-same f (st ∷ ss) = a-pair (f st) (pairs-same f ss)
+
+pairs-lent : {R : Station → Station → Type 0} (i : ℕ) (buffer : List ℕ) → ((st : Station) → R st st) → ((st : Station) → R st (withBuffer buffer st)) → (ss : List Station) → Pairs R ss (bufferAt i buffer ss)
+pairs-lent i buffer f g [] = no-pair
+pairs-lent zero buffer f g (st ∷ ss) = a-pair (g st) (pairs-same f ss)
+pairs-lent (suc i) buffer f g (st ∷ ss) = a-pair (f st) (pairs-lent i buffer f g ss)
+
+pub pairs-lends : {R : Station → Station → Type 0} (t : Bool) (i : ℕ) (buffer : List ℕ) → ((st : Station) → R st st) → ((st : Station) → R st (withBuffer buffer st)) → (ss : List Station) → Pairs R ss (cond t ss (bufferAt i buffer ss))
+pairs-lends true i buffer f g ss = pairs-same f ss
+pairs-lends false i buffer f g ss = pairs-lent i buffer f g ss
+
+as-it-was : (st : Station) → Alike st st
+as-it-was st = record { own = refl; phase = refl }
 
 alike-at : (i : ℕ) (call : HostCall) (ss : List Station) → Pairs Alike ss (calledAt i call ss)
 alike-at i call [] = no-pair
-alike-at zero call (st ∷ ss) = let k = unit-called call st in a-pair (record { own = k .own; phase = k .phase }) (alike-all ss)
-alike-at (suc i) call (st ∷ ss) = a-pair (record { own = refl; phase = refl }) (alike-at i call ss)
-
-alike-lent : (i : ℕ) (buffer : List ℕ) (ss : List Station) → Pairs Alike ss (bufferAt i buffer ss)
-alike-lent i buffer [] = no-pair
-alike-lent zero buffer (st ∷ ss) = a-pair (record { own = refl; phase = refl }) (alike-all ss)
-alike-lent (suc i) buffer (st ∷ ss) = a-pair (record { own = refl; phase = refl }) (alike-lent i buffer ss)
+alike-at zero call (st ∷ ss) = let k = unit-called call st in a-pair (record { own = k .own; phase = k .phase }) (pairs-same as-it-was ss)
+alike-at (suc i) call (st ∷ ss) = a-pair (as-it-was st) (alike-at i call ss)
 
 pub alike-called : (v : World) (call : Call) → Pairs Alike (v .units) (called v call .units)
 alike-called v (host i call) = alike-at i call (v .units)
-alike-called v (submits k d response r b) = alike-all (v .units)
-alike-called v (acknowledges code h) = alike-all (v .units)
-alike-called v (lends d response) = alike-all (v .units)
-alike-called v (lendsUnit i buffer) = by (inFrame (v .controller .stage))
-  where
-    by : (t : Bool) → Pairs Alike (v .units) (cond t (v .units) (bufferAt i buffer (v .units)))
-    by true = alike-all (v .units)
-    by false = alike-lent i buffer (v .units)
+alike-called v (submits k d response r b) = pairs-same as-it-was (v .units)
+alike-called v (acknowledges code h) = pairs-same as-it-was (v .units)
+alike-called v (lends d response) = pairs-same as-it-was (v .units)
+alike-called v (lendsUnit i buffer) = pairs-lends (inFrame (v .controller .stage)) i buffer as-it-was (λ st. record { own = refl; phase = refl }) (v .units)
 
 pub pairs-all : {P Q : Station → Type 0} {R : Station → Station → Type 0} → ((st after : Station) → R st after → P st → Q after) → {ss after : List Station} → Pairs R ss after → All P ss → All Q after
 pairs-all f no-pair none = none

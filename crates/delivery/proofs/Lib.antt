@@ -34,5 +34,6 @@ pub mod Captured
 pub mod Shown
 pub mod Placed
 pub mod InTurn
+pub mod Followed
 pub mod FramesEnd
 pub mod TheBus
