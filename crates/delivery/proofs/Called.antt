@@ -16,13 +16,13 @@ use Rattle.line.specs.declared.Listener.{Listener}
 use Rattle.message.specs.Answer.{Answer, gives, refused, kept}
 use Rattle.phase.specs.declared.Phase.{Phase}
 use Rattle.delivery.specs.Calls.{Call, host, submits, acknowledges, lends, lendsUnit, called, calledAt, bufferAt, withBuffer, inFrame, foundAfter}
-use Rattle.delivery.specs.Demand2.{Answerer, nobody, unit, actsOf, Answers, Hushes, not-meant, by-the-rule, codesOf}
+use Rattle.delivery.specs.Demand2.{Answerer, nobody, unit, actsOf, Answers, Hushes, not-meant, by-the-rule, codesOf, Ended}
 use Rattle.delivery.specs.Lists.{All, none, also, Has, Pairs, no-pair, a-pair}
 use Rattle.delivery.specs.Log.{Act, Deed, settled, Mark, submitted, callMarks, submissionMarks, Capture, actsIn, deedsIn}
 use Rattle.delivery.proofs.Promised.{Moment}
 use Rattle.delivery.proofs.Stages.{InFrame, isResponding}
 use Rattle.delivery.specs.World.{World}
-use Rattle.delivery.proofs.Completed.{Complete, one-both}
+use Rattle.delivery.proofs.Completed.{one-both}
 use Rattle.delivery.proofs.Deeds.{Did}
 use Rattle.delivery.proofs.Lists.{all-map}
 use Rattle.delivery.proofs.Logged.{Story}
@@ -73,7 +73,7 @@ module _ (l : Capture) (ms : List Mark) (idle : Idle ms) where
   acts-of-same nobody = refl
   acts-of-same (unit own x) = refl
 
-  pub complete-idle : {codes : List ℕ} → Complete codes l → Complete codes (grown l ms)
+  pub complete-idle : {codes : List ℕ} → Ended codes l → Ended codes (grown l ms)
   complete-idle {codes} k = record {
     answerer = k .answerer;
     acted = acts-same ∙ k .acted ∙ acts-of-same (k .answerer);

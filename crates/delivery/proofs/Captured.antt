@@ -21,7 +21,7 @@ use Rattle.message.specs.Answer.{Answer, gives, refused, kept}
 use Rattle.turn.specs.declared.Event.{Event}
 use lib.ListN.{length}
 use Rattle.delivery.specs.Calls.{Call, host, submits, acknowledges, lends, lendsUnit, called, inFrame}
-use Rattle.delivery.specs.Demand2.{codesOf}
+use Rattle.delivery.specs.Demand2.{codesOf, Ended}
 use Rattle.delivery.specs.Run.{QuietStart, Run, start, a-round, a-call}
 use Rattle.delivery.proofs.Rounds.{Took, takes-it, took-it}
 use Rattle.delivery.specs.Lists.{All, none, also, Has, here, there}
@@ -31,10 +31,10 @@ use Rattle.delivery.proofs.Stages.{Fresh, idles, selects, InFrame, begi
 use Rattle.delivery.specs.World.{World, Busy, levels, round}
 use Rattle.delivery.proofs.Between.{isBegun, nothing-between, begins-by, buffer-rests, rest-marks, begun-marks}
 use Rattle.delivery.proofs.Called.{Idle, call-idle, complete-idle, alike-called, codes-alike, story-called}
-use Rattle.delivery.proofs.Completed.{Complete, codes-after}
+use Rattle.delivery.proofs.Completed.{codes-after}
 use Rattle.delivery.proofs.EveryRound.{every-run, every-response, in-frame-different, in-frame-low, in-frame-sound, in-frame-step, becomes-step}
 use Rattle.delivery.proofs.Frame.{becomes-all}
-use Rattle.delivery.proofs.Lists.{all-map}
+use Rattle.delivery.proofs.Lists.{all-map, has-left, has-right}
 use Rattle.delivery.proofs.Listened.{becomes-after}
 use Rattle.delivery.proofs.Logged.{Story, Onward, runs-on, is-complete, round-by, answered-deeds}
 use Rattle.delivery.proofs.Logs.{Plain, Same, plain-same, all-append, units-plain, cut-append, cut-same, cut-nothing, deeds-append}
@@ -44,8 +44,8 @@ use Rattle.delivery.proofs.Run.{frame-runs}
 use Rattle.delivery.proofs.Story.{laterOf, deeds-now, sending-so, DidAt}
 
 pub data Frames (T : Moment) (v : World) : List Capture → Type 0 where
-  at-rest : {ls : List Capture} → inFrame (v .controller .stage) ≡ false → All (Complete (codesOf (v .units))) ls → Frames T v ls
-  in-one : {l : Capture} {ls : List Capture} → Story T l v → All (Complete (codesOf (v .units))) ls → Frames T v (l ∷ ls)
+  at-rest : {ls : List Capture} → inFrame (v .controller .stage) ≡ false → All (Ended (codesOf (v .units))) ls → Frames T v ls
+  in-one : {l : Capture} {ls : List Capture} → Story T l v → All (Ended (codesOf (v .units))) ls → Frames T v (l ∷ ls)
 
 -- A round of a frame begins no other, and submits nothing.
 if-plain : (t : Bool) (a : Act) → All Plain (cond t (acts a ∷ []) [])
@@ -72,14 +72,6 @@ round-same v busy e =
     (frame-plain (v .controller .stage) (round v busy .controller .stage) (levels v) (eventIn (v .controller) (levels v) (busy .here) (v .lent)) (v .lent) (v .response) (round v busy .response) e))
 
 -- The moments that a run has noted are in its log.
-has-left {ℓ} : {A : Type ℓ} {x : A} {xs : List A} (ys : List A) → Has x xs → Has x (xs ++ ys)
-has-left ys here = here
-has-left ys (there h) = there (has-left ys h)
-
-has-right {ℓ} : {A : Type ℓ} {x : A} (xs : List A) {ys : List A} → Has x ys → Has x (xs ++ ys)
-has-right [] h = h
-has-right (y ∷ xs) h = there (has-right xs h)
-
 moments-round : {w v : World} (r : Run w v) (busy : Busy) (l : Capture) (s : Story (Took r) l v) (own : ℕ) (y : Inside) → Took (a-round r busy) own y → Has (settled y) (deedsIn own (laterOf l v busy .marks))
 moments-round {w} {v} r busy l s own y (takes-it st after b e now o i) =
     let k = becomes-step b in
@@ -128,10 +120,10 @@ module _ {w v : World} (q : QuietStart w) (r : Run w v) (busy : Busy) where
   c = v .controller
 
   -- From a rest.
-  rest-round : (t : Bool) (ls : List Capture) → inFrame (u .controller .stage) ≡ t → inFrame (c .stage) ≡ false → All (Complete (codesOf (v .units))) ls → Frames (Took (a-round r busy)) u (cutAll ls (roundMarks v busy))
+  rest-round : (t : Bool) (ls : List Capture) → inFrame (u .controller .stage) ≡ t → inFrame (c .stage) ≡ false → All (Ended (codesOf (v .units))) ls → Frames (Took (a-round r busy)) u (cutAll ls (roundMarks v busy))
   rest-round false ls t e a =
       let marks : roundMarks v busy ≡ [] = λ i. nothing-between (every-run w v q r) e (busy .there) i ++ rest-marks (c .timeout) (c .ring) (levels v) (busy .here) (v .lent) (v .response) (eventIn c (levels v) (busy .here) (v .lent)) (u .response) (c .stage) (u .controller .stage) e t i in
-      subst (λ (ms : List Mark). Frames (Took (a-round r busy)) u (cutAll ls ms)) (sym marks) (at-rest t (subst (λ (codes : List ℕ). All (Complete codes) ls) (sym (codes-after (levels v) (busy .there) (v .units))) a))
+      subst (λ (ms : List Mark). Frames (Took (a-round r busy)) u (cutAll ls ms)) (sym marks) (at-rest t (subst (λ (codes : List ℕ). All (Ended codes) ls) (sym (codes-after (levels v) (busy .there) (v .units))) a))
   rest-round true ls t e a =
       let b = begun-view (every-run w u q (a-round r busy)) (begins-by (c .timeout) (c .ring) (levels v) (busy .here) (v .lent) (v .response) (c .stage) e t) in
       let l : Capture = record { frame = b .frame; lent = dataOf (b .frame) (v .lent); found = v .response; marks = [] } in
@@ -147,7 +139,7 @@ module _ {w v : World} (q : QuietStart w) (r : Run w v) (busy : Busy) where
         did = all-map (λ st f. fresh-did l (dataOf (b .frame) (v .lent)) st refl f) (b .fresh);
         acted = sending-so 0 Next true (b .stage) refl;
         moments = λ own y k. absurd (none-noted (b .fresh) own y k);
-      }) (subst (λ (codes : List ℕ). All (Complete codes) ls) (sym (codes-after (levels v) (busy .there) (v .units))) a))
+      }) (subst (λ (codes : List ℕ). All (Ended codes) ls) (sym (codes-after (levels v) (busy .there) (v .units))) a))
     where
       none-noted : All Fresh (u .units) → (own : ℕ) (y : Inside) → Took (a-round r busy) own y → ⊥
       none-noted fresh own y (takes-it st after m f now o i) = true≢false (sym now ∙ fresh-open (becomes-after m fresh))
@@ -159,8 +151,8 @@ module _ {w v : World} (q : QuietStart w) (r : Run w v) (busy : Busy) where
       subst (Frames (Took (a-round r busy)) u) (sym (cut-same l ls (round-same v busy (frame-runs (s .frame)))))
       (by (round-by l v busy (s .frame) (s .kept) (s .lent) (s .did) (s .acted) (s .moments) (moments-round r busy l s) (every-response w v r (l .frame) (s .found) (s .frame) busy)))
     where
-      codes-now : All (Complete (codesOf (u .units))) ls
-      codes-now = subst (λ (codes : List ℕ). All (Complete codes) ls) (sym (codes-after (levels v) (busy .there) (v .units))) a
+      codes-now : All (Ended (codesOf (u .units))) ls
+      codes-now = subst (λ (codes : List ℕ). All (Ended codes) ls) (sym (codes-after (levels v) (busy .there) (v .units))) a
 
       by : Onward (Took (a-round r busy)) (laterOf l v busy) u → Frames (Took (a-round r busy)) u (laterOf l v busy ∷ ls)
       by (runs-on s′) = in-one s′ codes-now
@@ -182,16 +174,16 @@ rest-called v (acknowledges code h) e = acknowledged-rests (v .controller) code 
 rest-called v (lends d response) e = e
 rest-called v (lendsUnit i buffer) e = e
 
-complete-called : {codes : List ℕ} (ms : List Mark) → Idle ms → {ls : List Capture} → All (Complete codes) ls → All (Complete codes) (cutAll ls ms)
-complete-called {codes} ms idle none = subst (All (Complete codes)) (sym (cut-nothing (idle .same))) none
-complete-called {codes} ms idle (also {x = l} {xs = ls} k a) = subst (All (Complete codes)) (sym (cut-same l ls (idle .same))) (also (complete-idle l ms idle k) a)
+complete-called : {codes : List ℕ} (ms : List Mark) → Idle ms → {ls : List Capture} → All (Ended codes) ls → All (Ended codes) (cutAll ls ms)
+complete-called {codes} ms idle none = subst (All (Ended codes)) (sym (cut-nothing (idle .same))) none
+complete-called {codes} ms idle (also {x = l} {xs = ls} k a) = subst (All (Ended codes)) (sym (cut-same l ls (idle .same))) (also (complete-idle l ms idle k) a)
 
 call-frames : {T : Moment} (v : World) (call : Call) {ls : List Capture} → Frames T v ls → Frames T (called v call) (cutAll ls (callMarks v call))
 call-frames v call {ls} (at-rest e a) =
-    at-rest (rest-called v call e) (subst (λ (codes : List ℕ). All (Complete codes) (cutAll ls (callMarks v call))) (sym (codes-alike (alike-called v call))) (complete-called (callMarks v call) (call-idle v call) a))
+    at-rest (rest-called v call e) (subst (λ (codes : List ℕ). All (Ended codes) (cutAll ls (callMarks v call))) (sym (codes-alike (alike-called v call))) (complete-called (callMarks v call) (call-idle v call) a))
 call-frames {T} v call (in-one {l = l} {ls = ls} s a) =
     subst (Frames T (called v call)) (sym (cut-same l ls (call-idle v call .same)))
-    (in-one (story-called l v call s) (subst (λ (codes : List ℕ). All (Complete codes) ls) (sym (codes-alike (alike-called v call))) a))
+    (in-one (story-called l v call s) (subst (λ (codes : List ℕ). All (Ended codes) ls) (sym (codes-alike (alike-called v call))) a))
 
 pub frames-run : (w v : World) → QuietStart w → (r : Run w v) → Frames (Took r) v (framesOf (log r))
 frames-run w _ q start = at-rest (ap (λ (c : Controller). inFrame (c .stage)) (q .is-new)) none

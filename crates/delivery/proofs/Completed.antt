@@ -8,19 +8,13 @@ use Rattle.bus.specs.declared.Station.{Station}
 use Rattle.inside.specs.Inside.{Inside, replyFor}
 use Rattle.line.specs.declared.Lines.{Lines}
 use Rattle.reply.specs.Reply.{isSilent}
-use Rattle.delivery.specs.Demand2.{Answerer, actsOf, deedsOf, Answers, Hushes, not-meant as not-meant-by, by-the-rule, codesOf}
+use Rattle.delivery.specs.Demand2.{deedsOf, Hushes, not-meant as not-meant-by, by-the-rule, codesOf}
 use Rattle.delivery.specs.Lists.{All, none, also, One, this, that, Has, here, there}
-use Rattle.delivery.specs.Log.{Capture, Deed, took, settled, spoke, done, actsIn, deedsIn}
+use Rattle.delivery.specs.Log.{Capture, Deed, took, settled, spoke, done, deedsIn}
 use Rattle.delivery.proofs.Stages.{addressed}
 use Rattle.delivery.proofs.Deeds.{nibblesFor, answerFor, Hush, not-meant, by-rule}
 use Rattle.delivery.proofs.Frame.{own-kept}
 use Rattle.delivery.proofs.Lists.{all-map, all-zip, has-all}
-
-pub record Complete (codes : List ℕ) (l : Capture) : Type 0 where
-  pub answerer : Answerer
-  pub acted : actsIn (l .marks) ≡ actsOf l answerer
-  pub answers : Answers codes l answerer
-  pub parts : All (λ (own : ℕ). (x : Inside) × (deedsIn own (l .marks) ≡ deedsOf l own x)) codes
 
 -- Codes stay as they are.
 pub codes-after : (seen : Lines) (hosts : ℕ) (ss : List Station) → codesOf (unitsAfter seen hosts ss) ≡ codesOf ss

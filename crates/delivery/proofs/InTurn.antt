@@ -31,9 +31,9 @@ use Rattle.ring.specs.declared.Ring.{Ring}
 use Rattle.turn.specs.Turn.{turnOf}
 use Rattle.turn.specs.declared.Event.{Event}
 use Rattle.delivery.specs.Calls.{Call, host, submits, acknowledges, lends, lendsUnit, called}
-use Rattle.delivery.specs.Demand2.{Due, service, command, dueAll, IsService, InTurn}
+use Rattle.delivery.specs.Demand2.{IsService, InTurn}
 use Rattle.delivery.specs.Lists.{All, none, also}
-use Rattle.delivery.specs.Log.{Mark, begins, acts, does, asks, submitted, begunBy, stageMarks, roundMarks, submissionMarks, callMarks, log}
+use Rattle.delivery.specs.Log.{Mark, begins, acts, does, asks, submitted, begunBy, stageMarks, roundMarks, submissionMarks, callMarks, log, Due, service, command, dueAll}
 use Rattle.delivery.specs.Run.{QuietStart, Run, start, a-round, a-call}
 use Rattle.delivery.specs.World.{World, Busy, levels, round}
 use Rattle.delivery.proofs.Stages.{world}

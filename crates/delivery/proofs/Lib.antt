@@ -34,6 +34,8 @@ pub mod Captured
 pub mod Shown
 pub mod Placed
 pub mod InTurn
+pub mod Told
 pub mod Followed
+pub mod Demand2
 pub mod FramesEnd
 pub mod TheBus

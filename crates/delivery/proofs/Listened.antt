@@ -41,9 +41,9 @@ use Rattle.inside.specs.Inside.{dataIn}
 use Rattle.reply.specs.Reply.{isSilent, replyStatus}
 use Rattle.turn.specs.Turn.{eventOf}
 use Rattle.whole.specs.Back.{received}
-use Rattle.delivery.specs.Demand2.{unit, actsOf, endBy, codesOf}
+use Rattle.delivery.specs.Demand2.{unit, actsOf, endBy, codesOf, Ended}
 use Rattle.delivery.proofs.Stages.{addressed, Finishes, movedIn, Spoke, spoke as spoke-it, answerData}
-use Rattle.delivery.proofs.Completed.{Complete, codes-after, all-codes, one-codes, one-both, one-zip, has-one, hush-hushes, hush-part, spoken-has, spoken-part}
+use Rattle.delivery.proofs.Completed.{codes-after, all-codes, one-codes, one-both, one-zip, has-one, hush-hushes, hush-part, spoken-has, spoken-part}
 use Rattle.delivery.proofs.Deeds.{Hush}
 use Rattle.delivery.proofs.Listening.{Seen}
 use Rattle.delivery.proofs.Spoken.{took-no, spoke-no, settled-first}
@@ -286,10 +286,10 @@ module _ {T : Moment} (l : Capture) {found : List ℕ} (ear : Listener) (taken :
       end-of k (this (spoke-it r j sender before has z own m p e b inside sits, s) a) = spoke-end before r (has-one k has (λ q. true≢false (sym (ap isResponding z) ∙ q .0))) p e b
       end-of k (that q o) = end-of k o
 
-      pub hears-complete : One (λ (st : Station). Spoke T′ (l .frame) d found (movedIn v busy) (round v busy .response) units st × Sound st) (λ (st : Station). Sits st × Sound st) (round v busy .units) → Complete (codesOf (round v busy .units)) ended
+      pub hears-complete : One (λ (st : Station). Spoke T′ (l .frame) d found (movedIn v busy) (round v busy .response) units st × Sound st) (λ (st : Station). Sits st × Sound st) (round v busy .units) → Ended (codesOf (round v busy .units)) ended
       hears-complete spoken =
           let w = who-answered in
-          subst (λ (codes : List ℕ). Complete codes ended) (sym (codes-after seen (busy .there) units)) (record {
+          subst (λ (codes : List ℕ). Ended codes ended) (sym (codes-after seen (busy .there) units)) (record {
             answerer = unit (w .0) (w .1);
             acted = end-of (w .2) spoken;
             answers = one-codes (one-both (λ st k.

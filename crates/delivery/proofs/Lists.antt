@@ -1,7 +1,7 @@
 -- Lists of units, of which all, or exactly one, have a property.
 use Prim.Native.Nat.{ℕ, _/_}
 use mathlib.Core.Bool.{Bool}
-use mathlib.Core.List.{List, _∷_}
+use mathlib.Core.List.{List, [], _∷_, _++_}
 use Rattle.bus.specs.Bus.{stationStep, unitsAfter, isOdd}
 use Rattle.bus.specs.declared.Station.{Station}
 use Rattle.line.specs.declared.Lines.{Lines}
@@ -49,3 +49,11 @@ all-becomes seen hosts f (also {x = st} p a) = also (f st (isOdd hosts) in-front
 pub one-step : {P Q P′ Q′ : Station → Type 0} (seen : Lines) → ((st : Station) (busy : Bool) → P st → P′ (stationStep st seen busy)) → ((st : Station) (busy : Bool) → Q st → Q′ (stationStep st seen busy)) → (hosts : ℕ) {ss : List Station} → One P Q ss → One P′ Q′ (unitsAfter seen hosts ss)
 one-step seen f g hosts (this {x = st} p a) = this (f st (isOdd hosts) p) (all-step seen g (hosts / 2) a)
 one-step seen f g hosts (that {x = st} q o) = that (g st (isOdd hosts) q) (one-step seen f g (hosts / 2) o)
+
+pub has-left {ℓ} : {A : Type ℓ} {x : A} {xs : List A} (ys : List A) → Has x xs → Has x (xs ++ ys)
+has-left ys here = here
+has-left ys (there h) = there (has-left ys h)
+
+pub has-right {ℓ} : {A : Type ℓ} {x : A} (xs : List A) {ys : List A} → Has x ys → Has x (xs ++ ys)
+has-right [] h = h
+has-right (y ∷ xs) h = there (has-right xs h)

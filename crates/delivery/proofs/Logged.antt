@@ -30,13 +30,12 @@ use Rattle.phase.specs.declared.Phase.the-variants.{Idle, Selecting, Receiving,
 use Rattle.phase.specs.declared.Progress.the-variants.{Taking, Answered}
 use Rattle.reply.specs.Reply.{lastNibble}
 use Rattle.delivery.specs.Calls.{inFrame}
-use Rattle.delivery.specs.Demand2.{codesOf}
+use Rattle.delivery.specs.Demand2.{codesOf, Ended}
 use Rattle.delivery.specs.Lists.{All, also, One, this, that, Has, here, there}
 use Rattle.delivery.specs.Log.{sent, took, settled, settledBy, deedsBy, Capture, actsIn, deedsIn}
 use Rattle.delivery.proofs.Promised.{Moment}
 use Rattle.delivery.proofs.Stages.{Sits, Sound, Talk, talks, InFrame, begins, sends, hears, waits, Goes, on, answered, unanswered, Spoke, spoke, Finishes, movedIn, isAnswered, isResponding}
 use Rattle.delivery.specs.World.{World, Busy, levels, round}
-use Rattle.delivery.proofs.Completed.{Complete}
 use Rattle.delivery.proofs.Deeds.{nibblesFor}
 use Rattle.delivery.proofs.EveryRound.{in-frame-nibble, in-frame-low}
 use Rattle.delivery.proofs.Frame.{control, begin-high}
@@ -60,7 +59,7 @@ pub record Story (T : Moment) (l : Capture) (v : World) : Type 0 where
 
 pub data Onward (T : Moment) (l : Capture) (v : World) : Type 0 where
   runs-on : Story T l v → Onward T l v
-  is-complete : inFrame (v .controller .stage) ≡ false → Complete (codesOf (v .units)) l → Onward T l v
+  is-complete : inFrame (v .controller .stage) ≡ false → Ended (codesOf (v .units)) l → Onward T l v
 
 abbrev earIn : Stage → Listener
 earIn Free = Ready
@@ -103,8 +102,8 @@ all-still o = one-all by (λ st p. ap isResponding (p .0 .0)) o
 
 -- With the data that the frame began with.
 as-begun : (l : Capture) (v : World) (busy : Busy) {codes : List ℕ} → dataOf (l .frame) (v .lent) ≡ l .lent
-    → Complete codes (record { frame = l .frame; lent = dataOf (l .frame) (v .lent); found = l .found; marks = laterOf l v busy .marks }) → Complete codes (laterOf l v busy)
-as-begun l v busy {codes} e k = subst (Complete codes) (λ i. record { frame = l .frame; lent = e i; found = l .found; marks = laterOf l v busy .marks }) k
+    → Ended codes (record { frame = l .frame; lent = dataOf (l .frame) (v .lent); found = l .found; marks = laterOf l v busy .marks }) → Ended codes (laterOf l v busy)
+as-begun l v busy {codes} e k = subst (Ended codes) (λ i. record { frame = l .frame; lent = e i; found = l .found; marks = laterOf l v busy .marks }) k
 
 module _ {T T′ : Moment} (l : Capture) {found : List ℕ} where
   pub round-by : (v : World) (busy : Busy) → InFrame T (l .frame) found v → (isSubmitted (l .frame .kind) ≡ true → found ≡ l .found) → dataOf (l .frame) (v .lent) ≡ l .lent

@@ -14,10 +14,9 @@ use Rattle.inside.specs.Inside.{insideOf}
 use Rattle.line.specs.Line.{sentOf, takenOf, senderNibble}
 use Rattle.line.specs.declared.Lines.{Lines}
 use Rattle.turn.specs.declared.Event.{Event}
-use Rattle.delivery.specs.Demand2.{Due, dueBy, dueAll}
 use Rattle.delivery.specs.Following.{Whole, followingAll, following}
 use Rattle.delivery.specs.Lists.{All, none, also}
-use Rattle.delivery.specs.Log.{Act, sent, heard, told, Deed, Mark, begins, acts, does, asks, submitted, stationDeeds, unitsMarks, stageMarks, begunBy, endedBy, hostMarks, Capture, cut, cutAll, actIn, actsIn, deedIn, deedsIn, deedsBy}
+use Rattle.delivery.specs.Log.{Act, sent, heard, told, Deed, Mark, begins, acts, does, asks, submitted, stationDeeds, unitsMarks, stageMarks, begunBy, endedBy, hostMarks, Capture, cut, cutAll, actIn, actsIn, deedIn, deedsIn, deedsBy, Due, dueBy, dueAll}
 use Rattle.delivery.specs.World.{Becomes, in-front, behind, Different, another}
 
 -- One after the other.

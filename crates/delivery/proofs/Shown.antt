@@ -1,5 +1,5 @@
--- What the log shows of a frame, from what is known of it as it runs and as it has ended.
-use Prim.Native.Nat.{ℕ, zero, suc, _+_, _*_, _<_, _≤_, min}
+-- What the log shows of a frame that runs, from what is known of it.
+use Prim.Native.Nat.{ℕ, zero, suc, _+_, _<_, _≤_, min}
 use native.Mathlib.Nat.{min-le-left, min-le-right, le-trans, not-suc-le-zero, le-of-suc-le-suc}
 use native.Mathlib.Omega.{arith}
 use mathlib.Core.Path.{_≡_, refl, sym, _∙_, ap, subst}
@@ -7,12 +7,11 @@ use mathlib.Core.Bool.{Bool, true, false, true≢false}
 use mathlib.Core.List.{List, [], _∷_, _++_, map, append-nil, append-assoc}
 use borrow.Author.Tests.{ltb-true, ltb-false}
 use lib.Dec.{ltb}
-use lib.ListN.{length, take, drop, length-map, length-append, length-take, take-append-drop}
+use lib.ListN.{length, take, drop, length-map, length-append, take-append-drop}
 use lib.Seq.{length-take-le}
 use Rattle.bus.specs.declared.Station.{Station}
 use Rattle.field.proofs.Laws.{length-nibbles}
 use Rattle.frame.specs.Frame.{dataOf, isSubmitted}
-use Rattle.header.specs.declared.Command.{Command}
 use Rattle.inside.specs.Inside.{Inside, insideOf}
 use Rattle.answer.specs.declared.Response.{Response}
 use Rattle.line.specs.declared.Listener.{Listener}
@@ -23,17 +22,19 @@ use Rattle.reply.specs.Reply.{isSilent}
 use Rattle.serial.specs.declared.Reply.{Reply}
 use Rattle.whole.specs.Whole.{bytesFor}
 use Rattle.whole.proofs.Whole.{length-bytes}
-use Rattle.delivery.specs.Demand2.{message, isAddressed, replyTo, response, deedsOf, answerOf, Answerer, nobody, unit, heardBy, endBy, actsOf, Part, Delivered, Hushes, Speaks, codesOf}
+use Rattle.delivery.specs.Demand2.{message, isAddressed, replyTo, response, deedsOf, answerOf, nobody, unit, endBy, Hushes, Speaks, Part, Underway, Delivered, all-ended, one-runs, codesOf}
+use Rattle.delivery.specs.Calls.{inFrame}
 use Rattle.delivery.specs.Lists.{All, also, One, this, that, Front}
 use Rattle.delivery.specs.Log.{Act, sent, heard, Deed, took, settled, spoke, done, Capture, actsIn, deedsIn}
 use Rattle.delivery.specs.World.{World}
 use Rattle.delivery.proofs.Captured.{Frames, at-rest, in-one}
-use Rattle.delivery.proofs.Completed.{Complete, all-codes, one-codes, one-both, one-zip, hush-hushes, hush-part}
+use Rattle.delivery.proofs.Completed.{all-codes, one-codes, one-zip, hush-hushes, hush-part}
 use Rattle.delivery.proofs.Deeds.{Hush, Stands, Did, map-append, heard-did}
-use Rattle.delivery.proofs.Lists.{all-map, all-zip, one-all}
+use Rattle.delivery.proofs.Lists.{all-map, all-zip}
 use Rattle.delivery.proofs.Logged.{Story, sent-so-far, told-so-far, nobody-so-far}
 use Rattle.delivery.proofs.Part.{heard-short}
 use Rattle.delivery.proofs.Promised.{Moment}
+use Rattle.delivery.proofs.Run.{frame-runs}
 use Rattle.delivery.proofs.Spoken.{answering, count}
 use Rattle.delivery.proofs.Stages.{Fresh, Sits, Sound, Talk, talks, InFrame, begins, sends, hears, waits, isResponding, listens, answers, sits}
 use Rattle.delivery.proofs.Stages.{Part as StagePart}
@@ -46,29 +47,17 @@ split-map f k xs = ap (map f) (sym (take-append-drop k xs)) ∙ map-append f (ta
 all-of : {A : Type 0} {xs ys : List A} → xs ≡ ys → Front xs ys
 all-of {xs = xs} e = ([], sym e ∙ sym (append-nil xs))
 
-shorter : {A : Type 0} {xs ys : List A} → length xs < length ys → xs ≡ ys → ⊥
-shorter less e = let same = ap length e in absurd (omega arith)
-
 take-take : {A : Type 0} (k n : ℕ) (xs : List A) → k ≤ n → take k (take n xs) ≡ take k xs
 take-take zero n xs h = refl
 take-take (suc k) zero xs h = absurd (not-suc-le-zero h)
 take-take (suc k) (suc n) [] h = refl
 take-take {A} (suc k) (suc n) (x ∷ xs) h = ap (λ (y : List A). x ∷ y) (take-take k n xs (le-of-suc-le-suc h))
 
--- How much the controller does in a frame.
-acts-length : (l : Capture) (a : Answerer) → length (actsOf l a) ≡ length (message l) + (length (heardBy l a) + 1)
-acts-length l a =
-    let s = length-map (message l) sent in
-    let h = length-map (heardBy l a) heard in
-    let b = length-append (map heard (heardBy l a)) (endBy l a ∷ []) in
-    let c = length-append (map sent (message l)) (map heard (heardBy l a) ++ (endBy l a ∷ [])) in
-    omega arith
-
 message-long : (l : Capture) → 18 ≤ length (message l)
 message-long l = let a = length-nibbles (bytesFor (l .frame .command) (l .lent)) in let b = length-bytes (l .frame .command) (l .lent) in omega arith
 
 -- A unit's part, by what it has done.
-module _ (l : Capture) (a : Answerer) (own : ℕ) where
+module _ (l : Capture) (own : ℕ) where
   abbrev msg : List ℕ
   msg = message l
 
@@ -79,13 +68,12 @@ module _ (l : Capture) (a : Answerer) (own : ℕ) where
   acts = actsIn (l .marks)
 
   -- All of it.
-  pub part-whole : (x : Inside) → deeds ≡ deedsOf l own x → Part l a own
+  pub part-whole : (x : Inside) → deeds ≡ deedsOf l own x → Part l own
   part-whole x e = record {
     inside = x;
     in-order = all-of e;
     reached = subst (λ (n : ℕ). min (length acts) (min (length msg) (length (deedsOf l own x))) ≤ n) (sym (ap length e))
         (le-trans (min-le-right (length acts) (min (length msg) (length (deedsOf l own x)))) (min-le-right (length msg) (length (deedsOf l own x))));
-    whole = λ _. e;
   }
 
   -- It has taken k nibbles, as many as count as sent or more, and more than the device code only where it is addressed.
@@ -105,8 +93,8 @@ module _ (l : Capture) (a : Answerer) (own : ℕ) where
         ∙ ap (λ (y : List Deed). y ++ map took (drop k (take 2 msg))) (sym e)),
   )
 
-  pub part-took : (k : ℕ) (x : Inside) → (isAddressed l own ≡ false → k ≤ 2) → k ≤ length msg → length acts ≤ k → length acts < length (actsOf l a) → deeds ≡ map took (take k msg) → Part l a own
-  part-took k x h most so-far less e = record {
+  pub part-took : (k : ℕ) (x : Inside) → (isAddressed l own ≡ false → k ≤ 2) → k ≤ length msg → length acts ≤ k → deeds ≡ map took (take k msg) → Part l own
+  part-took k x h most so-far e = record {
     inside = x;
     in-order = took-front (isAddressed l own) k x refl h e;
     reached =
@@ -115,7 +103,6 @@ module _ (l : Capture) (a : Answerer) (own : ℕ) where
         let same : length deeds ≡ k = ap length e ∙ n ∙ m in
         let b = min-le-left (length acts) (min (length msg) (length (deedsOf l own x))) in
         omega arith;
-    whole = λ z. absurd (shorter less z);
   }
 
   -- It has taken the whole command, and j nibbles of its answer count as sent.
@@ -126,32 +113,30 @@ module _ (l : Capture) (a : Answerer) (own : ℕ) where
       let same = ap length e in
       omega arith
 
-  part-stands : (x : Inside) (rest : List Deed) → deeds ≡ map took msg ++ (settled x ∷ rest) → Front deeds (deedsOf l own x) → length acts < length (actsOf l a) → Part l a own
-  part-stands x rest e front less = record {
+  part-stands : (x : Inside) (rest : List Deed) → deeds ≡ map took msg ++ (settled x ∷ rest) → Front deeds (deedsOf l own x) → Part l own
+  part-stands x rest e front = record {
     inside = x;
     in-order = front;
     reached =
         le-trans (min-le-right (length acts) (min (length msg) (length (deedsOf l own x))))
         (le-trans (min-le-left (length msg) (length (deedsOf l own x))) (stands-long x rest e));
-    whole = λ z. absurd (shorter less z);
   }
 
-  pub part-settled : {r : Reply} (s : Stands (l .frame .command) (l .lent) own r 0 deeds) → length acts < length (actsOf l a) → Part l a own
-  part-settled s less =
+  pub part-settled : {r : Reply} (s : Stands (l .frame .command) (l .lent) own r 0 deeds) → Part l own
+  part-settled s =
       part-stands (s .given) [] (s .deeds) (
         answerOf l own (s .given),
         rw (s .meant)
             (sym (append-assoc (map took msg) (settled (s .given) ∷ []) (answerOf l own (s .given)))
             ∙ ap (λ (y : List Deed). y ++ answerOf l own (s .given)) (sym (s .deeds))),
       )
-      less
 
   module _ {r : Reply} {j : ℕ} (s : Stands (l .frame .command) (l .lent) own r j deeds) where
     abbrev answer : List ℕ
     answer = response l own (s .given)
 
-    pub part-speaks : isSilent r ≡ false → length acts < length (actsOf l a) → Part l a own
-    part-speaks speaks less =
+    pub part-speaks : isSilent r ≡ false → Part l own
+    part-speaks speaks =
         let defined : isSilent (replyTo l own (s .given)) ≡ false = sym (ap isSilent (s .said)) ∙ speaks in
         part-stands (s .given) (map spoke (take j answer)) (s .deeds) (
           map spoke (drop j answer) ++ (done ∷ []),
@@ -161,19 +146,9 @@ module _ (l : Capture) (a : Answerer) (own : ℕ) where
               ∙ sym (append-assoc (map took msg) (settled (s .given) ∷ map spoke (take j answer)) (map spoke (drop j answer) ++ (done ∷ [])))
               ∙ ap (λ (y : List Deed). y ++ (map spoke (drop j answer) ++ (done ∷ []))) (sym (s .deeds))),
         )
-        less
 
-  pub part-hushed : Inside → Hush (l .frame .command) (l .lent) own deeds → Part l a own
+  pub part-hushed : Inside → Hush (l .frame .command) (l .lent) own deeds → Part l own
   part-hushed x h = let p = hush-part l own x h in part-whole (p .0) (p .1)
-
--- A frame that has ended.
-pub complete-delivered : {codes : List ℕ} {l : Capture} → Complete codes l → Delivered codes l
-complete-delivered {codes} {l} k = record {
-  answerer = k .answerer;
-  in-order = all-of (k .acted);
-  answers = λ _. k .answers;
-  parts = all-map (λ own p. part-whole l (k .answerer) own (p .0) (p .1)) (k .parts);
-}
 
 -- A frame that runs.
 module _ (l : Capture) where
@@ -182,10 +157,7 @@ module _ (l : Capture) where
     acts-so-far : length (actsIn (l .marks)) ≡ i
     acts-so-far = ap length was ∙ length-map (take i (message l)) sent ∙ length-take-le i (message l) (let k = less in omega arith)
 
-    acts-fewer : length (actsIn (l .marks)) < length (actsOf l nobody)
-    acts-fewer = let n = acts-so-far in let m = acts-length l nobody in let k = less in omega arith
-
-    sending-delivered : {ss : List Station} → All (λ (st : Station). Part l nobody (st .unit .own)) ss → Delivered (codesOf ss) l
+    sending-delivered : {ss : List Station} → All (λ (st : Station). Part l (st .unit .own)) ss → Underway (codesOf ss) l
     sending-delivered parts = record {
       answerer = nobody;
       in-order = (
@@ -198,37 +170,37 @@ module _ (l : Capture) where
       parts = all-codes parts;
     }
 
-    sends-part : {P : Reply → Inside → Type 0} (st : Station) {sender : Sender} → StagePart P (l .frame .command) (l .lent) i sender st → DidAt l (l .lent) st → Part l nobody (st .unit .own)
+    sends-part : {P : Reply → Inside → Type 0} (st : Station) {sender : Sender} → StagePart P (l .frame .command) (l .lent) i sender st → DidAt l (l .lent) st → Part l (st .unit .own)
     sends-part st (listens ear t f h meant quiet) did =
         let a = length-nibbles (bytesFor (l .frame .command) (l .lent)) in
         let b = length-bytes (l .frame .command) (l .lent) in
         let c = heard-short (omega arith) h in
         let n = acts-so-far in
-        part-took l nobody (st .unit .own) (i + t) (insideOf st) (λ other. few (ltb (i + t) 2) refl other) (omega arith) (omega arith) acts-fewer (heard-did (l .frame .command) (l .lent) (st .unit .own) h did)
+        part-took l (st .unit .own) (i + t) (insideOf st) (λ other. few (ltb (i + t) 2) refl other) (omega arith) (omega arith) (heard-did (l .frame .command) (l .lent) (st .unit .own) h did)
       where
         few : (t′ : Bool) → ltb (i + t) 2 ≡ t′ → isAddressed l (st .unit .own) ≡ false → i + t ≤ 2
         few true e other = let k = ltb-true (i + t) 2 e in omega arith
         few false e other = absurd (true≢false (sym (meant (ltb-false (i + t) 2 e)) ∙ other))
-    sends-part st (answers ear r f all meant e p quiet) did = part-settled l nobody (st .unit .own) (subst (λ (x : Phase). Did (l .frame .command) (l .lent) (st .unit .own) x (deedsIn (st .unit .own) (l .marks))) e did) acts-fewer
+    sends-part st (answers ear r f all meant e p quiet) did = part-settled l (st .unit .own) (subst (λ (x : Phase). Did (l .frame .command) (l .lent) (st .unit .own) x (deedsIn (st .unit .own) (l .marks))) e did)
     sends-part st (sits now other e why quiet) did =
-        part-hushed l nobody (st .unit .own) (insideOf st) (subst (λ (x : Phase). Did (l .frame .command) (l .lent) (st .unit .own) x (deedsIn (st .unit .own) (l .marks))) e did)
+        part-hushed l (st .unit .own) (insideOf st) (subst (λ (x : Phase). Did (l .frame .command) (l .lent) (st .unit .own) x (deedsIn (st .unit .own) (l .marks))) e did)
 
-    fresh-part : i ≡ 0 → (st : Station) → Fresh st → DidAt l (l .lent) st → Part l nobody (st .unit .own)
+    fresh-part : i ≡ 0 → (st : Station) → Fresh st → DidAt l (l .lent) st → Part l (st .unit .own)
     fresh-part first st fresh did =
         let n = acts-so-far in
-        part-took l nobody (st .unit .own) 0 (insideOf st) (λ other. omega arith) (omega arith) (omega arith) acts-fewer (fresh-nothing (l .frame .command) (l .lent) (st .unit .own) fresh did)
+        part-took l (st .unit .own) 0 (insideOf st) (λ other. omega arith) (omega arith) (omega arith) (fresh-nothing (l .frame .command) (l .lent) (st .unit .own) fresh did)
 
   -- While the controller listens: what a unit that sits out has done.
   sits-hush : {now : Bool} (st : Station) → st .unit .phase ≡ SittingOut now → DidAt l (l .lent) st → Hush (l .frame .command) (l .lent) (st .unit .own) (deedsIn (st .unit .own) (l .marks))
   sits-hush st e did = subst (λ (x : Phase). Did (l .frame .command) (l .lent) (st .unit .own) x (deedsIn (st .unit .own) (l .marks))) e did
 
   -- Nobody responds.
-  waits-delivered : {ss : List Station} → actsIn (l .marks) ≡ map sent (message l) → All (λ (st : Station). Hush (l .frame .command) (l .lent) (st .unit .own) (deedsIn (st .unit .own) (l .marks))) ss → All (DidAt l (l .lent)) ss → Delivered (codesOf ss) l
+  waits-delivered : {ss : List Station} → actsIn (l .marks) ≡ map sent (message l) → All (λ (st : Station). Hush (l .frame .command) (l .lent) (st .unit .own) (deedsIn (st .unit .own) (l .marks))) ss → All (DidAt l (l .lent)) ss → Underway (codesOf ss) l
   waits-delivered was hush did = record {
     answerer = nobody;
     in-order = (endBy l nobody ∷ [], ap (λ (y : List Act). y ++ (endBy l nobody ∷ [])) (sym was));
     answers = λ _. all-codes (all-map (λ st h. hush-hushes l (st .unit .own) h) hush);
-    parts = all-codes (all-map (λ st h. part-hushed l nobody (st .unit .own) (insideOf st) h) hush);
+    parts = all-codes (all-map (λ st h. part-hushed l (st .unit .own) (insideOf st) h) hush);
   }
 
   -- One unit does, with `given` inside it as it took the last nibble; k nibbles of its response are taken.
@@ -238,18 +210,7 @@ module _ (l : Capture) where
     k : ℕ
     acted : actsIn (l .marks) ≡ map sent (message l) ++ map heard (take k (response l own given))
     speaks : One (λ (st : Station). Speaks l own given (st .unit .own)) (λ (st : Station). Hushes l (st .unit .own)) ss
-    parts : All (λ (st : Station). Part l (unit own given) (st .unit .own)) ss
-
-  heard-fewer : (own : ℕ) (x : Inside) (k : ℕ) → actsIn (l .marks) ≡ map sent (message l) ++ map heard (take k (response l own x)) → length (actsIn (l .marks)) < length (actsOf l (unit own x))
-  heard-fewer own x k was =
-      let a = ap length was in
-      let b = length-append (map sent (message l)) (map heard (take k (response l own x))) in
-      let c = length-map (message l) sent in
-      let d = length-map (take k (response l own x)) heard in
-      let e = length-take k (response l own x) in
-      let f = min-le-right k (length (response l own x)) in
-      let g = acts-length l (unit own x) in
-      omega arith
+    parts : All (λ (st : Station). Part l (st .unit .own)) ss
 
   module _ (T : Moment) (stores : Bool) (found : List ℕ) (ear : Listener) (taken : Response) (quiet : ℕ) (buffer : List ℕ) where
     abbrev Talking : Station → Type 0
@@ -258,8 +219,8 @@ module _ (l : Capture) where
     abbrev Sitting : Station → Type 0
     Sitting st = (Sits st × Sound st) × (DidAt l (l .lent) st × TellsAt l (l .lent) ear st)
 
-    hushed-part : (a : Answerer) (st : Station) → Sitting st → Part l a (st .unit .own)
-    hushed-part a st p = part-hushed l a (st .unit .own) (insideOf st) (sits-hush st (p .0 .0 .0) (p .1 .0))
+    hushed-part : (st : Station) → Sitting st → Part l (st .unit .own)
+    hushed-part st p = part-hushed l (st .unit .own) (insideOf st) (sits-hush st (p .0 .0 .0) (p .1 .0))
 
     hushes : (st : Station) → Sitting st → Hushes l (st .unit .own)
     hushes st p = hush-hushes l (st .unit .own) (sits-hush st (p .0 .0 .0) (p .1 .0))
@@ -275,7 +236,7 @@ module _ (l : Capture) where
           k = j + count ear;
           acted = was;
           speaks = this (record { named = refl; meant = s .0 .meant; inside = stands-has (s .0); defined = sym (ap isSilent (s .0 .said)) ∙ s .1 }) (all-map hushes a);
-          parts = also (part-speaks l (unit (st .unit .own) (s .0 .given)) (st .unit .own) (s .0) (s .1) (heard-fewer (st .unit .own) (s .0 .given) (j + count ear) was)) (all-map (hushed-part (unit (st .unit .own) (s .0 .given))) a);
+          parts = also (part-speaks l (st .unit .own) (s .0) (s .1)) (all-map hushed-part a);
         }
     speaker (that {x = st} q o) =
         let s = speaker o in
@@ -285,10 +246,10 @@ module _ (l : Capture) where
           k = s .k;
           acted = s .acted;
           speaks = that (hushes st q) (s .speaks);
-          parts = also (hushed-part (unit (s .own) (s .given)) st q) (s .parts);
+          parts = also (hushed-part st q) (s .parts);
         }
 
-  speaker-delivered : {ss : List Station} → Speaker ss → Delivered (codesOf ss) l
+  speaker-delivered : {ss : List Station} → Speaker ss → Underway (codesOf ss) l
   speaker-delivered s =
       let a = unit (s .own) (s .given) in
       let all = response l (s .own) (s .given) in
@@ -309,7 +270,7 @@ module _ (l : Capture) where
 abbrev lentNow : Capture → World → Capture
 lentNow l v = record { frame = l .frame; lent = dataOf (l .frame) (v .lent); found = l .found; marks = l .marks }
 
-by-stage : {T : Moment} (l : Capture) {found : List ℕ} (v : World) → InFrame T (l .frame) found v → All (DidAt l (dataOf (l .frame) (v .lent))) (v .units) → Acted l (dataOf (l .frame) (v .lent)) (v .controller .stage) (v .units) → Delivered (codesOf (v .units)) (lentNow l v)
+by-stage : {T : Moment} (l : Capture) {found : List ℕ} (v : World) → InFrame T (l .frame) found v → All (DidAt l (dataOf (l .frame) (v .lent))) (v .units) → Acted l (dataOf (l .frame) (v .lent)) (v .controller .stage) (v .units) → Underway (codesOf (v .units)) (lentNow l v)
 by-stage l v (begins {lent = lent} framed d a) did acted =
     let m = lentNow l v in
     let n = message-long m in
@@ -325,9 +286,9 @@ by-stage l v (waits quiet framed d a why) did acted =
     let m = lentNow l v in
     waits-delivered m (nobody-so-far acted (all-map (λ st p. ap isResponding (p .0 .0)) a)) (all-map (λ st p. sits-hush m st (p .0 .0 .0) (p .1)) (all-zip a did)) did
 
-pub story-delivered : {T : Moment} (l : Capture) (v : World) → Story T l v → Delivered (codesOf (v .units)) l
-story-delivered l v s = subst (Delivered (codesOf (v .units))) (λ i. record { frame = l .frame; lent = s .lent i; found = l .found; marks = l .marks }) (by-stage l v (s .frame) (s .did) (s .acted))
+story-underway : {T : Moment} (l : Capture) (v : World) → Story T l v → Underway (codesOf (v .units)) l
+story-underway l v s = subst (Underway (codesOf (v .units))) (λ i. record { frame = l .frame; lent = s .lent i; found = l .found; marks = l .marks }) (by-stage l v (s .frame) (s .did) (s .acted))
 
-pub frames-delivered : {T : Moment} {v : World} {ls : List Capture} → Frames T v ls → All (Delivered (codesOf (v .units))) ls
-frames-delivered (at-rest e a) = all-map (λ l k. complete-delivered k) a
-frames-delivered {v = v} (in-one {l = l} s a) = also (story-delivered l v s) (all-map (λ m k. complete-delivered k) a)
+pub frames-delivered : {T : Moment} {v : World} {ls : List Capture} → Frames T v ls → Delivered (codesOf (v .units)) (inFrame (v .controller .stage)) ls
+frames-delivered {v = v} {ls = ls} (at-rest e a) = subst (λ (t : Bool). Delivered (codesOf (v .units)) t ls) (sym e) (all-ended a)
+frames-delivered {v = v} (in-one {l = l} {ls = ls} s a) = subst (λ (t : Bool). Delivered (codesOf (v .units)) t (l ∷ ls)) (sym (frame-runs (s .frame))) (one-runs (story-underway l v s) a)

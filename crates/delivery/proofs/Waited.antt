@@ -26,9 +26,9 @@ use Rattle.delivery.proofs.Lists.{all-map, all-zip, all-becomes}
 use Rattle.delivery.proofs.Story.{DidAt, Acted, listening-so, laterOf, acts-now, did-now, not-answering, step-in}
 use Rattle.controller.specs.Controller.{eventAfter}
 use Rattle.turn.specs.Turn.{eventOf}
-use Rattle.delivery.specs.Demand2.{unit, endBy, codesOf}
+use Rattle.delivery.specs.Demand2.{unit, endBy, codesOf, Ended}
 use Rattle.delivery.proofs.Stages.{Finishes, movedIn}
-use Rattle.delivery.proofs.Completed.{Complete, all-codes, hush-hushes, hush-part}
+use Rattle.delivery.proofs.Completed.{all-codes, hush-hushes, hush-part}
 use Rattle.delivery.proofs.Deeds.{Hush}
 use Rattle.delivery.specs.Log.{sent}
 use Rattle.frame.specs.declared.Stage.the-variants.{Resting}
@@ -93,7 +93,7 @@ module _ {T : Moment} (l : Capture) {found : List ℕ} (quiet timeout : ℕ) (ri
   abbrev ended : Capture
   ended = record { frame = l .frame; lent = d; found = l .found; marks = later .marks }
 
-  pub waits-complete : (isSubmitted (l .frame .kind) ≡ true → found ≡ l .found) → Finishes v busy → movedIn v busy ≡ over (l .frame) nothingTaken → round v busy .response ≡ found → Complete (codesOf (round v busy .units)) ended
+  pub waits-complete : (isSubmitted (l .frame .kind) ≡ true → found ≡ l .found) → Finishes v busy → movedIn v busy ≡ over (l .frame) nothingTaken → round v busy .response ≡ found → Ended (codesOf (round v busy .units)) ended
   waits-complete kept fin m b =
       let stage : round v busy .controller .stage ≡ Resting true = ap (λ (q : Controller). q .stage) fin ∙ ap (λ (q : Moved). q .stage) m in
       let event : eventIn (v .controller) seen (busy .here) lent ≡ eventOf (l .frame) 0xFF 0 = ap (λ (q : Moved). eventAfter (q .end)) m in

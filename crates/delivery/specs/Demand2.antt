@@ -12,11 +12,12 @@ use Rattle.bus.specs.declared.Station.{Station}
 use Rattle.field.specs.Field.{nibbles}
 use Rattle.frame.specs.Frame.{isSubmitted, submittedFrame}
 use Rattle.frame.specs.declared.Frame.{Frame}
-use Rattle.header.specs.declared.Command.{Command}
 use Rattle.inside.specs.Inside.{Inside, insideOf, replyFor, dataIn}
 use Rattle.reply.specs.Reply.{isSilent, replyStatus}
 use Rattle.serial.specs.declared.Reply.{Reply}
 use Rattle.turn.specs.Turn.{eventOf}
+use Rattle.turn.specs.declared.Event.{Event}
+use Rattle.turn.specs.declared.Event.the-variants.{Nothing}
 use Rattle.unit.specs.Unit.{pullsOf}
 use Rattle.whole.specs.Back.{responseFor}
 use Rattle.whole.specs.Whole.{bytesFor}
@@ -24,7 +25,7 @@ use Rattle.delivery.specs.Calls.{inFrame}
 use Rattle.delivery.specs.Run.{QuietStart, Run}
 use Rattle.delivery.specs.Lists.{All, One, Has, Pairs, Front}
 use Rattle.delivery.specs.Following.{wholeOf, followingAll}
-use Rattle.delivery.specs.Log.{Act, sent, heard, told, Deed, took, settled, spoke, done, Mark, begins, acts, does, asks, submitted, roundMarks, log, unitsMarks, Capture, framesOf, actsIn, deedsIn}
+use Rattle.delivery.specs.Log.{Act, sent, heard, told, Deed, took, settled, spoke, done, Mark, begins, acts, toldIn, roundMarks, log, unitsMarks, Capture, framesOf, actsIn, deedsIn, Due, service, command, dueAll}
 use Rattle.delivery.specs.World.{World, Busy, levels}
 
 -- A frame's message. Own code or code 0 is addressed.
@@ -89,37 +90,33 @@ abbrev pub Answers : List ℕ → Capture → Answerer → Type 0
 Answers codes l nobody = All (Hushes l) codes
 Answers codes l (unit own x) = One (Speaks l own x) (Hushes l) codes
 
--- A unit's part in a frame: what it does is the front of that, as far as the controller has come; all of it when the frame has ended.
-pub record Part (l : Capture) (a : Answerer) (own : ℕ) : Type 0 where
+-- A frame that has ended: the controller has done all of it, and so has each unit.
+pub record Ended (codes : List ℕ) (l : Capture) : Type 0 where
+  pub answerer : Answerer
+  pub acted : actsIn (l .marks) ≡ actsOf l answerer
+  pub answers : Answers codes l answerer
+  pub parts : All (λ (own : ℕ). (x : Inside) × (deedsIn own (l .marks) ≡ deedsOf l own x)) codes
+
+-- A frame that runs: a front of all that, each unit as far as the controller has come. Behind the last nibble of the command it is settled
+-- who answers.
+pub record Part (l : Capture) (own : ℕ) : Type 0 where
   pub inside : Inside
   pub in-order : Front (deedsIn own (l .marks)) (deedsOf l own inside)
   pub reached : min (length (actsIn (l .marks))) (min (length (message l)) (length (deedsOf l own inside))) ≤ length (deedsIn own (l .marks))
-  pub whole : actsIn (l .marks) ≡ actsOf l a → deedsIn own (l .marks) ≡ deedsOf l own inside
 
--- Each frame of a log, on a bus of units with these codes. Behind the last nibble of the command it is settled who answers.
-pub record Delivered (codes : List ℕ) (l : Capture) : Type 0 where
+pub record Underway (codes : List ℕ) (l : Capture) : Type 0 where
   pub answerer : Answerer
   pub in-order : Front (actsIn (l .marks)) (actsOf l answerer)
   pub answers : length (message l) < length (actsIn (l .marks)) → Answers codes l answerer
-  pub parts : All (Part l answerer) codes
+  pub parts : All (Part l) codes
+
+-- The frames of a log, the latest in front: all have ended, but the one that runs, if one does.
+pub data Delivered (codes : List ℕ) : (runs : Bool) → List Capture → Type 0 where
+  all-ended : {ls : List Capture} → All (Ended codes) ls → Delivered codes false ls
+  one-runs : {l : Capture} {ls : List Capture} → Underway codes l → All (Ended codes) ls → Delivered codes true (l ∷ ls)
 
 -- An accepted submission is the next frame that begins, in the next round, with its own command, data and response buffer. Every other
 -- frame is a service frame.
-pub data Due : Type 0 where
-  service : Due
-  command : Command → (d response : List ℕ) → Due
-
-abbrev pub dueBy : Due → Mark → Due
-dueBy due (begins f lent found) = service
-dueBy due (acts a) = due
-dueBy due (does own e) = due
-dueBy due (asks own call) = due
-dueBy due (submitted k d response) = command k d response
-
-abbrev pub dueAll : Due → List Mark → Due
-dueAll due [] = due
-dueAll due (m ∷ ms) = dueAll (dueBy due m) ms
-
 abbrev pub IsService : Mark → Type 0
 IsService m = (f : Frame) (lent found : List ℕ) → m ≡ begins f lent found → isSubmitted (f .kind) ≡ false
 
@@ -132,16 +129,22 @@ pub data Places (frames : List Capture) (st : Station) : Type 0 where
   no-nibble : pullsOf (st .unit) .nibble ≡ 15 → Places frames st
   its-own : (l : Capture) (before : List Capture) (x : Inside) → frames ≡ l ∷ before → Speaks l (st .unit .own) x (st .unit .own) → Places frames st
 
--- The demand, for a run, and so for every shorter one: its frames; the frame that begins in its next round; what is inside each unit, where
--- nothing changes but by its own deeds and its host's calls; and that no unit does anything between frames.
+-- The application is told something only as a frame ends.
+pub data TellsEnds (e : Event) (ms : List Mark) : Type 0 where
+  nothing : e ≡ Nothing → TellsEnds e ms
+  of-a-frame : (buffer : List ℕ) → Has (acts (told e buffer)) ms → TellsEnds e ms
+
+-- The demand, for a run, and so for every shorter one, with the next round of it. What is inside each unit changes by its own deeds and its
+-- host's calls alone, and between frames no unit does anything.
 abbrev pub codesOf : List Station → List ℕ
 codesOf ss = map (λ (st : Station). st .unit .own) ss
 
 pub record Demand2 {w v : World} (r : Run w v) : Type 0 where
-  pub frames : All (Delivered (codesOf (v .units))) (framesOf (log r))
+  pub frames : Delivered (codesOf (v .units)) (inFrame (v .controller .stage)) (framesOf (log r))
   pub in-turn : (busy : Busy) → InTurn (dueAll service (log r)) (roundMarks v busy)
   pub insides : Pairs (λ (st after : Station). insideOf after ≡ followingAll (st .unit .own) (wholeOf st) (log r) .inside) (w .units) (v .units)
   pub placed : All (Places (framesOf (log r))) (v .units)
+  pub tells : (busy : Busy) → TellsEnds (toldIn v busy) (roundMarks v busy)
   pub between : inFrame (v .controller .stage) ≡ false → (busy : Busy) → unitsMarks (levels v) (busy .there) (v .units) ≡ []
 
 abbrev pub Demand : Type 0

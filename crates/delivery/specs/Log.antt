@@ -105,11 +105,15 @@ abbrev pub unitsMarks : Lines → ℕ → List Station → List Mark
 unitsMarks seen hosts [] = []
 unitsMarks seen hosts (st ∷ ss) = map (does (st .unit .own)) (stationDeeds st seen (isOdd hosts)) ++ unitsMarks seen (hosts / 2) ss
 
+-- What the application is told in a round.
+abbrev pub toldIn : World → Busy → Event
+toldIn v busy = eventIn (v .controller) (levels v) (busy .here) (v .lent)
+
 -- All marks of a round, and of a call.
 abbrev pub roundMarks : World → Busy → List Mark
 roundMarks v busy =
     unitsMarks (levels v) (busy .there) (v .units)
-    ++ stageMarks (v .controller .stage) (round v busy .controller .stage) (levels v) (eventIn (v .controller) (levels v) (busy .here) (v .lent)) (v .lent) (v .response) (round v busy .response)
+    ++ stageMarks (v .controller .stage) (round v busy .controller .stage) (levels v) (toldIn v busy) (v .lent) (v .response) (round v busy .response)
 
 abbrev pub hostMarks : ℕ → HostCall → List Station → List Mark
 hostMarks i call [] = []
@@ -181,3 +185,19 @@ deedIn own (submitted k d response) = []
 abbrev pub deedsIn : ℕ → List Mark → List Deed
 deedsIn own [] = []
 deedsIn own (m ∷ ms) = deedIn own m ++ deedsIn own ms
+
+-- What is due behind marks: an accepted submission that has not begun, or else a service frame.
+pub data Due : Type 0 where
+  service : Due
+  command : Command → (d response : List ℕ) → Due
+
+abbrev pub dueBy : Due → Mark → Due
+dueBy due (begins f lent found) = service
+dueBy due (acts a) = due
+dueBy due (does own e) = due
+dueBy due (asks own call) = due
+dueBy due (submitted k d response) = command k d response
+
+abbrev pub dueAll : Due → List Mark → Due
+dueAll due [] = due
+dueAll due (m ∷ ms) = dueAll (dueBy due m) ms
