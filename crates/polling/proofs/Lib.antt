@@ -6,6 +6,8 @@ pub mod ItsTurn
 pub mod Requests
 pub mod Handing
 pub mod OnTheBus
+pub mod Logged
+pub mod HandedOver
 pub mod Demand3
 pub mod Chain
 pub mod Beginning

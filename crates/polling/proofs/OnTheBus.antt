@@ -1,4 +1,4 @@
--- What is handed over on demand 2's bus, and that it was held when polled.
+-- Demand 2's bus: the calls of its controller, the codes of its units, and what the end of a poll tells in the round in which it ends.
 use Prim.Native.Nat.{ℕ, zero, suc, _/_, _<_}
 use native.Mathlib.Omega.{arith}
 use mathlib.Core.Path.{_≡_, refl, sym, _∙_, ap, subst}
@@ -59,7 +59,6 @@ use Rattle.line.specs.Line.{wired}
 use Rattle.unit.specs.Unit.{pullsOf}
 use Rattle.polling.specs.Beyond.{BusStarts}
 use Rattle.polling.specs.BusMoves.{moveOf, callOf, movesOf, toldIn}
-use Rattle.polling.specs.Demand3.{PolledHands, HeldWhenPolled, HandedHeld}
 use Rattle.polling.specs.History.{since}
 use Rattle.polling.specs.Moves.{Move, after, afterAll, told, eventOf}
 use Rattle.polling.proofs.Does.{held, Does, keeps, accepts, serves, frame-ends, clears, does, firstOf}
@@ -89,7 +88,7 @@ took-fit w _ q (a-round {v = v} r busy) own x (takes-it st after b e now o i) =
 took-fit w _ q (a-round {v = v} r busy) own x (took-it i t) = took-fit w v q r own x t
 took-fit w _ q (a-call {v = v} r call) own x t = took-fit w v q r own x t
 
--- A unit that has taken the last nibble is on the bus.
+-- A unit stays on the bus.
 pub has-round : (own : ℕ) (seen : Lines) (hosts : ℕ) {ss : List Station} → HasCode own ss → HasCode own (unitsAfter seen hosts ss)
 has-round own seen hosts (it-has {st = st} e) = it-has (own-kept st seen (isOdd hosts) ∙ e)
 has-round own seen hosts (later h) = later (has-round own seen (hosts / 2) h)
@@ -107,22 +106,8 @@ has-lent own false (suc i) buffer (it-has e) = it-has e
 has-lent own false zero buffer (later h) = later h
 has-lent own false (suc i) buffer (later h) = later (has-lent own false i buffer h)
 
-becomes-has : {own : ℕ} {seen : Lines} {hosts : ℕ} {ss : List Station} {st after : Station} → Becomes seen hosts ss st after → st .unit .own ≡ own → HasCode own ss
-becomes-has in-front e = it-has e
-becomes-has (behind b) e = later (becomes-has b e)
-
-took-has : (w v : World) → QuietStart w → (r : Run w v) (own : ℕ) (x : Inside) → Took r own x → HasCode own (v .units)
-took-has w v q start own x t = absurd t
-took-has w _ q (a-round {v = v} r busy) own x (takes-it st after b e now o i) = has-round own (levels v) (busy .there) (becomes-has b o)
-took-has w _ q (a-round {v = v} r busy) own x (took-it i t) = has-round own (levels v) (busy .there) (took-has w v q r own x t)
-took-has w _ q (a-call {v = v} r (host i call)) own x t = has-called own i call (took-has w v q r own x t)
-took-has w _ q (a-call {v = v} r (submitsTo k d response y b)) own x t = took-has w v q r own x t
-took-has w _ q (a-call {v = v} r (acknowledgesTo code h)) own x t = took-has w v q r own x t
-took-has w _ q (a-call {v = v} r (lends d response)) own x t = took-has w v q r own x t
-took-has w _ q (a-call {v = v} r (lendsUnit i buffer)) own x t = has-lent own (inFrame (v .controller .stage)) i buffer (took-has w v q r own x t)
-
 -- No unit has code 0.
-abbrev Coded : Station → Type 0
+abbrev pub Coded : Station → Type 0
 Coded st = st .unit .own ≡ 0 → ⊥
 
 coded-at : (i : ℕ) (call : HostCall) {ss : List Station} → All Coded ss → All Coded (calledAt i call ss)
@@ -130,7 +115,7 @@ coded-at i call none = none
 coded-at zero call (also {x = st} p a) = also (λ e. p (sym (unit-called call st .own) ∙ e)) a
 coded-at (suc i) call (also p a) = also p (coded-at i call a)
 
-every-coded : (w v : World) → QuietStart w → Run w v → All Coded (v .units)
+pub every-coded : (w v : World) → QuietStart w → Run w v → All Coded (v .units)
 every-coded w v q start = all-map (λ st n e. n .coded (sym (ap (λ (u : Unit). u .own) (n .is-new)) ∙ e)) (q .units)
 every-coded w _ q (a-round {v = v} r busy) = all-step (levels v) (λ st host p e. p (sym (own-kept st (levels v) host) ∙ e)) (busy .there) (every-coded w v q r)
 every-coded w _ q (a-call {v = v} r (host i call)) = coded-at i call (every-coded w v q r)
@@ -233,99 +218,31 @@ hushed-none own nonzero fits (it-has e) (also (not-its-own a) hs) = true≢false
 hushed-none own nonzero fits (it-has {st = st} e) (also (by-the-rule given t z) hs) = true≢false (sym z ∙ every-lawful (kindOf (st .unit .own)) .speaks given own (fits (st .unit .own) given t) nonzero)
 hushed-none own nonzero fits (later h) (also p hs) = hushed-none own nonzero fits h hs
 
--- The status of the answer to a poll.
-poll-status : {w v : World} {r : Run w v} {busy : Busy} {own : ℕ} → (own ≡ 0 → ⊥) → (k : Said r busy own) → replyStatus (replyFor (k .speaker) (k .inside) (pollOf own .command) []) ≡ cond (isServed (k .inside) && hasRequest (k .inside)) 0x00 0x0A
-poll-status {own = own} nonzero k = every-lawful (kindOf (k .speaker)) .polled (k .inside) own (k .fit) nonzero
+-- The answer to a poll says 00 just where a request is held.
+module _ (speaker own : ℕ) (x : Inside) (fit : Fit (kindOf speaker) x) (nonzero : own ≡ 0 → ⊥) where
+  abbrev status : ℕ
+  status = replyStatus (replyFor speaker x (pollOf own .command) [])
+
+  poll-status : status ≡ cond (isServed x && hasRequest x) 0x00 0x0A
+  poll-status = every-lawful (kindOf speaker) .polled x own fit nonzero
+
+  pub held-says-zero : hasRequest x ≡ true → status ≡ 0x00
+  held-says-zero request = let served = every-lawful (kindOf speaker) .served x fit request in poll-status ∙ (λ i. cond (served i && request i) 0x00 0x0A)
+
+  pub zero-says-held : status ≡ 0x00 → hasRequest x ≡ true
+  zero-says-held z = by (isServed x) (hasRequest x) (sym poll-status ∙ z)
+    where
+      by : (a b : Bool) → _≡_ {A = ℕ} (cond (a && b) 0x00 0x0A) 0x00 → b ≡ true
+      by true true e = refl
+      by true false e = absurd (omega arith)
+      by false b e = absurd (omega arith)
 
 -- A poll that finds the request hands it over.
 pub said-handed : {w v : World} {r : Run w v} {busy : Busy} {own : ℕ} → (own ≡ 0 → ⊥) → (k : Said r busy own) → hasRequest (k .inside) ≡ true → toldIn v busy ≡ Handed own
-said-handed {own = own} nonzero k request =
-    let served : isServed (k .inside) ≡ true = every-lawful (kindOf (k .speaker)) .served (k .inside) (k .fit) request in
-    let zero-status : replyStatus (replyFor (k .speaker) (k .inside) (pollOf own .command) []) ≡ 0x00 = poll-status nonzero k ∙ (λ i. cond (served i && request i) 0x00 0x0A) in
-    k .tells ∙ ap (λ (n : ℕ). frameEvent (pollOf own) n 0) zero-status
+said-handed {own = own} nonzero k request = k .tells ∙ ap (λ (n : ℕ). frameEvent (pollOf own) n 0) (held-says-zero (k .speaker) own (k .inside) (k .fit) nonzero request)
 
 pub said-by : {w v : World} {r : Run w v} {busy : Busy} {own : ℕ} → (own ≡ 0 → ⊥) → (k : Said r busy own) → Took (a-round r busy) own (k .inside)
 said-by {r = r} {busy = busy} {own = own} nonzero k = subst (λ (n : ℕ). Took (a-round r busy) n (k .inside)) (addressed-own (pollOf own .command) (k .speaker) nonzero (k .addresses)) (k .taken)
-
-pub polled-hands : PolledHands
-polled-hands w v own q r run busy ends x took request = by (runs-it (pollOf own) (every-run w v q r) run)
-  where
-    there : HasCode own (round v busy .units)
-    there = took-has w (round v busy) q (a-round r busy) own x took
-
-    nonzero : own ≡ 0 → ⊥
-    nonzero = run-coded w (round v busy) own q (a-round r busy) there
-
-    goes : (found : List ℕ) → InFrame (Took r) (pollOf own) found v → Goes (Took (a-round r busy)) (pollOf own) found v busy → toldIn v busy ≡ Handed own
-    goes found i (on ring y speaks less) = absurd (false≢true (sym ends ∙ frame-runs y))
-    goes found i (answered fin d o) =
-        let k = spoken w v q r busy own found i o in
-        let same : k .inside ≡ x = taken-once w (round v busy) q (a-round r busy) own (k .inside) x (said-by nonzero k) took in
-        said-handed nonzero k (ap hasRequest same ∙ request)
-    goes found i (unanswered fin e b d a why still) = absurd (hushed-none own nonzero (took-fit w (round v busy) q (a-round r busy)) there why)
-
-    by : RunsOne (Took r) v (pollOf own) → toldIn v busy ≡ Handed own
-    by (runs-one found i) = goes found i (every-response w v r (pollOf own) found i busy)
-
--- Handed over: held when polled.
-rest-of : (stage : Stage) → held stage ≡ [] → inFrame stage ≡ false
-rest-of Free e = refl
-rest-of (Resting first) e = refl
-rest-of (Waiting f) e = absurd (true≢false (ap isFrame e))
-rest-of (Sending f i sender wait) e = absurd (true≢false (ap isFrame e))
-rest-of (Listening f ear response quiet) e = absurd (true≢false (ap isFrame e))
-
-handed-ends : (c : Controller) (m : Move) (code : ℕ) → eventOf c m ≡ Handed code → held (after c m .stage) ≡ []
-handed-ends c m code e = by (does c m)
-  where
-    nothing : eventOf c m ≡ Nothing → held (after c m .stage) ≡ []
-    nothing v = absurd (false≢true (ap isHand (sym v ∙ e)))
-
-    by : Does c m → held (after c m .stage) ≡ []
-    by (keeps ring b v u o) = nothing v
-    by (accepts k n ring b v u out poll st resting) = nothing v
-    by (serves b v u some x) = nothing v
-    by (clears k x marked b v u ring st) = nothing v
-    by (frame-ends f status count r g b v u ring z) = z
-
-both-of : (a b : Bool) → _≡_ {A = ℕ} (cond (a && b) 0x00 0x0A) 0x00 → b ≡ true
-both-of true true e = refl
-both-of true false e = absurd (omega arith)
-both-of false b e = absurd (omega arith)
-
-pub handed-held : HandedHeld
-handed-held w v code q r busy e = by (runs-it (pollOf code) (every-run w v q r) poll)
-  where
-    poll : running (v .controller .stage) ≡ pollOf code ∷ []
-    poll =
-        let c = made w v q r in
-        subst (λ (x : Controller). running (x .stage) ≡ pollOf code ∷ []) (sym c) (hands-only (q .timeout) (movesOf r []) (moveOf v busy) code (subst (λ (x : Controller). eventOf x (moveOf v busy) ≡ Handed code) c e))
-
-    zero-status : (k : Said r busy code) → replyStatus (replyFor (k .speaker) (k .inside) (pollOf code .command) []) ≡ 0x00
-    zero-status k = hands-by Poll (pollOf code .command) (replyStatus (replyFor (k .speaker) (k .inside) (pollOf code .command) [])) 0 code (sym (k .tells) ∙ e) .1 .1
-
-    nonzero : (k : Said r busy code) → code ≡ 0 → ⊥
-    nonzero k z =
-        let reply = replyFor (k .speaker) (k .inside) (pollOf code .command) [] in
-        let silent : replyStatus reply ≡ 0xFF = silent-status reply (every-lawful (kindOf (k .speaker)) .zero-silent (k .inside) (pollOf code .command) 0 [] z) in
-        let none : replyStatus reply ≡ 0x00 = zero-status k in
-        omega arith
-
-    held-by : Said r busy code → HeldWhenPolled r busy code
-    held-by k = record {
-      inside = k .inside;
-      took = said-by (nonzero k) k;
-      request = both-of (isServed (k .inside)) (hasRequest (k .inside)) (sym (poll-status (nonzero k) k) ∙ zero-status k);
-      poll = poll;
-    }
-
-    goes : (found : List ℕ) → InFrame (Took r) (pollOf code) found v → Goes (Took (a-round r busy)) (pollOf code) found v busy → HeldWhenPolled r busy code
-    goes found x (on ring y speaks less) = absurd (false≢true (sym (rest-of (round v busy .controller .stage) (handed-ends (v .controller) (moveOf v busy) code e)) ∙ frame-runs y))
-    goes found x (answered fin d o) = held-by (spoken w v q r busy code found x o)
-    goes found x (unanswered fin m b d a why still) = absurd (false≢true (ap isHand (sym (frame-told w v q r busy x nothingTaken m) ∙ e)))
-
-    by : RunsOne (Took r) v (pollOf code) → HeldWhenPolled r busy code
-    by (runs-one found x) = goes found x (every-response w v r (pollOf code) found x busy)
 
 -- A request's pull is seen.
 pub asking-low : (l : Lines) {ss : List Station} {st : Station} → Has st ss → st .unit .asking ≡ true → levelsWith l ss .bav ≡ true

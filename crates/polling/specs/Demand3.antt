@@ -7,21 +7,22 @@ use mathlib.Core.List.{List, [], _∷_, _++_}
 use lib.Dec.{ltb, leb}
 use Rattle.controller.specs.Controller.{isIdle, service}
 use Rattle.controller.specs.declared.Controller.{Controller}
-use Rattle.delivery.specs.Run.{QuietStart, Run, a-round}
-use Rattle.delivery.proofs.Rounds.{Took}
-use Rattle.delivery.specs.World.{World, Busy, round}
+use Rattle.delivery.specs.Calls.{running}
+use Rattle.delivery.specs.Lists.{All, Has}
+use Rattle.delivery.specs.Log.{settled, told, Capture, log, framesOf, actsIn, deedsIn}
+use Rattle.delivery.specs.Run.{QuietStart, Run}
+use Rattle.delivery.specs.World.{World}
 use Rattle.frame.specs.Frame.{begun, pollOf, nullFrame, nibbleOf}
 use Rattle.frame.specs.declared.Frame.{Frame}
 use Rattle.inside.specs.Inside.{Inside, hasRequest}
 use Rattle.line.specs.declared.Lines.{Lines}
 use Rattle.message.specs.Nibbles.{nibbleIn}
 use Rattle.ring.specs.Ring.{counted}
+use Rattle.turn.specs.declared.Event.{Event}
 use Rattle.turn.specs.declared.Event.the-variants.{Ended, Handed}
 use Rattle.unit.specs.declared.Unit.{Unit}
-use Rattle.polling.specs.BusMoves.{toldIn}
 use Rattle.polling.specs.History.{since, isPending, isEnabling}
 use Rattle.polling.specs.Moves.{Move, steps, after, begins, services, ahead, inRing, Spared, eventOf, Stays}
-use Rattle.delivery.specs.Calls.{running, inFrame}
 use Rattle.polling.specs.UnitMoves.{UnitMove, steps as unitSteps, raises, moved, isSeen, Stands, rowOf, unitSince, Fills}
 
 -- "A unit whose enabling (08) ends with 00 joins the polling ring": behind the call that tells of the end it is there.
@@ -102,23 +103,28 @@ PollNibbles = (own : ℕ) (lent : List ℕ) (i : ℕ) → own < 256 → nibbleOf
 abbrev pub NullNibbles : Type 0
 NullNibbles = (lent : List ℕ) (i : ℕ) → nibbleOf nullFrame lent i ≡ nibbleIn (0 ∷ 0xFE ∷ 0 ∷ 0 ∷ 0 ∷ 0 ∷ 0 ∷ 0 ∷ 0 ∷ []) i
 
--- "If, on demand 2's bus, it holds a request when polled and the response arrives whole, the application is handed that code": it is enough
--- that the frame ends, for there no response is lost.
+-- "If, on demand 2's bus": in each frame of the log of a run from a quiet start.
+abbrev pub InEachFrame : (Capture → Type 0) → Type 0
+InEachFrame P = (w v : World) → QuietStart w → (r : Run w v) → All P (framesOf (log r))
+
+-- "it holds a request when polled": the frame is the poll of its code, and it takes the last nibble with a request inside.
+pub record HeldWhenPolled (own : ℕ) (l : Capture) : Type 0 where
+  pub poll : l .frame ≡ pollOf own
+  pub inside : Inside
+  pub takes-last : Has (settled inside) (deedsIn own (l .marks))
+  pub request : hasRequest inside ≡ true
+
+-- The frame has ended, and the application was told this.
+abbrev pub Tells : Capture → Event → Type 0
+Tells l e = (buffer : List ℕ) × Has (told e buffer) (actsIn (l .marks))
+
+-- "and the response arrives whole, the application is handed that code": it is enough that the frame ends, for there no response is lost.
 abbrev pub PolledHands : Type 0
-PolledHands =
-    (w v : World) (own : ℕ) → QuietStart w → (r : Run w v) → running (v .controller .stage) ≡ pollOf own ∷ []
-    → (busy : Busy) → inFrame (round v busy .controller .stage) ≡ false → (x : Inside) → Took (a-round r busy) own x → hasRequest x ≡ true
-    → toldIn v busy ≡ Handed own
+PolledHands = InEachFrame (λ (l : Capture). (own : ℕ) (e : Event) → HeldWhenPolled own l → Tells l e → e ≡ Handed own)
 
 -- "and no other": whatever is handed over there was held when polled, by a poll of that code;
-pub record HeldWhenPolled {w v : World} (r : Run w v) (busy : Busy) (code : ℕ) : Type 0 where
-  pub inside : Inside
-  pub took : Took (a-round r busy) code inside
-  pub request : hasRequest inside ≡ true
-  pub poll : running (v .controller .stage) ≡ pollOf code ∷ []
-
 abbrev pub HandedHeld : Type 0
-HandedHeld = (w v : World) (code : ℕ) → QuietStart w → (r : Run w v) (busy : Busy) → toldIn v busy ≡ Handed code → HeldWhenPolled r busy code
+HandedHeld = InEachFrame (λ (l : Capture). (code : ℕ) → Tells l (Handed code) → HeldWhenPolled code l)
 
 -- and at any levels it is the code of the poll that runs.
 abbrev pub HandsOnly : Type 0
