@@ -1,8 +1,8 @@
 -- On demand 2's bus, and from its statement: what a unit holds when polled is handed over at the end of that frame, and nothing else is.
-use Prim.Native.Nat.{ℕ, suc, _<_}
+use Prim.Native.Nat.{ℕ, _<_}
 use native.Mathlib.Omega.{arith}
 use mathlib.Core.Path.{_≡_, refl, sym, _∙_, ap, subst}
-use mathlib.Core.Bool.{Bool, true, false, cond, true≢false, false≢true}
+use mathlib.Core.Bool.{Bool, true, false, true≢false, false≢true}
 use mathlib.Core.List.{List, [], _∷_, _++_, map}
 use borrow.Author.Tests.{eq-eqb}
 use lib.Dec.{eqb}
@@ -23,7 +23,7 @@ use Rattle.kind.specs.Kinds.{kindOf}
 use Rattle.reply.specs.Reply.{isSilent, replyStatus}
 use Rattle.turn.specs.Turn.{eventOf}
 use Rattle.turn.specs.declared.Event.{Event}
-use Rattle.turn.specs.declared.Event.the-variants.{Nothing, Handed}
+use Rattle.turn.specs.declared.Event.the-variants.{Handed}
 use Rattle.whole.specs.Whole.{storedOf}
 use Rattle.polling.proofs.Handing.{hands-by, poll-shape}
 use Rattle.polling.proofs.Logged.{Settles, FrameSays, frames-say, settles, either}

@@ -14,9 +14,9 @@ use Rattle.controller.specs.declared.Controller.{Controller}
 use Rattle.delivery.specs.Calls.{Call, host, submits, acknowledges, lends, lendsUnit}
 use Rattle.delivery.specs.Demand2.{codesOf}
 use Rattle.delivery.specs.Lists.{All, none, also, Has, here, there}
-use Rattle.delivery.specs.Log.{Act, sent, heard, told, Deed, took, settled, spoke, done, Mark, begins, acts, does, asks, submitted, begunBy, endedBy, stageMarks, settledBy, doneBy, deedsBy, stationDeeds, unitsMarks, roundMarks, hostMarks, submissionMarks, callMarks, log, Capture, withMark, cutAll, framesOf, deedIn, deedsIn}
+use Rattle.delivery.specs.Log.{Act, told, Deed, took, settled, spoke, done, Mark, begins, acts, does, asks, submitted, begunBy, endedBy, stageMarks, settledBy, doneBy, deedsBy, unitsMarks, hostMarks, submissionMarks, callMarks, log, Capture, withMark, cutAll, framesOf, deedIn, deedsIn}
 use Rattle.delivery.specs.Run.{QuietStart, Run, start, a-round, a-call}
-use Rattle.delivery.specs.World.{World, Busy, levels, round}
+use Rattle.delivery.specs.World.{World, levels, round}
 use Rattle.delivery.proofs.Called.{alike-called, codes-alike}
 use Rattle.delivery.proofs.Completed.{codes-after}
 use Rattle.delivery.proofs.EveryRound.{every-run, on-sound}
@@ -31,7 +31,7 @@ use Rattle.inside.specs.Calls.{HostCall}
 use Rattle.inside.specs.Inside.{Inside, insideOf}
 use Rattle.inside.specs.Lawful.{Fit}
 use Rattle.kind.specs.Kinds.{kindOf}
-use Rattle.line.specs.Line.{sentOf, takenOf, senderNibble}
+use Rattle.line.specs.Line.{sentOf, takenOf}
 use Rattle.line.specs.declared.Lines.{Lines}
 use Rattle.message.specs.Answer.{Answer, gives, refused}
 use Rattle.phase.specs.declared.Phase.{Phase}

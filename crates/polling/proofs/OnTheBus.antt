@@ -7,7 +7,7 @@ use mathlib.Core.List.{List, [], _∷_}
 use borrow.Author.Tests.{le-ltb, ne-eqb, eqb-true, eq-eqb}
 use lib.Dec.{ltb, eqb}
 use lib.ListN.{length}
-use Rattle.answer.specs.Answer.{nothingTaken, statusOf, countOf}
+use Rattle.answer.specs.Answer.{statusOf, countOf}
 use Rattle.answer.specs.declared.Response.{Response}
 use Rattle.answer.specs.declared.Response.the-variants.{Complete}
 use Rattle.bus.specs.Bus.{levelsWith, unitsAfter, isOdd}
@@ -20,21 +20,19 @@ use Rattle.delivery.specs.Run.{QuietStart, Run, start, a-round, a-call}
 use Rattle.delivery.proofs.Rounds.{Took, takes-it, took-it}
 use Rattle.delivery.specs.Lists.{All, none, also, One, this, that, Has, here, there}
 use Rattle.delivery.proofs.Promised.{Moment}
-use Rattle.delivery.proofs.Stages.{On, rests, submitted, ended, runs, InFrame, Goes, on, answered, unanswered, Spoke, spoke, Hushed, not-its-own, by-the-rule, addressed, movedIn, Sound, Sits, answerData, begins, sends, hears, waits, AtRest, is-free, is-resting}
-use Rattle.delivery.specs.World.{World, Busy, levels, round, Becomes, in-front, behind}
-use Rattle.delivery.proofs.EveryRound.{on-nibble, every-run, every-response, every-step, taken-once, on-sound}
+use Rattle.delivery.proofs.Stages.{On, rests, submitted, ended, runs, InFrame, on, Spoke, spoke, Hushed, not-its-own, by-the-rule, addressed, movedIn, Sound, Sits, answerData, begins, sends, hears, waits, AtRest, is-free, is-resting}
+use Rattle.delivery.specs.World.{World, Busy, levels, round}
+use Rattle.delivery.proofs.EveryRound.{on-nibble, every-run, every-step, on-sound}
 use Rattle.delivery.proofs.Lists.{all-map, all-step}
 use Rattle.delivery.proofs.Frame.{own-kept, becomes-all}
 use Rattle.delivery.proofs.Calls.{all-lends}
-use Rattle.delivery.proofs.Run.{frame-busy, frame-runs}
+use Rattle.delivery.proofs.Run.{frame-busy}
 use Rattle.frame.specs.Frame.{pollOf, over, lentAt}
 use Rattle.frame.specs.declared.Frame.{Frame}
 use Rattle.frame.specs.declared.Lent.{Lent}
 use Rattle.frame.specs.declared.Lent.the-variants.{Fits, Data, Buffer}
 use Rattle.frame.specs.declared.Moved.{Moved}
-use Rattle.frame.specs.declared.Kind.the-variants.{Poll}
 use Rattle.frame.specs.declared.Stage.{Stage}
-use Rattle.frame.specs.declared.Stage.the-variants.{Free, Resting, Waiting, Sending, Listening}
 use Rattle.header.specs.declared.Command.{Command}
 use Rattle.inside.specs.Calls.{HostCall}
 use Rattle.inside.specs.Inside.{Inside, isServed, hasRequest, replyFor}
@@ -42,7 +40,6 @@ use Rattle.inside.specs.Lawful.{Fit}
 use Rattle.inside.proofs.Calls.{unit-called}
 use Rattle.inside.proofs.Ors.{or-left}
 use Rattle.inside.proofs.Lawful.{every-lawful}
-use Rattle.inside.proofs.Replies.{silent-status}
 use Rattle.kind.specs.Kinds.{kindOf}
 use Rattle.line.specs.declared.Lines.{Lines}
 use Rattle.message.specs.Answer.{Answer, gives, refused}
@@ -60,9 +57,9 @@ use Rattle.unit.specs.Unit.{pullsOf}
 use Rattle.polling.specs.Beyond.{BusStarts}
 use Rattle.polling.specs.BusMoves.{moveOf, callOf, movesOf, toldIn}
 use Rattle.polling.specs.History.{since}
-use Rattle.polling.specs.Moves.{Move, after, afterAll, told, eventOf}
-use Rattle.polling.proofs.Does.{held, Does, keeps, accepts, serves, frame-ends, clears, does, firstOf}
-use Rattle.polling.proofs.Handing.{starts, hands-by, hands-only, isHand}
+use Rattle.polling.specs.Moves.{Move, after, afterAll, told}
+use Rattle.polling.proofs.Does.{held, firstOf}
+use Rattle.polling.proofs.Handing.{starts}
 
 -- The controller of a run is one that was made, after its own calls.
 called-moves : (v : World) (call : Call) (ms : List Move) → afterAll (called v call .controller) ms ≡ afterAll (v .controller) (callOf call ms)

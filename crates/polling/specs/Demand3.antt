@@ -1,5 +1,6 @@
 -- Demand 3, sentence by sentence. Its words stand in Moves.antt: the controller's calls, at any line levels; History.antt: a request that was
--- handed over, and what settles it; UnitMoves.antt: a unit's calls, at any levels; BusMoves.antt: the calls on demand 2's bus.
+-- handed over, and what settles it; UnitMoves.antt: a unit's calls, at any levels; delivery's Run.antt and Log.antt: demand 2's bus.
+-- `proofs/Demand3.antt` proves the theorem.
 use Prim.Native.Nat.{ℕ, suc, _<_, _≤_}
 use mathlib.Core.Path.{_≡_}
 use mathlib.Core.Bool.{Bool, true, false, cond, not}
@@ -25,22 +26,23 @@ use Rattle.polling.specs.History.{since, isPending, isEnabling}
 use Rattle.polling.specs.Moves.{Move, steps, after, begins, services, ahead, inRing, Spared, eventOf, Stays}
 use Rattle.polling.specs.UnitMoves.{UnitMove, steps as unitSteps, raises, moved, isSeen, Stands, rowOf, unitSince, Fills}
 
--- "A unit whose enabling (08) ends with 00 joins the polling ring": behind the call that tells of the end it is there.
+-- "A unit whose enabling (08) ends with 00 joins the polling ring": it is there behind the call that tells of the end. No unit has code 0.
 abbrev pub Joins : Type 0
 Joins =
     (own timeout : ℕ) (before : List Move) (m : Move) (f : Frame) (count : ℕ)
     → let c = since timeout before in
     (own ≡ 0 → ⊥) → running (c .stage) ≡ f ∷ [] → isEnabling own f → eventOf c m ≡ Ended 0x00 count → inRing own (after c m) ≡ true
 
--- "a raised request is held": a raise leaves a request, and it stands until the last nibble of a 01, 09 or FF, or of its answer 00, ends it.
+-- "a raised request is held": a raise leaves a request, unless it is refused because the unit is not enabled.
 abbrev pub Raised : Type 0
 Raised = (u : Unit) → u .serial .enabled ≡ true → moved u raises .serial .requesting ≡ true
 
+-- It stands until the last nibble of a 01, 09 or FF is taken, or that of its answer 00 is done.
 abbrev pub RequestStands : Type 0
 RequestStands = (u : Unit) (m : UnitMove) → u .serial .requesting ≡ true → Stands u m
 
--- "and pulls BAV, as document 01 says": an enabled unit that holds a request and sees BAV high, so that it is idle, pulls BAV just when it
--- has been high for the retry count of rounds in a row, the present one included, counted with or without a request.
+-- "and pulls BAV, as document 01 says": "an idle peripheral that is enabled and holds a request pulls BAV once BAV has been seen high for the
+-- retry count of rounds in a row, the present one included, counted with or without a request." Seeing BAV high, it is idle; `asking` is its pull.
 abbrev pub PullsBav : Type 0
 PullsBav =
     (own retry : ℕ) (ms : List UnitMove) (seen : Lines) (busy : Bool) (buffer input : List ℕ)
@@ -48,7 +50,7 @@ PullsBav =
     isSeen own seen buffer ≡ true → seen .bav ≡ false → u .asking ≡ false → u .serial .enabled ≡ true → u .serial .requesting ≡ true
     → moved u (unitSteps seen busy buffer input) .asking ≡ leb retry (suc (rowOf own 0 ms))
 
--- It releases it at the first HSK low it sees in a later round.
+-- "It releases it at the first HSK low it sees in a later round."
 abbrev pub HoldsBav : Type 0
 HoldsBav =
     (u : Unit) (seen : Lines) (busy : Bool) (buffer input : List ℕ)
@@ -58,13 +60,13 @@ HoldsBav =
 abbrev pub PullsForIt : Type 0
 PullsForIt = (own retry : ℕ) (ms : List UnitMove) → let u = unitSince own retry ms in u .asking ≡ true → (u .serial .enabled ≡ true) × (u .serial .requesting ≡ true)
 
--- and it begins to in no other call than a step that sees BAV high and fills its row.
+-- and it begins only in a step that sees BAV high and fills its row.
 abbrev pub PullsNotBefore : Type 0
 PullsNotBefore =
     (own retry : ℕ) (ms : List UnitMove) (m : UnitMove)
     → let u = unitSince own retry ms in u .asking ≡ false → moved u m .asking ≡ true → Fills own retry (rowOf own 0 ms) m
 
--- "An idle controller that sees BAV low begins a service frame": in that very step, unless it is refused, for a refused step sees nothing.
+-- "An idle controller that sees BAV low begins a service frame": in that very step. A refused step sees nothing; the ring is not empty.
 abbrev pub Starts : Type 0
 Starts =
     (c : Controller) (seen : Lines) (busy : Bool) (lent response : List ℕ)
@@ -96,7 +98,7 @@ TurnComes =
     → let c = since timeout before in
     inRing own c ≡ true → Spared own c calls → suc (ahead own c) ≤ services c calls → TurnIn own timeout (ahead own c) before calls
 
--- The nibbles of such a frame: a poll's of the unit's code, 0A and zeros, and a null message's of 0, FE and zeros.
+-- The nibbles of such a frame. A poll is the unit's code, 0A and zeros; a null message is 0, FE and zeros.
 abbrev pub PollNibbles : Type 0
 PollNibbles = (own : ℕ) (lent : List ℕ) (i : ℕ) → own < 256 → nibbleOf (pollOf own) lent i ≡ nibbleIn (own ∷ 0x0A ∷ 0 ∷ 0 ∷ 0 ∷ 0 ∷ 0 ∷ 0 ∷ 0 ∷ []) i
 
@@ -107,7 +109,7 @@ NullNibbles = (lent : List ℕ) (i : ℕ) → nibbleOf nullFrame lent i ≡ nibb
 abbrev pub InEachFrame : (Capture → Type 0) → Type 0
 InEachFrame P = (w v : World) → QuietStart w → (r : Run w v) → All P (framesOf (log r))
 
--- "it holds a request when polled": the frame is the poll of its code, and it takes the last nibble with a request inside.
+-- "it holds a request when polled": the frame is a poll of its code, and it holds one as it takes the last nibble.
 pub record HeldWhenPolled (own : ℕ) (l : Capture) : Type 0 where
   pub poll : l .frame ≡ pollOf own
   pub inside : Inside
@@ -118,7 +120,7 @@ pub record HeldWhenPolled (own : ℕ) (l : Capture) : Type 0 where
 abbrev pub Tells : Capture → Event → Type 0
 Tells l e = (buffer : List ℕ) × Has (told e buffer) (actsIn (l .marks))
 
--- "and the response arrives whole, the application is handed that code": it is enough that the frame ends, for there no response is lost.
+-- "and the response arrives whole, the application is handed that code": it is enough that the frame ends, for no response is lost there.
 abbrev pub PolledHands : Type 0
 PolledHands = InEachFrame (λ (l : Capture). (own : ℕ) (e : Event) → HeldWhenPolled own l → Tells l e → e ≡ Handed own)
 
