@@ -42,7 +42,7 @@ abbrev pub RequestStands : Type 0
 RequestStands = (u : Unit) (m : UnitMove) → u .serial .requesting ≡ true → Stands u m
 
 -- "and pulls BAV, as document 01 says": "an idle peripheral that is enabled and holds a request pulls BAV once BAV has been seen high for the
--- retry count of rounds in a row, the present one included, counted with or without a request." Seeing BAV high, it is idle; `asking` is its pull.
+-- retry count of rounds in a row, the present one included, counted with or without a request." With BAV high it is idle; `asking` is its pull.
 abbrev pub PullsBav : Type 0
 PullsBav =
     (own retry : ℕ) (ms : List UnitMove) (seen : Lines) (busy : Bool) (buffer input : List ℕ)
