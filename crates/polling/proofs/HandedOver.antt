@@ -77,8 +77,13 @@ told-last [] (x ∷ row) more rest q h = omega arith
 told-last (n ∷ ns) (x ∷ row) more rest q here = absurd (false≢true (ap isTold q))
 told-last (n ∷ ns) (x ∷ row) more rest q (there h) = let less = told-last ns row more rest (ap tail q) h in omega arith
 
+-- Who answers.
+spoken-by : {l : Capture} {own : ℕ} {x : Inside} {codes : List ℕ} → One (Speaks l own x) (Hushes l) codes → (code : ℕ) × Speaks l own x code
+spoken-by (this {x = code} p a) = (code, p)
+spoken-by (that q o) = spoken-by o
+
 module _ {codes : List ℕ} {l : Capture} (k : Delivered codes l) (s : FrameSays codes l) where
-  pub record Ended (e : Event) : Type 0 where
+  record Ended (e : Event) : Type 0 where
     pub answers : Answers codes l (k .answerer)
     pub event : e ≡ endOf l (k .answerer)
 
@@ -88,11 +93,7 @@ module _ {codes : List ℕ} {l : Capture} (k : Delivered codes l) (s : FrameSays
     event = has-all (told-once l (k .answerer)) (subst (Has (told e (t .0))) (sym (k .in-order .1)) (has-left (k .in-order .0) (t .1)));
   }
 
-  -- Who answers.
-  spoken-by : {own : ℕ} {x : Inside} {cs : List ℕ} → One (Speaks l own x) (Hushes l) cs → (code : ℕ) × Speaks l own x code
-  spoken-by (this {x = code} p a) = (code, p)
-  spoken-by (that q o) = spoken-by o
-
+  -- The frame is a poll.
   module _ (own : ℕ) (poll : l .frame ≡ pollOf own) where
     no-data : l .lent ≡ []
     no-data = s .begin .bare (ap (λ (f : Frame). isSubmitted (f .kind)) poll)
@@ -100,9 +101,12 @@ module _ {codes : List ℕ} {l : Capture} (k : Delivered codes l) (s : FrameSays
     reply-is : (speaker : ℕ) (x : Inside) → replyTo l speaker x ≡ replyFor speaker x (pollOf own .command) []
     reply-is speaker x = λ i. replyFor speaker x (poll i .command) (no-data i)
 
-    its-own : (speaker : ℕ) → (own ≡ 0 → ⊥) → isAddressed l speaker ≡ true → speaker ≡ own
-    its-own speaker nonzero meant = addressed-own (pollOf own .command) speaker nonzero (subst (λ (f : Frame). addressed (f .command) speaker ≡ true) poll meant)
+    its-own : (own ≡ 0 → ⊥) → {speaker code : ℕ} {x : Inside} → Speaks l speaker x code → Has (settled x) (deedsIn own (l .marks))
+    its-own nonzero {speaker} {x = x} k =
+        let same = addressed-own (pollOf own .command) speaker nonzero (subst (λ (f : Frame). addressed (f .command) speaker ≡ true) poll (k .meant)) in
+        subst (λ (n : ℕ). Has (settled x) (deedsIn n (l .marks))) same (k .inside)
 
+  -- Held when polled: handed over.
   hands : (own : ℕ) (e : Event) → HeldWhenPolled own l → Tells l e → e ≡ Handed own
   hands own e held t = by (k .answerer) (ended t .answers) (ended t .event) (k .parts)
     where
@@ -118,13 +122,13 @@ module _ {codes : List ℕ} {l : Capture} (k : Delivered codes l) (s : FrameSays
       by nobody all q parts = absurd (speaks (has-all all (at-last .on-bus)))
       by (unit speaker x) one q parts =
           let k = spoken-by one .1 in
-          let same : speaker ≡ own = its-own own (held .poll) speaker (at-last .coded) (k .meant) in
           let part = has-all parts (at-last .on-bus) in
-          let inside : x ≡ held .inside = settled-in part x (subst (λ (n : ℕ). Has (settled x) (deedsIn n (l .marks))) same (k .inside)) ∙ sym (settled-in part (held .inside) (held .takes-last)) in
+          let inside : x ≡ held .inside = settled-in part x (its-own own (held .poll) (at-last .coded) k) ∙ sym (settled-in part (held .inside) (held .takes-last)) in
           let zero : statusBy l (unit speaker x) ≡ 0x00 =
           ap replyStatus (reply-is own (held .poll) speaker x) ∙ held-says-zero speaker own x (settles codes s speaker x (k .inside) .fit) (at-last .coded) (ap hasRequest inside ∙ held .request) in
           q ∙ (λ i. eventOf (held .poll i) (zero i) (length (dataBy l (unit speaker x))))
 
+  -- Handed over: held when polled.
   was-held : (code : ℕ) → Tells l (Handed code) → HeldWhenPolled code l
   was-held code t = by (k .answerer) (ended t .answers) (ended t .event)
     where
@@ -135,11 +139,10 @@ module _ {codes : List ℕ} {l : Capture} (k : Delivered codes l) (s : FrameSays
           let poll : l .frame ≡ pollOf code = poll-shape (l .frame) code (s .begin .shape) (h .0) (h .1 .0) in
           let k = spoken-by one .1 in
           let nonzero : code ≡ 0 → ⊥ = λ z. true≢false (sym (every-lawful (kindOf speaker) .zero-silent x (l .frame .command) (length (l .lent)) (storedOf (l .lent)) (h .1 .0 ∙ z)) ∙ k .defined) in
-          let same : speaker ≡ code = its-own code poll speaker nonzero (k .meant) in
           record {
             poll = poll;
             inside = x;
-            takes-last = subst (λ (n : ℕ). Has (settled x) (deedsIn n (l .marks))) same (k .inside);
+            takes-last = its-own code poll nonzero k;
             request = zero-says-held speaker code x (settles codes s speaker x (k .inside) .fit) nonzero (sym (ap replyStatus (reply-is code poll speaker x)) ∙ h .1 .1);
           }
 

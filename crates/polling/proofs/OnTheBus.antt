@@ -38,7 +38,7 @@ use Rattle.inside.specs.Calls.{HostCall}
 use Rattle.inside.specs.Inside.{Inside, isServed, hasRequest, replyFor}
 use Rattle.inside.specs.Lawful.{Fit}
 use Rattle.inside.proofs.Calls.{unit-called}
-use Rattle.inside.proofs.Ors.{or-left}
+use Rattle.inside.proofs.Ors.{or-left, or-first}
 use Rattle.inside.proofs.Lawful.{every-lawful}
 use Rattle.kind.specs.Kinds.{kindOf}
 use Rattle.line.specs.declared.Lines.{Lines}
@@ -208,10 +208,6 @@ spoken w v q r busy own found x (this (spoke reply j sender before has k e a p m
 -- Held when polled: handed over.
 pub hushed-none : {T : Moment} (own : ℕ) → (own ≡ 0 → ⊥) → ((code : ℕ) (x : Inside) → T code x → Fit (kindOf code) x) → {ss : List Station} → HasCode own ss → All (Hushed T (pollOf own .command) []) ss → ⊥
 hushed-none own nonzero fits (it-has e) (also (not-its-own a) hs) = true≢false (sym (or-first (eqb own own) (eqb own 0) (eq-eqb own own refl)) ∙ sym (ap (λ (k : ℕ). eqb own k || eqb own 0) e) ∙ a)
-  where
-    or-first : (a b : Bool) → a ≡ true → (a || b) ≡ true
-    or-first true b x = refl
-    or-first false b x = absurd (false≢true x)
 hushed-none own nonzero fits (it-has {st = st} e) (also (by-the-rule given t z) hs) = true≢false (sym z ∙ every-lawful (kindOf (st .unit .own)) .speaks given own (fits (st .unit .own) given t) nonzero)
 hushed-none own nonzero fits (later h) (also p hs) = hushed-none own nonzero fits h hs
 
