@@ -22,7 +22,7 @@ use Rattle.reply.specs.Reply.{isSilent}
 use Rattle.serial.specs.declared.Reply.{Reply}
 use Rattle.whole.specs.Whole.{bytesFor}
 use Rattle.whole.proofs.Whole.{length-bytes}
-use Rattle.delivery.specs.Demand2.{message, isAddressed, replyTo, response, deedsOf, answerOf, nobody, unit, endBy, Hushes, Speaks, Part, Underway, Delivered, all-ended, one-runs, codesOf}
+use Rattle.delivery.specs.Demand2.{message, isAddressed, replyTo, response, deedsOf, answerOf, nobody, unit, endBy, Hushes, Speaks, Ended, Part, Underway, Delivered, all-ended, one-runs, codesOf}
 use Rattle.delivery.specs.Calls.{inFrame}
 use Rattle.delivery.specs.Lists.{All, also, One, this, that, Front}
 use Rattle.delivery.specs.Log.{Act, sent, heard, Deed, took, settled, spoke, done, Capture, actsIn, deedsIn}
@@ -292,3 +292,11 @@ story-underway l v s = subst (Underway (codesOf (v .units))) (λ i. record { fra
 pub frames-delivered : {T : Moment} {v : World} {ls : List Capture} → Frames T v ls → Delivered (codesOf (v .units)) (inFrame (v .controller .stage)) ls
 frames-delivered {v = v} {ls = ls} (at-rest e a) = subst (λ (t : Bool). Delivered (codesOf (v .units)) t ls) (sym e) (all-ended a)
 frames-delivered {v = v} (in-one {l = l} {ls = ls} s a) = subst (λ (t : Bool). Delivered (codesOf (v .units)) t (l ∷ ls)) (sym (frame-runs (s .frame))) (one-runs (story-underway l v s) a)
+
+-- What is said of a frame that runs is true of one that has ended as well.
+ended-underway : {codes : List ℕ} {l : Capture} → Ended codes l → Underway codes l
+ended-underway {l = l} k = record { answerer = k .answerer; in-order = all-of (k .acted); answers = λ _. k .answers; parts = all-map (λ own p. part-whole l own (p .0) (p .1)) (k .parts) }
+
+pub each-underway : {codes : List ℕ} {runs : Bool} {ls : List Capture} → Delivered codes runs ls → All (Underway codes) ls
+each-underway (all-ended a) = all-map (λ l k. ended-underway k) a
+each-underway (one-runs k a) = also k (all-map (λ l e. ended-underway e) a)

@@ -1,5 +1,4 @@
 -- Demand 3, proved. Its last sentence follows from demand 2.
-use Rattle.delivery.specs.Demand2.{Demand}
 use Rattle.polling.specs.Demand3.{Demand3}
 use Rattle.polling.proofs.Handing.{starts, hands-only}
 use Rattle.polling.proofs.History.{joins-ring, poll-nibbles, null-nibbles}
@@ -7,8 +6,8 @@ use Rattle.polling.proofs.ItsTurn.{its-turn}
 use Rattle.polling.proofs.HandedOver.{polled-hands, handed-held}
 use Rattle.polling.proofs.Requests.{raised, request-stands, pulls-bav, holds-bav, pulls-for-it, pulls-not-before}
 
-pub demand-3 : Demand → Demand3
-demand-3 demand = record {
+pub demand-3 : Demand3
+demand-3 = record {
   joins = joins-ring;
   raised = raised;
   request-stands = request-stands;
@@ -20,7 +19,7 @@ demand-3 demand = record {
   turn-comes = its-turn;
   poll-nibbles = poll-nibbles;
   null-nibbles = null-nibbles;
-  polled-hands = polled-hands demand;
-  handed-held = handed-held demand;
+  polled-hands = polled-hands;
+  handed-held = handed-held;
   hands-only = hands-only;
 }

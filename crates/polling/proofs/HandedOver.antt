@@ -7,12 +7,13 @@ use mathlib.Core.List.{List, [], _∷_, _++_, map}
 use borrow.Author.Tests.{eq-eqb}
 use lib.Dec.{eqb}
 use lib.ListN.{length, take}
-use Rattle.delivery.specs.Demand2.{Demand, Delivered, Answerer, nobody, unit, Answers, Hushes, not-meant, by-the-rule, Speaks, Part, message, isAddressed, replyTo, deedsOf, response, statusBy, dataBy, heardBy, endBy, actsOf}
+use Rattle.delivery.specs.Demand2.{Underway, Answerer, nobody, unit, Answers, Hushes, not-meant, by-the-rule, Speaks, Part, message, isAddressed, replyTo, deedsOf, response, statusBy, dataBy, heardBy, endBy, actsOf}
 use Rattle.delivery.specs.Lists.{All, none, also, One, this, that, Has, here, there}
 use Rattle.delivery.specs.Log.{Act, sent, heard, told, Deed, took, settled, spoke, done, Capture, actsIn, deedsIn}
-use Rattle.delivery.proofs.Captured.{has-left}
-use Rattle.delivery.proofs.Lists.{all-map, all-zip, has-all}
+use Rattle.delivery.proofs.Demand2.{demand-2}
+use Rattle.delivery.proofs.Lists.{all-map, all-zip, has-all, has-left}
 use Rattle.delivery.proofs.Logs.{all-append}
+use Rattle.delivery.proofs.Shown.{each-underway}
 use Rattle.delivery.proofs.Stages.{addressed}
 use Rattle.frame.specs.Frame.{pollOf, isSubmitted}
 use Rattle.frame.specs.declared.Frame.{Frame}
@@ -47,7 +48,7 @@ settled-once l own y =
     (all-append (all-mapped took (λ n. tt) (message l)) (also refl (either (isSilent (replyTo l own y)) none (all-append (all-mapped spoke (λ n. tt) (response l own y)) (also tt none)))))
     (all-mapped took (λ n. tt) (take 2 (message l)))
 
-settled-in : {l : Capture} {a : Answerer} {own : ℕ} (p : Part l a own) (x : Inside) → Has (settled x) (deedsIn own (l .marks)) → x ≡ p .inside
+settled-in : {l : Capture} {own : ℕ} (p : Part l own) (x : Inside) → Has (settled x) (deedsIn own (l .marks)) → x ≡ p .inside
 settled-in {l} {own = own} p x h = has-all (settled-once l own (p .inside)) (subst (Has (settled x)) (sym (p .in-order .1)) (has-left (p .in-order .0) h))
 
 -- The application is told once in a frame, at its end, behind the whole command.
@@ -82,12 +83,12 @@ spoken-by : {l : Capture} {own : ℕ} {x : Inside} {codes : List ℕ} → One (S
 spoken-by (this {x = code} p a) = (code, p)
 spoken-by (that q o) = spoken-by o
 
-module _ {codes : List ℕ} {l : Capture} (k : Delivered codes l) (s : FrameSays codes l) where
-  record Ended (e : Event) : Type 0 where
+module _ {codes : List ℕ} {l : Capture} (k : Underway codes l) (s : FrameSays codes l) where
+  record EndsWith (e : Event) : Type 0 where
     pub answers : Answers codes l (k .answerer)
     pub event : e ≡ endOf l (k .answerer)
 
-  ended : {e : Event} → Tells l e → Ended e
+  ended : {e : Event} → Tells l e → EndsWith e
   ended {e} t = record {
     answers = k .answers (told-last (message l) (actsIn (l .marks)) (map heard (heardBy l (k .answerer)) ++ (endBy l (k .answerer) ∷ [])) (k .in-order .0) (k .in-order .1) (t .1));
     event = has-all (told-once l (k .answerer)) (subst (Has (told e (t .0))) (sym (k .in-order .1)) (has-left (k .in-order .0) (t .1)));
@@ -118,7 +119,7 @@ module _ {codes : List ℕ} {l : Capture} (k : Delivered codes l) (s : FrameSays
       speaks (by-the-rule x h e) =
           true≢false (sym e ∙ ap isSilent (reply-is own (held .poll) own x) ∙ every-lawful (kindOf own) .speaks x own (settles codes s own x h .fit) (at-last .coded))
 
-      by : (a : Answerer) → Answers codes l a → e ≡ endOf l a → All (Part l a) codes → e ≡ Handed own
+      by : (a : Answerer) → Answers codes l a → e ≡ endOf l a → All (Part l) codes → e ≡ Handed own
       by nobody all q parts = absurd (speaks (has-all all (at-last .on-bus)))
       by (unit speaker x) one q parts =
           let k = spoken-by one .1 in
@@ -147,9 +148,8 @@ module _ {codes : List ℕ} {l : Capture} (k : Delivered codes l) (s : FrameSays
           }
 
 -- In every frame of a run's log.
-module _ (demand : Demand) where
-  pub polled-hands : PolledHands
-  polled-hands w v q r = all-map (λ l p. hands (p .0) (p .1)) (all-zip (demand w v q r .frames) (frames-say w v q r))
+pub polled-hands : PolledHands
+polled-hands w v q r = all-map (λ l p. hands (p .0) (p .1)) (all-zip (each-underway (demand-2 w v q r .frames)) (frames-say w v q r))
 
-  pub handed-held : HandedHeld
-  handed-held w v q r = all-map (λ l p. was-held (p .0) (p .1)) (all-zip (demand w v q r .frames) (frames-say w v q r))
+pub handed-held : HandedHeld
+handed-held w v q r = all-map (λ l p. was-held (p .0) (p .1)) (all-zip (each-underway (demand-2 w v q r .frames)) (frames-say w v q r))
