@@ -7,8 +7,8 @@ use lib.Dec.{ltb, eqb}
 use lib.ListN.{length}
 use Rattle.bus.specs.Bus.{levelsWith, stationStep, isOdd}
 use Rattle.bus.specs.declared.Station.{Station}
-use Rattle.controller.specs.Calls.{stepping, controllerStepped, bufferAfter}
-use Rattle.controller.specs.Controller.{eventIn}
+use Rattle.controller.specs.Calls.{stepping, controllerStepped, bufferAfter, ifLent}
+use Rattle.controller.specs.Controller.{eventIn, controllerOf, controllerMoved, service}
 use Rattle.controller.specs.declared.Controller.{Controller}
 use Rattle.frame.specs.declared.Stage.{Stage}
 use Rattle.frame.specs.declared.Stage.the-variants.{Free, Resting, Waiting, Sending, Listening}
@@ -28,8 +28,6 @@ use Rattle.delivery.proofs.EveryRound.{rest-pulls}
 use Rattle.delivery.proofs.Lists.{all-map}
 use Rattle.delivery.proofs.Rest.{released, rest-hsk}
 use Rattle.delivery.proofs.Run.{frame-runs}
-use Rattle.controller.specs.Calls.{ifLent}
-use Rattle.controller.specs.Controller.{controllerOf, controllerMoved, service}
 use Rattle.frame.specs.Frame.{begun, stays, restStep, lentTo}
 use Rattle.frame.specs.declared.Frame.{Frame}
 use Rattle.frame.specs.declared.Lent.{Lent}

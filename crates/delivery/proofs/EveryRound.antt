@@ -19,12 +19,12 @@ use Rattle.line.specs.Line.{isReady, hearOf, sentOf}
 use Rattle.phase.specs.declared.Moved.{Moved as Step}
 use Rattle.delivery.proofs.Part.{Stepped, low-step}
 use Rattle.delivery.proofs.Changes.{fresh-changes, sits-changes, talk-changes, part-changes}
-use Rattle.delivery.proofs.Rounds.{Changed, Changes}
+use Rattle.delivery.proofs.Rounds.{Changed, Changes, Took, takes-it, took-it, Runs, Responses, TakenOnce}
 use Rattle.answer.specs.declared.Response.{Response}
-use Rattle.bus.specs.Bus.{stationStep, isOdd}
+use Rattle.bus.specs.Bus.{stationStep, isOdd, levelsWith}
 use Rattle.bus.specs.declared.Station.{Station}
-use Rattle.controller.specs.Controller.{newController}
-use Rattle.frame.specs.Frame.{dataOf}
+use Rattle.controller.specs.Controller.{newController, eventIn}
+use Rattle.frame.specs.Frame.{dataOf, lentAt, lentTo, pullsOf}
 use Rattle.frame.specs.declared.Frame.{Frame}
 use Rattle.frame.specs.declared.Stage.{Stage}
 use Rattle.header.specs.declared.Command.{Command}
@@ -44,26 +44,20 @@ use Rattle.delivery.specs.Lists.{All, none, also}
 use Rattle.delivery.proofs.Promised.{Moment, Promised}
 use Rattle.delivery.proofs.Stages.{isAnswered, Noted, Hushed, not-its-own, by-the-rule, Sound, addressed, Talk, talks, Part, listens, answers, sits, InFrame, begins, sends, hears, waits, Fresh, idles, On, AtRest, is-free, is-resting, rests, submitted, ended, runs}
 use Rattle.delivery.specs.World.{World, Busy, levels, round, Becomes, in-front, behind, Different, another}
-use Rattle.delivery.specs.Run.{New, QuietStart, Run, start, a-round, a-call}
-use Rattle.delivery.proofs.Rounds.{Took, takes-it, took-it, Runs, Responses, TakenOnce}
+use Rattle.delivery.specs.Run.{New, QuietStart, Run, start, a-round, a-call, Steps}
 use borrow.Author.Tests.{le-ltb}
 use Rattle.controller.specs.Calls.{stepping}
-use Rattle.controller.specs.Controller.{eventIn}
-use Rattle.frame.specs.Frame.{lentAt, lentTo, pullsOf}
 use Rattle.frame.specs.declared.Lent.the-variants.{Fits as AsLent}
 use Rattle.line.specs.declared.Listener.the-variants.{Ready}
 use Rattle.line.specs.declared.Sender.the-variants.{Next}
 use Rattle.unit.specs.Calls.{stepping as unitStepping}
 use Rattle.unit.specs.Unit.{unitStep, pullsNibble}
-use Rattle.delivery.specs.Run.{Steps}
 use Rattle.delivery.proofs.Lines.{nibble-kept, hsk-own, bav-kept}
 use Rattle.delivery.proofs.Stage.{sending, sent-nibble, shows, nibble-below}
 use Rattle.delivery.proofs.Listening.{heard-nibble, still-nibble, hearing}
-use Rattle.delivery.proofs.Rest.{released, rest-nibble}
-use Rattle.bus.specs.Bus.{levelsWith}
+use Rattle.delivery.proofs.Rest.{released, rest-nibble, on-round}
 use Rattle.delivery.proofs.Frame.{frame-round, becomes-all, own-kept, begin-nibble, begin-high}
 use Rattle.delivery.proofs.Lists.{all-map, one-all, all-zip, all-step, all-becomes, one-map}
-use Rattle.delivery.proofs.Rest.{on-round}
 use Rattle.delivery.proofs.Run.{on-called, frame-runs, rest-free}
 use Rattle.delivery.proofs.Calls.{all-lends}
 

@@ -16,14 +16,13 @@ use Rattle.line.specs.declared.Lines.{Lines}
 use Rattle.line.specs.declared.Listener.{Listener}
 use Rattle.line.specs.declared.Listener.the-variants.{Ready, Holding}
 use Rattle.line.specs.declared.Sender.{Sender}
-use Rattle.phase.specs.Phase.{phaseStep, phaseBuffer, phaseOutput}
+use Rattle.phase.specs.Phase.{phaseStep, phaseBuffer, phaseOutput, partial, withByte, answered, stored, storedData, selected, isLast, bufferWith, moves}
 use Rattle.phase.specs.declared.Phase.{Phase}
 use Rattle.phase.specs.declared.Phase.the-variants.{Selecting, Receiving, SittingOut}
 use Rattle.serial.specs.declared.Serial.{Serial}
 use Rattle.header.specs.declared.Command.{Command}
 use Rattle.header.specs.declared.Header.{Header}
 use Rattle.message.specs.Nibbles.{nibbleIn}
-use Rattle.phase.specs.Phase.{partial, withByte, answered, stored, storedData, selected, isLast, bufferWith, moves}
 use Rattle.phase.specs.declared.Moved.{Moved}
 use Rattle.phase.specs.declared.Progress.the-variants.{Taking, Answered}
 use Rattle.whole.specs.Whole.{bytesFor, byteAt, headAt, bufferAt, headerFor, withData, storedOf, Sent}

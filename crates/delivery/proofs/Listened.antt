@@ -2,19 +2,19 @@
 use Prim.Native.Nat.{ℕ, _+_, _/_}
 use mathlib.Core.Path.{_≡_, refl, sym, _∙_, ap, subst}
 use mathlib.Core.Bool.{Bool, true, false, cond, _||_, true≢false, false≢true}
-use mathlib.Core.List.{List, [], _∷_, _++_, append-nil}
-use lib.ListN.{length}
+use mathlib.Core.List.{List, [], _∷_, _++_, append-nil, append-assoc, map}
+use lib.ListN.{length, drop}
 use Rattle.answer.specs.Answer.{takenWith}
 use Rattle.answer.specs.declared.Response.{Response}
 use Rattle.bus.specs.Bus.{stationStep, unitsAfter, isOdd}
 use Rattle.bus.specs.declared.Station.{Station}
-use Rattle.controller.specs.Controller.{eventIn}
+use Rattle.controller.specs.Controller.{eventIn, eventAfter}
 use Rattle.controller.specs.declared.Controller.{Controller}
 use Rattle.frame.specs.Frame.{dataOf, isSubmitted, stays, over, ends, quietAfter, listeningStep, lentTo}
 use Rattle.frame.specs.declared.Frame.{Frame}
-use Rattle.frame.specs.declared.Stage.the-variants.{Listening}
+use Rattle.frame.specs.declared.Stage.the-variants.{Listening, Resting}
 use Rattle.header.specs.declared.Command.{Command}
-use Rattle.inside.specs.Inside.{Inside, insideOf}
+use Rattle.inside.specs.Inside.{Inside, insideOf, dataIn, replyFor}
 use Rattle.line.specs.Line.{hearOf, takenOf, listenerHsk}
 use Rattle.line.specs.declared.Lines.{Lines}
 use Rattle.line.specs.declared.Listener.{Listener}
@@ -23,39 +23,26 @@ use Rattle.ring.specs.declared.Ring.{Ring}
 use Rattle.serial.specs.declared.Reply.{Reply}
 use Rattle.unit.specs.Unit.{pullsHsk, pullsNibble}
 use Rattle.delivery.specs.Lists.{All, none, also, One, this, that, Has, here, there}
-use Rattle.delivery.specs.Log.{Act, heard, told, Deed, settled, Mark, acts, deedsBy, endedBy, Capture, actsIn, deedsIn}
-use Rattle.delivery.proofs.Promised.{Moment}
+use Rattle.delivery.specs.Log.{Act, heard, told, Deed, settled, Mark, acts, deedsBy, endedBy, Capture, actsIn, deedsIn, sent, took, spoke, done}
+use Rattle.delivery.proofs.Promised.{Moment, Promised}
 use Rattle.delivery.proofs.Stages.{Sits, Sound, Talk, talks, InFrame, hears, isResponding, Speaking, Framed, world}
 use Rattle.delivery.specs.World.{World, Busy, levels, round, Becomes, in-front, behind, Different}
-use Rattle.delivery.proofs.Deeds.{answerFor, Stands, Did, sits-did}
+use Rattle.delivery.proofs.Deeds.{answerFor, Stands, Did, sits-did, Hush, nibblesFor}
 use Rattle.delivery.proofs.EveryRound.{in-frame-nibble, in-frame-low}
 use Rattle.delivery.proofs.Frame.{control, own-kept}
 use Rattle.delivery.proofs.Lists.{all-map, all-zip, all-becomes, one-all}
 use Rattle.delivery.proofs.Listening.{hearing as lines, one-seen, talk-nibble, sits-step}
 use Rattle.delivery.proofs.Part.{speaks}
-use Rattle.delivery.proofs.Spoken.{count, hearing, HeardOf, Spoken, goes-on, is-done, Speech, talk-spoken, only}
-use Rattle.delivery.proofs.Story.{DidAt, TellsBy, TellsAt, Still, Acted, listening-so, laterOf, acts-now, did-now, tells-now, not-answering, answers-at, stands-has, step-in}
+use Rattle.delivery.proofs.Spoken.{count, hearing, HeardOf, Spoken, goes-on, is-done, Speech, talk-spoken, only, took-no, spoke-no, settled-first}
+use Rattle.delivery.proofs.Story.{DidAt, TellsBy, TellsAt, Still, Acted, listening-so, laterOf, acts-now, did-now, tells-now, not-answering, answers-at, stands-has, step-in, deeds-now}
 use Rattle.answer.specs.declared.Response.the-variants.{Complete as Whole}
-use Rattle.controller.specs.Controller.{eventAfter}
-use Rattle.inside.specs.Inside.{dataIn}
 use Rattle.reply.specs.Reply.{isSilent, replyStatus}
 use Rattle.turn.specs.Turn.{eventOf}
 use Rattle.whole.specs.Back.{received}
 use Rattle.delivery.specs.Demand2.{unit, actsOf, endBy, codesOf, Ended}
 use Rattle.delivery.proofs.Stages.{addressed, Finishes, movedIn, Spoke, spoke as spoke-it, answerData}
 use Rattle.delivery.proofs.Completed.{codes-after, all-codes, one-codes, one-both, one-zip, has-one, hush-hushes, hush-part, spoken-has, spoken-part}
-use Rattle.delivery.proofs.Deeds.{Hush}
 use Rattle.delivery.proofs.Listening.{Seen}
-use Rattle.delivery.proofs.Spoken.{took-no, spoke-no, settled-first}
-use Rattle.delivery.specs.Log.{sent, took, spoke, done}
-use Rattle.delivery.proofs.Promised.{Promised}
-use Rattle.frame.specs.declared.Stage.the-variants.{Resting}
-use Rattle.inside.specs.Inside.{replyFor}
-use lib.ListN.{drop}
-use mathlib.Core.List.{append-assoc}
-use mathlib.Core.List.{map}
-use Rattle.delivery.proofs.Story.{deeds-now}
-use Rattle.delivery.proofs.Deeds.{nibblesFor}
 use Rattle.frame.specs.declared.Moved.{Moved}
 use Rattle.delivery.specs.Calls.{inFrame}
 

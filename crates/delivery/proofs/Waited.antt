@@ -2,12 +2,12 @@
 use Prim.Native.Nat.{ℕ, _+_}
 use mathlib.Core.Path.{_≡_, refl, sym, _∙_, ap, subst}
 use mathlib.Core.Bool.{Bool, true, false, cond}
-use mathlib.Core.List.{List, [], _∷_, _++_, append-nil}
+use mathlib.Core.List.{List, [], _∷_, _++_, append-nil, map}
 use Rattle.bus.specs.declared.Station.{Station}
-use Rattle.controller.specs.Controller.{eventIn}
+use Rattle.controller.specs.Controller.{eventIn, eventAfter}
 use Rattle.controller.specs.declared.Controller.{Controller}
 use Rattle.frame.specs.Frame.{dataOf, isSubmitted, over}
-use Rattle.frame.specs.declared.Stage.the-variants.{Listening}
+use Rattle.frame.specs.declared.Stage.the-variants.{Listening, Resting}
 use Rattle.header.specs.declared.Command.{Command}
 use Rattle.inside.specs.Inside.{insideOf}
 use Rattle.line.specs.Line.{hearOf}
@@ -15,30 +15,20 @@ use Rattle.line.specs.declared.Lines.{Lines}
 use Rattle.phase.specs.declared.Phase.{Phase}
 use Rattle.ring.specs.declared.Ring.{Ring}
 use Rattle.delivery.specs.Lists.{All, here, there}
-use Rattle.delivery.specs.Log.{Act, heard, told, acts, endedBy, Capture, actsIn, deedsIn}
+use Rattle.delivery.specs.Log.{Act, heard, told, acts, endedBy, Capture, actsIn, deedsIn, sent}
 use Rattle.delivery.proofs.Promised.{Moment}
-use Rattle.delivery.proofs.Stages.{Sits, Sound, InFrame, isResponding, Framed, world}
+use Rattle.delivery.proofs.Stages.{Sits, Sound, InFrame, isResponding, Framed, world, Finishes, movedIn, waits, Hushed}
 use Rattle.delivery.specs.World.{World, Busy, levels, round, Different}
-use Rattle.delivery.proofs.Deeds.{Did, sits-did}
+use Rattle.delivery.proofs.Deeds.{Did, sits-did, Hush, nibblesFor}
 use Rattle.delivery.proofs.EveryRound.{in-frame-nibble, in-frame-low}
 use Rattle.delivery.proofs.Frame.{control, own-kept}
 use Rattle.delivery.proofs.Lists.{all-map, all-zip, all-becomes}
 use Rattle.delivery.proofs.Story.{DidAt, Acted, listening-so, laterOf, acts-now, did-now, not-answering, step-in}
-use Rattle.controller.specs.Controller.{eventAfter}
 use Rattle.turn.specs.Turn.{eventOf}
-use Rattle.delivery.specs.Demand2.{unit, endBy, codesOf, Ended}
-use Rattle.delivery.proofs.Stages.{Finishes, movedIn}
+use Rattle.delivery.specs.Demand2.{unit, endBy, codesOf, Ended, nobody}
 use Rattle.delivery.proofs.Completed.{all-codes, hush-hushes, hush-part}
-use Rattle.delivery.proofs.Deeds.{Hush}
-use Rattle.delivery.specs.Log.{sent}
-use Rattle.frame.specs.declared.Stage.the-variants.{Resting}
-use mathlib.Core.List.{map}
-use Rattle.delivery.proofs.Deeds.{nibblesFor}
 use Rattle.frame.specs.declared.Moved.{Moved}
 use Rattle.answer.specs.Answer.{nothingTaken}
-use Rattle.delivery.specs.Demand2.{nobody}
-use Rattle.delivery.proofs.Stages.{waits, Hushed}
-use Rattle.delivery.specs.Log.{acts}
 use Rattle.delivery.proofs.Listening.{still-hsk, units-sit}
 use Rattle.delivery.proofs.Listened.{listening-next}
 use Rattle.line.specs.declared.Listener.the-variants.{Ready}

@@ -58,11 +58,12 @@ use Rattle.turn.specs.declared.Event.{Event}
 use Rattle.turn.specs.declared.Event.the-variants.{Nothing, Ended, Handed}
 use Rattle.whole.specs.Whole.{storedOf}
 use Rattle.polling.specs.Chain.{HasCode, Requests, Harmless, Calm, now, earlier, HandedIn, Chain}
-use Rattle.polling.specs.BusMoves.{moveOf, movesOf, toldIn}
+use Rattle.polling.specs.BusMoves.{moveOf, movesOf}
+use Rattle.delivery.specs.Log.{toldIn}
 use Rattle.polling.specs.History.{isPending, since, isHanded, settles}
 use Rattle.polling.specs.Moves.{Move, submits, acknowledges, after, begins as beginsIn, services, isBegun, Without, ahead, eventOf}
 use Rattle.polling.proofs.History.{Ok, ok-after, ok-since, front-mark, agrees-mark}
-use Rattle.polling.proofs.OnTheBus.{made, has-round, has-called, has-lent, run-coded, runs-it, RunsOne, runs-one, frame-running, isFrame, addressed-own, frame-told, frame-held, spoken, said-by, said-handed, took-fit, hushed-none}
+use Rattle.polling.proofs.OnTheBus.{told-move, made, has-round, has-called, has-lent, run-coded, runs-it, RunsOne, runs-one, frame-running, isFrame, addressed-own, frame-told, frame-held, spoken, said-by, said-handed, took-fit, hushed-none}
 use Rattle.polling.proofs.Turns.{Placed, no-service, one-nearer, in-front, placed, none-counted, one-counted}
 use Rattle.polling.proofs.Places.{Found}
 use Rattle.polling.proofs.Does.{held as heldBy, still as none-begins, and-false}
@@ -396,7 +397,7 @@ module _ (w v : World) (own : ℕ) (q : QuietStart w) (r : Run w v) where
         there′ = has-round own (levels x) (busy .there) has
 
         ok′ : Ok own false (after c m)
-        ok′ = clear-on c m quiet ok
+        ok′ = clear-on c m (ap (isHanded own) (told-move w x q (further r more) busy) ∙ quiet) ok
 
         by : Placed own c m → Stand (a-round more busy)
         by (no-service b near f) = let n = counts in let z : services c (m ∷ []) ≡ 0 = none-counted c m [] b in waits-on there′ next f ok′ (omega arith)

@@ -8,7 +8,7 @@ use borrow.Author.Tests.{ne-eqb, eqb-true}
 use lib.Dec.{eqb}
 use lib.ListN.{getD}
 use Rattle.controller.specs.Calls.{stepping}
-use Rattle.controller.specs.Controller.{isIdle, service, controllerStep, eventIn, eventAfter}
+use Rattle.controller.specs.Controller.{isIdle, service, controllerStep, eventIn, eventAfter, newController}
 use Rattle.controller.specs.declared.Controller.{Controller}
 use Rattle.frame.specs.Frame.{pollOf, nullFrame}
 use Rattle.frame.specs.declared.Frame.{Frame}
@@ -29,7 +29,6 @@ use Rattle.polling.specs.History.{since}
 use Rattle.polling.specs.Moves.{Move, steps, after, afterAll, isBegun, told, eventOf}
 use Rattle.delivery.specs.Calls.{running}
 use Rattle.polling.proofs.Does.{isPoll, held, Onward, same-frame, no-more, Does, keeps, accepts, serves, frame-ends, clears, does}
-use Rattle.controller.specs.Controller.{newController}
 
 -- An idle stage is free, so nothing that is lent can be refused.
 pub free : (stage : Stage) → isIdle stage ≡ true → stage ≡ Free

@@ -20,8 +20,8 @@ use Rattle.delivery.specs.Run.{QuietStart, Run, start, a-round, a-call}
 use Rattle.delivery.proofs.Rounds.{Took, takes-it, took-it}
 use Rattle.delivery.specs.Lists.{All, none, also, One, this, that, Has, here, there}
 use Rattle.delivery.proofs.Promised.{Moment}
-use Rattle.delivery.proofs.Stages.{On, rests, submitted, ended, runs, InFrame, on, Spoke, spoke, Hushed, not-its-own, by-the-rule, addressed, movedIn, Sound, Sits, answerData, begins, sends, hears, waits, AtRest, is-free, is-resting}
-use Rattle.delivery.specs.World.{World, Busy, levels, round}
+use Rattle.delivery.proofs.Stages.{On, rests, submitted, ended, runs, InFrame, Spoke, spoke, Hushed, not-its-own, by-the-rule, addressed, movedIn, Sound, Sits, answerData, begins, sends, hears, waits, AtRest, is-free, is-resting}
+use Rattle.delivery.specs.World.{World, Busy, levels}
 use Rattle.delivery.proofs.EveryRound.{on-nibble, every-run, every-step, on-sound}
 use Rattle.delivery.proofs.Lists.{all-map, all-step}
 use Rattle.delivery.proofs.Frame.{own-kept, becomes-all}
@@ -55,9 +55,10 @@ use Rattle.frame.specs.Frame.{pullsOf as framePulls}
 use Rattle.line.specs.Line.{wired}
 use Rattle.unit.specs.Unit.{pullsOf}
 use Rattle.polling.specs.Beyond.{BusStarts}
-use Rattle.polling.specs.BusMoves.{moveOf, callOf, movesOf, toldIn}
+use Rattle.polling.specs.BusMoves.{moveOf, callOf, movesOf}
+use Rattle.delivery.specs.Log.{toldIn}
 use Rattle.polling.specs.History.{since}
-use Rattle.polling.specs.Moves.{Move, after, afterAll, told}
+use Rattle.polling.specs.Moves.{Move, after, afterAll, told, eventOf}
 use Rattle.polling.proofs.Does.{held, firstOf}
 use Rattle.polling.proofs.Handing.{starts}
 
@@ -142,12 +143,12 @@ told-is c seen busy lent response e g = by (ltb 15 (seen .nibble)) (lentAt (c .s
     by false Data x = absurd (false≢true (ap isGiven x))
     by false Buffer x = absurd (false≢true (ap isGiven x))
 
-told-in : (w v : World) → QuietStart w → (r : Run w v) (busy : Busy) → toldIn v busy ≡ eventIn (v .controller) (levels v) (busy .here) (v .lent)
-told-in w v q r busy = let e = every-step w v q r (busy .here) .0 in told-is (v .controller) (levels v) (busy .here) (v .lent) (v .response) (e .0) (e .1)
+pub told-move : (w v : World) → QuietStart w → (r : Run w v) (busy : Busy) → eventOf (v .controller) (moveOf v busy) ≡ toldIn v busy
+told-move w v q r busy = let e = every-step w v q r (busy .here) .0 in told-is (v .controller) (levels v) (busy .here) (v .lent) (v .response) (e .0) (e .1)
 
 pub frame-told : (w v : World) → QuietStart w → (r : Run w v) (busy : Busy) {T : Moment} {f : Frame} {found : List ℕ} → InFrame T f found v → (x : Response) → movedIn v busy ≡ over f x → toldIn v busy ≡ frameEvent f (statusOf x) (countOf x)
 frame-told w v q r busy i x m =
-    told-in w v q r busy ∙ ap (λ (t : Bool). cond t Nothing (eventAfter (movedIn v busy .end))) (frame-busy i) ∙ ap (λ (y : Moved). eventAfter (y .end)) m
+    ap (λ (t : Bool). cond t Nothing (eventAfter (movedIn v busy .end))) (frame-busy i) ∙ ap (λ (y : Moved). eventAfter (y .end)) m
 
 -- Which unit spoke, and what it said.
 pub addressed-own : (c : Command) (own : ℕ) → (c .device ≡ 0 → ⊥) → addressed c own ≡ true → own ≡ c .device

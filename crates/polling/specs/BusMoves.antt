@@ -4,8 +4,7 @@ use lib.ListN.{length}
 use Rattle.delivery.specs.Calls.{Call, host, submits as submitsTo, acknowledges as acknowledgesTo, lends, lendsUnit}
 use Rattle.delivery.specs.Run.{Run, start, a-round, a-call}
 use Rattle.delivery.specs.World.{World, Busy, levels}
-use Rattle.turn.specs.declared.Event.{Event}
-use Rattle.polling.specs.Moves.{Move, steps, submits, acknowledges, eventOf}
+use Rattle.polling.specs.Moves.{Move, steps, submits, acknowledges}
 
 abbrev pub moveOf : World → Busy → Move
 moveOf v busy = steps (levels v) (busy .here) (v .lent) (v .response)
@@ -22,7 +21,3 @@ abbrev pub movesOf : {w v : World} → Run w v → List Move → List Move
 movesOf start ms = ms
 movesOf (a-round {v = v} r busy) ms = movesOf r (moveOf v busy ∷ ms)
 movesOf (a-call r call) ms = movesOf r (callOf call ms)
-
--- What a round tells the application.
-abbrev pub toldIn : World → Busy → Event
-toldIn v busy = eventOf (v .controller) (moveOf v busy)

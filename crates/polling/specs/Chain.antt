@@ -15,7 +15,8 @@ use Rattle.frame.specs.declared.Frame.{Frame}
 use Rattle.inside.specs.Inside.{insideOf, hasRequest}
 use Rattle.ring.specs.Ring.{live, isMarked}
 use Rattle.turn.specs.declared.Event.the-variants.{Handed}
-use Rattle.polling.specs.BusMoves.{movesOf, toldIn}
+use Rattle.polling.specs.BusMoves.{movesOf}
+use Rattle.delivery.specs.Log.{toldIn}
 use Rattle.polling.specs.Moves.{services, ahead, inRing, isFor}
 
 -- The unit with this code is on the bus, and holds a request.

@@ -19,7 +19,8 @@ use Rattle.frame.specs.Frame.{pollOf}
 use Rattle.frame.specs.declared.Frame.{Frame}
 use Rattle.turn.specs.declared.Event.{Event}
 use Rattle.turn.specs.declared.Event.the-variants.{Nothing, Ended, Handed}
-use Rattle.polling.specs.BusMoves.{moveOf, movesOf, toldIn}
+use Rattle.polling.specs.BusMoves.{moveOf, movesOf}
+use Rattle.delivery.specs.Log.{toldIn}
 use Rattle.polling.specs.Moves.{begins, services, ahead, inRing}
 
 -- Both are opened and enabled; then the second raises.

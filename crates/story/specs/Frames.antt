@@ -14,7 +14,7 @@ use Rattle.frame.specs.declared.Stage.the-variants.{Free, Resting, Waiting, Sen
 use Rattle.kind.specs.Kinds.{kindOf}
 use Rattle.queue.specs.declared.Queue.{Queue}
 use Rattle.queue.specs.Queue.{emptyQueue}
-use Rattle.ring.specs.Ring.{entryOf}
+use Rattle.ring.specs.Ring.{entryOf, live}
 use Rattle.serial.specs.Serial.{newSerial, withOpening, withService, withRequest, withInput, withOutput}
 use Rattle.serial.specs.declared.Mode.the-variants.{Update}
 use Rattle.serial.specs.declared.Opening.the-variants.{OpenFor}
@@ -22,7 +22,6 @@ use mathlib.Core.Path.{_≡_}
 use Rattle.delivery.specs.Run.{QuietStart, Run}
 use Rattle.header.specs.Header.{InRange}
 use Rattle.bus.specs.declared.Station.{Station}
-use Rattle.ring.specs.Ring.{live}
 use Rattle.ring.specs.declared.Entry.{Entry}
 use Rattle.serial.specs.declared.Serial.{Serial}
 use Rattle.header.specs.declared.Command.{Command}
