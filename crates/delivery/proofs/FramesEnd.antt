@@ -2,7 +2,7 @@
 use Prim.Native.Nat.{ℕ, zero, suc, _+_, _-_, _<_, _≤_}
 use native.Mathlib.Nat.{not-suc-le-zero}
 use native.Mathlib.Omega.{arith}
-use mathlib.Core.Path.{_≡_, refl, sym, _∙_, ap, subst}
+use mathlib.Core.Path.{_≡_, refl, sym, _∙_, ap}
 use mathlib.Core.Bool.{Bool, true, false, cond, not, _&&_, false≢true, and-false}
 use mathlib.Core.List.{List, [], _∷_}
 use Rattle.answer.specs.Answer.{nothingTaken}
@@ -19,7 +19,7 @@ use Rattle.delivery.specs.Run.{Run, start, a-round, a-call}
 use Rattle.delivery.specs.Ends.{left, unitsFree, isFree, quietly, Falls, Nearer}
 use Rattle.delivery.specs.FramesEnd.{longest, Staying, freeRounds, FramesEnd, Ends, has-ended, next-free, FramesEndInTime, EndsQuietly, quiet-ended, next-quiet, QuietlyFree, FramesEndQuietly}
 use Rattle.delivery.proofs.Promised.{Moment}
-use Rattle.delivery.proofs.Stages.{InFrame, begins, sends, hears, waits, Goes, on, answered, unanswered, Finishes, movedIn, On, rests, submitted, ended, runs, is-free, is-resting}
+use Rattle.delivery.proofs.Stages.{InFrame, begins, sends, hears, waits, Goes, on, answered, unanswered, Finishes, movedIn, On}
 use Rattle.delivery.specs.World.{World, Busy, levels, round}
 use Rattle.delivery.proofs.EveryRound.{wider-frame, every-run}
 use Rattle.delivery.proofs.Frame.{frame-round, one-bound, sits-left}
@@ -27,6 +27,7 @@ use Rattle.delivery.proofs.Left.{left-called}
 use Rattle.delivery.proofs.Listening.{one-known}
 use Rattle.delivery.proofs.Rest.{spoke-moved}
 use Rattle.delivery.proofs.Run.{in-frame-called, frame-runs}
+use Rattle.delivery.proofs.Running.{RunsOne, runs-one, runs-it}
 use Rattle.delivery.proofs.Talk.{place-most}
 
 -- Where nothing is asked of the moments.
@@ -79,36 +80,17 @@ at-most f found w (hears ear taken quiet {timeout = timeout} framed d l o) = one
 at-most f found w (waits quiet {timeout = timeout} framed d a why) = let k = sits-left (levels w .hsk) (timeout - quiet) a in omega arith
 
 -- The frame that a run is in.
-record Runs (f : Frame) (v : World) : Type 0 where
-  found : List ℕ
-  frame : InFrame Any f found v
-
-abbrev first : Frame → List Frame → Frame
-first f [] = f
-first f (g ∷ gs) = g
-
-named : {T : Moment} {f : Frame} {found : List ℕ} {v : World} → InFrame T f found v → running (v .controller .stage) ≡ f ∷ []
-named (begins framed d a) = refl
-named (sends i sender framed d s l a) = refl
-named (hears ear taken quiet framed d l o) = refl
-named (waits quiet framed d a why) = refl
-
-nobody-runs : {f : Frame} → _≡_ {A = List Frame} [] (f ∷ []) → ⊥
-nobody-runs e = false≢true (ap isThere e)
+runs-in : {T : Moment} (f : Frame) {v : World} → On T v → running (v .controller .stage) ≡ f ∷ [] → RunsOne Any v f
+runs-in f place e = by (runs-it f place e)
   where
-    isThere : List Frame → Bool
-    isThere [] = false
-    isThere (f ∷ fs) = true
-
-runs-in : {T : Moment} {f : Frame} {v : World} → On T v → running (v .controller .stage) ≡ f ∷ [] → Runs f v
-runs-in (rests is-free eight codes d a) e = absurd (nobody-runs e)
-runs-in (rests is-resting eight codes d a) e = absurd (nobody-runs e)
-runs-in (submitted f framed codes d a) e = absurd (nobody-runs e)
-runs-in (ended eight codes d a) e = absurd (nobody-runs e)
-runs-in {f = f} {v = v} (runs g found x codes) e = record { found = found; frame = subst (λ (y : Frame). InFrame Any y found v) (ap (first f) (sym (named x) ∙ e)) (wider-frame (λ own y t. refl) x) }
+    by : {T : Moment} {v : World} → RunsOne T v f → RunsOne Any v f
+    by (runs-one found x) = runs-one found (wider-frame (λ own y t. refl) x)
 
 pub frames-end : FramesEnd
-frames-end w v f q r e = let k = runs-in (every-run w v q r) e in (at-most f (k .found) v (k .frame), λ u more s. stays-in (k .frame) more s .fewer)
+frames-end w v f q r e = by (runs-in f (every-run w v q r) e)
+  where
+    by : RunsOne Any v f → (left v < longest f (v .controller .timeout)) × ((u : World) (more : Run v u) → Staying more → left u + freeRounds more ≤ left v)
+    by (runs-one found x) = (at-most f found v x, λ u more s. stays-in x more s .fewer)
 
 -- So many free rounds are enough.
 ends-in : (n : ℕ) (f : Frame) (found : List ℕ) (w : World) → left w < n → InFrame Any f found w → Ends n w
@@ -127,7 +109,10 @@ in-time : (f : Frame) (found : List ℕ) (v : World) → InFrame Any f found v �
 in-time f found v x = ends-in (longest f (v .controller .timeout)) f found v (at-most f found v x) x
 
 pub frames-end-in-time : FramesEndInTime
-frames-end-in-time w v f q r e = let k = runs-in (every-run w v q r) e in in-time f (k .found) v (k .frame)
+frames-end-in-time w v f q r e = by (runs-in f (every-run w v q r) e)
+  where
+    by : RunsOne Any v f → Ends (longest f (v .controller .timeout)) v
+    by (runs-one found x) = in-time f found v x
 
 -- A round with no host busy is free.
 units-quiet : (ss : List Station) → unitsFree 0 ss ≡ true
@@ -166,4 +151,7 @@ ends-quietly {f = f} {found = found} {w = w} x (next-free {n = n} go) =
     by calls then go (is-over e) = quiet-ended e
 
 pub frames-end-quietly : FramesEndQuietly
-frames-end-quietly w v f q r e = let k = runs-in (every-run w v q r) e in ends-quietly (k .frame) (in-time f (k .found) v (k .frame))
+frames-end-quietly w v f q r e = by (runs-in f (every-run w v q r) e)
+  where
+    by : RunsOne Any v f → EndsQuietly (longest f (v .controller .timeout)) v
+    by (runs-one found x) = ends-quietly x (in-time f found v x)

@@ -4,6 +4,7 @@ pub mod Taking
 pub mod Promised
 pub mod Stages
 pub mod Rounds
+pub mod Running
 pub mod Heard
 pub mod Lines
 pub mod Part

@@ -32,6 +32,7 @@ use Rattle.delivery.proofs.Run.{in-frame-called}
 use Rattle.inside.proofs.Ors.{or-left}
 use Rattle.delivery.proofs.Lists.{has-all, all-map, all-zip, all-step, all-becomes}
 use Rattle.frame.specs.Frame.{pollOf, dataOf, over}
+use Rattle.delivery.proofs.Running.{RunsOne, runs-one, frame-running, isFrame, runs-it}
 use Rattle.frame.specs.declared.Frame.{Frame}
 use Rattle.frame.specs.declared.Stage.{Stage}
 use Rattle.frame.specs.declared.Stage.the-variants.{Free, Resting, Waiting, Sending, Listening}
@@ -63,7 +64,7 @@ use Rattle.delivery.specs.Log.{toldIn}
 use Rattle.polling.specs.History.{isPending, since, isHanded, settles}
 use Rattle.polling.specs.Moves.{Move, submits, acknowledges, after, begins as beginsIn, services, isBegun, Without, ahead, eventOf}
 use Rattle.polling.proofs.History.{Ok, ok-after, ok-since, front-mark, agrees-mark}
-use Rattle.polling.proofs.OnTheBus.{told-move, made, has-round, has-called, has-lent, run-coded, runs-it, RunsOne, runs-one, frame-running, isFrame, addressed-own, frame-told, frame-held, spoken, said-by, said-handed, took-fit, hushed-none}
+use Rattle.polling.proofs.OnTheBus.{told-move, made, has-round, has-called, has-lent, run-coded, addressed-own, frame-told, frame-held, spoken, said-by, said-handed, took-fit, hushed-none}
 use Rattle.polling.proofs.Turns.{Placed, no-service, one-nearer, in-front, placed, none-counted, one-counted}
 use Rattle.polling.proofs.Places.{Found}
 use Rattle.polling.proofs.Does.{held as heldBy, still as none-begins, and-false}

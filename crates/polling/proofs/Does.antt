@@ -15,6 +15,7 @@ use Rattle.controller.specs.Controller.{isIdle, service, controllerMoved, contr
 use Rattle.controller.specs.declared.Controller.{Controller}
 use Rattle.frame.specs.Frame.{submittedFrame, frameStep, lentAt, nextNibble, waited, over, stays, quietAfter, ends, restStep, lastNibble}
 use Rattle.frame.specs.declared.End.the-variants.{NotYet, Over}
+use Rattle.delivery.proofs.Running.{firstOf}
 use Rattle.frame.specs.declared.Frame.{Frame}
 use Rattle.frame.specs.declared.Kind.{Kind}
 use Rattle.frame.specs.declared.Kind.the-variants.{Submitted, Poll, Null}
@@ -238,10 +239,6 @@ begins-idle true b e = refl
 begins-idle false b e = absurd (false≢true e)
 
 -- The first of them, if there is one.
-abbrev pub firstOf : Frame → List Frame → Frame
-firstOf g [] = g
-firstOf g (f ∷ fs) = f
-
 -- A frame that runs stays until its end.
 pub stays-on : (f : Frame) (c : Controller) (ms : List Move) → running (c .stage) ≡ f ∷ [] → Stays f c ms
 stays-on f c [] r = runs r

@@ -11,6 +11,7 @@ use Rattle.application.specs.Calls.{isShutOut}
 use Rattle.controller.specs.Controller.{newController}
 use Rattle.controller.specs.declared.Controller.{Controller}
 use Rattle.frame.specs.Frame.{begun, pollOf, nullFrame, submittedFrame}
+use Rattle.delivery.proofs.Running.{firstOf}
 use Rattle.frame.specs.declared.Frame.{Frame}
 use Rattle.frame.specs.declared.Kind.{Kind}
 use Rattle.frame.specs.declared.Kind.the-variants.{Submitted, Poll, Null}
@@ -28,7 +29,7 @@ use Rattle.polling.specs.Moves.{Move, after, afterAll, inRing, isFor, ev
 use Rattle.polling.specs.Beyond.{EveryTurn, Marks, marksOf, Once}
 use Rattle.polling.specs.Demand3.{Joins, PollNibbles, NullNibbles}
 use Rattle.polling.specs.History.{isHanded, isDone, settles, pending, pendingFrom, since, isPending}
-use Rattle.polling.proofs.Does.{isPoll, held, Unsettled, Onward, same-frame, no-more, Does, keeps, accepts, serves, frame-ends, clears, does, firstOf}
+use Rattle.polling.proofs.Does.{isPoll, held, Unsettled, Onward, same-frame, no-more, Does, keeps, accepts, serves, frame-ends, clears, does}
 use Rattle.polling.proofs.Turns.{short-joined, short-removed, short-marked, short-turned}
 
 -- Marks of a unit's entries, behind each thing that can be done to the ring.

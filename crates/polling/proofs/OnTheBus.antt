@@ -15,12 +15,12 @@ use Rattle.bus.specs.declared.Station.{Station}
 use Rattle.controller.specs.Calls.{stepping, ifLent}
 use Rattle.controller.specs.Controller.{eventIn, eventAfter}
 use Rattle.controller.specs.declared.Controller.{Controller}
-use Rattle.delivery.specs.Calls.{Call, host, submits as submitsTo, acknowledges as acknowledgesTo, lends, lendsUnit, called, calledAt, bufferAt, inFrame, running}
+use Rattle.delivery.specs.Calls.{Call, host, submits as submitsTo, acknowledges as acknowledgesTo, lends, lendsUnit, called, calledAt, bufferAt, inFrame}
 use Rattle.delivery.specs.Run.{QuietStart, Run, start, a-round, a-call}
 use Rattle.delivery.proofs.Rounds.{Took, takes-it, took-it}
 use Rattle.delivery.specs.Lists.{All, none, also, One, this, that, Has, here, there}
 use Rattle.delivery.proofs.Promised.{Moment}
-use Rattle.delivery.proofs.Stages.{On, rests, submitted, ended, runs, InFrame, Spoke, spoke, Hushed, not-its-own, by-the-rule, addressed, movedIn, Sound, Sits, answerData, begins, sends, hears, waits, AtRest, is-free, is-resting}
+use Rattle.delivery.proofs.Stages.{InFrame, Spoke, spoke, Hushed, not-its-own, by-the-rule, addressed, movedIn, Sound, Sits, answerData, begins, sends, hears, waits}
 use Rattle.delivery.specs.World.{World, Busy, levels}
 use Rattle.delivery.proofs.EveryRound.{on-nibble, every-run, every-step, on-sound}
 use Rattle.delivery.proofs.Lists.{all-map, all-step}
@@ -32,7 +32,6 @@ use Rattle.frame.specs.declared.Frame.{Frame}
 use Rattle.frame.specs.declared.Lent.{Lent}
 use Rattle.frame.specs.declared.Lent.the-variants.{Fits, Data, Buffer}
 use Rattle.frame.specs.declared.Moved.{Moved}
-use Rattle.frame.specs.declared.Stage.{Stage}
 use Rattle.header.specs.declared.Command.{Command}
 use Rattle.inside.specs.Calls.{HostCall}
 use Rattle.inside.specs.Inside.{Inside, isServed, hasRequest, replyFor}
@@ -59,7 +58,7 @@ use Rattle.polling.specs.BusMoves.{moveOf, callOf, movesOf}
 use Rattle.delivery.specs.Log.{toldIn}
 use Rattle.polling.specs.History.{since}
 use Rattle.polling.specs.Moves.{Move, after, afterAll, told, eventOf}
-use Rattle.polling.proofs.Does.{held, firstOf}
+use Rattle.polling.proofs.Does.{held}
 use Rattle.polling.proofs.Handing.{starts}
 
 -- The controller of a run is one that was made, after its own calls.
@@ -155,34 +154,11 @@ pub addressed-own : (c : Command) (own : ℕ) → (c .device ≡ 0 → ⊥) → 
 addressed-own c own nonzero e = sym (eqb-true (c .device) own (or-left (eqb (c .device) own) (eqb (c .device) 0) (ne-eqb (c .device) 0 nonzero) e))
 
 -- The frame that runs on a run.
-pub data RunsOne (T : Moment) (v : World) (f : Frame) : Type 0 where
-  runs-one : (found : List ℕ) → InFrame T f found v → RunsOne T v f
-
-pub frame-running : {T : Moment} {f : Frame} {found : List ℕ} {w : World} → InFrame T f found w → running (w .controller .stage) ≡ f ∷ []
-frame-running (begins framed d a) = refl
-frame-running (sends i sender framed d s l a) = refl
-frame-running (hears ear taken quiet framed d l o) = refl
-frame-running (waits quiet framed d a why) = refl
-
 pub frame-held : {T : Moment} {f : Frame} {found : List ℕ} {w : World} → InFrame T f found w → held (w .controller .stage) ≡ f ∷ []
 frame-held (begins framed d a) = refl
 frame-held (sends i sender framed d s l a) = refl
 frame-held (hears ear taken quiet framed d l o) = refl
 frame-held (waits quiet framed d a why) = refl
-
-pub rest-running : {stage : Stage} → AtRest stage → running stage ≡ []
-rest-running is-free = refl
-rest-running is-resting = refl
-
-abbrev pub isFrame : List Frame → Bool
-isFrame [] = false
-isFrame (f ∷ fs) = true
-
-pub runs-it : {T : Moment} {v : World} (f : Frame) → On T v → running (v .controller .stage) ≡ f ∷ [] → RunsOne T v f
-runs-it f (rests r eight codes d a) e = absurd (false≢true (ap isFrame (sym (rest-running r) ∙ e)))
-runs-it f (submitted g framed codes d a) e = absurd (false≢true (ap isFrame e))
-runs-it f (ended eight codes d a) e = absurd (false≢true (ap isFrame e))
-runs-it {T} {v} f (runs g found x codes) e = runs-one found (subst (λ (h : Frame). InFrame T h found v) (ap (firstOf g) (sym (frame-running x) ∙ e)) x)
 
 -- A response that arrived whole, of the poll of a code.
 pub record Said {w v : World} (r : Run w v) (busy : Busy) (own : ℕ) : Type 0 where
