@@ -12,7 +12,7 @@ use Rattle.delivery.specs.Demand2.{deedsOf, Hushes, not-meant as not-mea
 use Rattle.delivery.specs.Lists.{All, none, also, One, this, that, Has, here, there}
 use Rattle.delivery.specs.Log.{Capture, Deed, took, settled, spoke, done, deedsIn}
 use Rattle.delivery.proofs.Stages.{addressed}
-use Rattle.delivery.proofs.Deeds.{nibblesFor, answerFor, Hush, not-meant, by-rule}
+use Rattle.delivery.proofs.Deeds.{has-settled, nibblesFor, answerFor, Hush, not-meant, by-rule}
 use Rattle.delivery.proofs.Frame.{own-kept}
 use Rattle.delivery.proofs.Lists.{all-map, all-zip, has-all}
 
@@ -45,21 +45,17 @@ has-one (that q o) here else = absurd (else q)
 has-one (that q o) (there h) else = has-one o h else
 
 -- A unit that sat out has done its part.
-taken-has : {x : Inside} (xs : List ℕ) (rest : List Deed) → Has (settled x) (map took xs ++ (settled x ∷ rest))
-taken-has [] rest = here
-taken-has (n ∷ xs) rest = there (taken-has xs rest)
-
 module _ (l : Capture) (own : ℕ) where
   pub hush-hushes : Hush (l .frame .command) (l .lent) own (deedsIn own (l .marks)) → Hushes l own
   hush-hushes (not-meant a e) = not-meant-by a
-  hush-hushes (by-rule x a s e) = by-the-rule x (subst (Has (settled x)) (sym e) (taken-has (nibblesFor (l .frame .command) (l .lent)) [])) s
+  hush-hushes (by-rule x a s e) = by-the-rule x (subst (Has (settled x)) (sym e) (has-settled (nibblesFor (l .frame .command) (l .lent)) [])) s
 
   pub hush-part : Inside → Hush (l .frame .command) (l .lent) own (deedsIn own (l .marks)) → (x : Inside) × (deedsIn own (l .marks) ≡ deedsOf l own x)
   hush-part y (not-meant a e) = (y, e ∙ rw a)
   hush-part y (by-rule x a s e) = (x, e ∙ rw (a, s))
 
   pub spoken-has : (x : Inside) (rest : List Deed) → deedsIn own (l .marks) ≡ map took (nibblesFor (l .frame .command) (l .lent)) ++ (settled x ∷ rest) → Has (settled x) (deedsIn own (l .marks))
-  spoken-has x rest e = subst (Has (settled x)) (sym e) (taken-has (nibblesFor (l .frame .command) (l .lent)) rest)
+  spoken-has x rest e = subst (Has (settled x)) (sym e) (has-settled (nibblesFor (l .frame .command) (l .lent)) rest)
 
   pub spoken-part : (x : Inside) → addressed (l .frame .command) own ≡ true → isSilent (replyFor own x (l .frame .command) (l .lent)) ≡ false
       → deedsIn own (l .marks) ≡ map took (nibblesFor (l .frame .command) (l .lent)) ++ (settled x ∷ (map spoke (answerFor (l .frame .command) (l .lent) own x) ++ (done ∷ []))) → deedsIn own (l .marks) ≡ deedsOf l own x

@@ -31,6 +31,7 @@ use Rattle.whole.specs.Back.{responseFor}
 use Rattle.whole.specs.Whole.{bytesFor, Sent}
 use Rattle.whole.proofs.Whole.{length-bytes}
 use Rattle.delivery.proofs.Taking.{Heard, h-none, h-first, h-byte, h-half}
+use Rattle.delivery.specs.Lists.{Has, here, there}
 use Rattle.delivery.specs.Log.{Deed, took, settled, spoke, deedsBy, settledBy}
 use Rattle.delivery.proofs.Stages.{isAnswered, Fresh, idles, selects, addressed, Part, listens, answers, sits}
 use Rattle.delivery.proofs.Frame.{fresh-selects}
@@ -71,6 +72,13 @@ map-append {A} {B} f (x ∷ xs) ys = ap (λ (r : List B). f x ∷ r) (map-append
 pub one-more : {B : Type 0} (f : ℕ → B) (xs : List ℕ) (k n : ℕ) (e : List B) → k < length xs → n ≡ getD xs k 15 → e ≡ map f (take k xs) → e ++ (f n ∷ []) ≡ map f (take (suc k) xs)
 one-more {B} f xs k n e h q z =
     (λ i. z i ++ (f (q i) ∷ [])) ∙ sym (map-append f (take k xs) (getD xs k 15 ∷ [])) ∙ ap (map f) (sym (take-suc xs k 15 h))
+
+pub twice-as-many : (c : Command) (d : List ℕ) → length (nibblesFor c d) ≡ 2 * length (bytesFor c d)
+twice-as-many c d = let n = length-nibbles (bytesFor c d) in omega arith
+
+pub has-settled : {x : Inside} (xs : List ℕ) (rest : List Deed) → Has (settled x) (map took xs ++ (settled x ∷ rest))
+has-settled [] rest = here
+has-settled (n ∷ xs) rest = there (has-settled xs rest)
 
 -- What a unit that listens has taken.
 module _ (c : Command) (d : List ℕ) (own : ℕ) where
@@ -173,9 +181,6 @@ module _ (c : Command) (d : List ℕ) {st st′ : Station} {seen : Lines} {busy 
     abbrev n : ℕ
     n = nibbleIn (bytesFor c d) i
 
-    twice : length (nibblesFor c d) ≡ 2 * length (bytesFor c d)
-    twice = let l = length-nibbles (bytesFor c d) in omega arith
-
     nine : length (bytesFor c d) ≡ 9 + length d
     nine = length-bytes c d
 
@@ -185,7 +190,7 @@ module _ (c : Command) (d : List ℕ) {st st′ : Station} {seen : Lines} {busy 
 
     module _ (h : Heard (bytesFor c d) Ready i (st .unit .phase) (st .buffer)) (low : seen .hsk ≡ true) (nib : seen .nibble ≡ n) (less : i < 2 * length (bytesFor c d)) (q : Did c d own (st .unit .phase) e) where
       taken-one : e ++ (took (seen .nibble) ∷ []) ≡ map took (take (suc i) (nibblesFor c d))
-      taken-one = let t = twice in one-more took (nibblesFor c d) i (seen .nibble) e (omega arith) nib (heard-did c d own h q)
+      taken-one = let t = twice-as-many c d in one-more took (nibblesFor c d) i (seen .nibble) e (omega arith) nib (heard-did c d own h q)
 
       one-new : {after : Phase} → st′ .unit .phase ≡ after → isAnswered after ≡ false → newly ≡ took (seen .nibble) ∷ []
       one-new p a = takes-deeds seen (st′ .unit .phase) (insideOf st) h low (ap isAnswered p ∙ a)
@@ -196,7 +201,7 @@ module _ (c : Command) (d : List ℕ) {st st′ : Station} {seen : Lines} {busy 
           subst (λ (x : Phase). Did c d own x (e ++ newly)) (sym p) (did-heard c d own h′ a (ap (λ (l : List Deed). e ++ l) (one-new p (heard-open h′)) ∙ taken-one))
 
       all-taken : suc i ≡ 2 * length (bytesFor c d) → map took (take (suc i) (nibblesFor c d)) ≡ map took (nibblesFor c d)
-      all-taken l = let t = twice in ap (map took) (take-all (suc i) (nibblesFor c d) (omega arith))
+      all-taken l = let t = twice-as-many c d in ap (map took) (take-all (suc i) (nibblesFor c d) (omega arith))
 
       last : addressed c own ≡ true → suc i ≡ 2 * length (bytesFor c d) → Fixed c d (st .unit .phase) own (insideOf st) seen busy (st .buffer) → Did c d own (st′ .unit .phase) (e ++ newly)
       last a l x =

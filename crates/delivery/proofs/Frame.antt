@@ -141,7 +141,7 @@ nobody-speaks : {seen : Lines} {hosts : ℕ} {ss : List Station} → All (λ (st
     → (st after : Station) → Becomes seen hosts ss st after → isResponding (st .unit .phase) ≡ true → isResponding (after .unit .phase) ≡ true
 nobody-speaks a st after b e = absurd (true≢false (sym e ∙ becomes-all a b))
 
-talk-responds : {T : Moment} {c : Command} {d : List ℕ} {stores : Bool} {found : List ℕ} {ear : Listener} {taken : Response} {quiet : ℕ} {buffer : List ℕ} {st : Station} → Talk T c d stores found ear taken quiet buffer st → isResponding (st .unit .phase) ≡ true
+pub talk-responds : {T : Moment} {c : Command} {d : List ℕ} {stores : Bool} {found : List ℕ} {ear : Listener} {taken : Response} {quiet : ℕ} {buffer : List ℕ} {st : Station} → Talk T c d stores found ear taken quiet buffer st → isResponding (st .unit .phase) ≡ true
 talk-responds (talks r j t sender wait e p fits g b l w z q own) = ap isResponding e
 
 sits-quiet : {st : Station} → Sits st × Sound st → isResponding (st .unit .phase) ≡ false

@@ -25,11 +25,11 @@ use Rattle.unit.specs.Unit.{pullsHsk, pullsNibble}
 use Rattle.delivery.specs.Lists.{All, none, also, One, this, that, Has, here, there}
 use Rattle.delivery.specs.Log.{Act, heard, told, Deed, settled, Mark, acts, deedsBy, endedBy, Capture, actsIn, deedsIn, sent, took, spoke, done}
 use Rattle.delivery.proofs.Promised.{Moment, Promised}
-use Rattle.delivery.proofs.Stages.{Sits, Sound, Talk, talks, InFrame, hears, isResponding, Speaking, Framed, world}
+use Rattle.delivery.proofs.Stages.{Sits, Sound, Talk, InFrame, hears, isResponding, Speaking, Framed, world}
 use Rattle.delivery.specs.World.{World, Busy, levels, round, Becomes, in-front, behind, Different}
 use Rattle.delivery.proofs.Deeds.{answerFor, Stands, Did, sits-did, Hush, nibblesFor}
 use Rattle.delivery.proofs.EveryRound.{in-frame-nibble, in-frame-low}
-use Rattle.delivery.proofs.Frame.{control, own-kept}
+use Rattle.delivery.proofs.Frame.{talk-responds, control, own-kept}
 use Rattle.delivery.proofs.Lists.{all-map, all-zip, all-becomes, one-all}
 use Rattle.delivery.proofs.Listening.{hearing as lines, one-seen, talk-nibble, sits-step}
 use Rattle.delivery.proofs.Part.{speaks}
@@ -77,9 +77,6 @@ spoke-done-no (n ∷ xs) (there h) = spoke-done-no xs h
 pub data Role (T : Moment) (c : Command) (d : List ℕ) (stores : Bool) (found : List ℕ) (ear : Listener) (taken : Response) (quiet : ℕ) (buffer : List ℕ) (seen : Lines) (st : Station) : Type 0 where
   talking : Talk T c d stores found ear taken quiet buffer st → seen .hsk ≡ (listenerHsk ear || pullsHsk (st .unit .phase)) → seen .nibble ≡ pullsNibble (st .unit .phase) → Role T c d stores found ear taken quiet buffer seen st
   sitting : Sits st → Role T c d stores found ear taken quiet buffer seen st
-
-talk-responds : {T : Moment} {c : Command} {d : List ℕ} {stores : Bool} {found : List ℕ} {ear : Listener} {taken : Response} {quiet : ℕ} {buffer : List ℕ} {st : Station} → Talk T c d stores found ear taken quiet buffer st → isResponding (st .unit .phase) ≡ true
-talk-responds (talks r j t sender wait e p fits g b l w z q own) = ap isResponding e
 
 pub all-becoming : (seen : Lines) (hosts : ℕ) (ss : List Station) → All (λ (st : Station). (host : Bool) × (Becomes seen hosts ss st (stationStep st seen host))) ss
 all-becoming seen hosts [] = none

@@ -15,7 +15,6 @@ use Rattle.bus.specs.Bus.{stationStep}
 use Rattle.bus.specs.declared.Station.{Station}
 use Rattle.controller.specs.Controller.{eventIn}
 use Rattle.controller.specs.declared.Controller.{Controller}
-use Rattle.field.proofs.Laws.{length-nibbles}
 use Rattle.frame.specs.Frame.{dataOf, nextNibble, stays, over, lastNibble}
 use Rattle.frame.specs.declared.End.{End}
 use Rattle.frame.specs.declared.End.the-variants.{NotYet, Over}
@@ -24,7 +23,7 @@ use Rattle.frame.specs.declared.Moved.{Moved}
 use Rattle.frame.specs.declared.Stage.{Stage}
 use Rattle.frame.specs.declared.Stage.the-variants.{Free, Resting, Waiting, Sending, Listening}
 use Rattle.header.specs.declared.Command.{Command}
-use Rattle.inside.specs.Inside.{Inside, insideOf}
+use Rattle.inside.specs.Inside.{insideOf}
 use Rattle.line.specs.Line.{sendOf, sentOf, senderNibble}
 use Rattle.line.specs.declared.Lines.{Lines}
 use Rattle.line.specs.declared.Listener.{Listener}
@@ -40,11 +39,11 @@ use Rattle.serial.specs.declared.Reply.the-variants.{Silent}
 use Rattle.whole.specs.Whole.{bytesFor}
 use Rattle.whole.proofs.Whole.{length-bytes}
 use Rattle.delivery.specs.Lists.{All, Has, here, there}
-use Rattle.delivery.specs.Log.{Act, sent, heard, Deed, took, settled, spoke, Mark, acts, deedsBy, unitsMarks, stageMarks, roundMarks, Capture, actsIn, deedsIn}
+use Rattle.delivery.specs.Log.{Act, sent, heard, Deed, settled, spoke, Mark, acts, deedsBy, unitsMarks, stageMarks, roundMarks, Capture, actsIn, deedsIn}
 use Rattle.delivery.proofs.Promised.{Moment, Promised}
 use Rattle.delivery.proofs.Stages.{Fresh, idles, selects, Sound, Sends, s-next, s-placed, s-kept, Part, InFrame, sends, isResponding, spoke, Framed, world}
 use Rattle.delivery.specs.World.{World, Busy, levels, round, Becomes, Different}
-use Rattle.delivery.proofs.Deeds.{nibblesFor, answerFor, Stands, Did, one-more, part-did, fresh-did}
+use Rattle.delivery.proofs.Deeds.{has-settled, twice-as-many, nibblesFor, answerFor, Stands, Did, one-more, part-did, fresh-did}
 use Rattle.delivery.proofs.EveryRound.{in-frame-nibble, in-frame-low, in-frame-different}
 use Rattle.delivery.proofs.Frame.{control, own-kept}
 use Rattle.delivery.proofs.Lines.{hsk-own}
@@ -156,10 +155,6 @@ pub not-over : {stage : Stage} {f : Frame} (r : Response) → stays stage ≡ ov
 not-over r e = false≢true (ap (λ (m : Moved). isEnd (m .end)) e)
 
 -- Both tell the same of the moment in which the answer was fixed.
-has-settled : {x : Inside} (xs : List ℕ) (rest : List Deed) → Has (settled x) (map took xs ++ (settled x ∷ rest))
-has-settled [] rest = here
-has-settled (n ∷ xs) rest = there (has-settled xs rest)
-
 pub stands-has : {c : Command} {d : List ℕ} {own : ℕ} {r : Reply} {j : ℕ} {e : List Deed} (s : Stands c d own r j e) → Has (settled (s .given)) e
 stands-has {c} {d} {own} {r} {j} s = subst (Has (settled (s .given))) (sym (s .deeds)) (has-settled (nibblesFor c d) (map spoke (take j (answerFor c d own (s .given)))))
 
@@ -219,16 +214,13 @@ module _ {T : Moment} (l : Capture) {found : List ℕ} where
     stage-now : round v busy .controller .stage ≡ cond (sentOf sender (seen .hsk)) (nextNibble (l .frame) i) (Sending (l .frame) i (sendOf sender (seen .hsk) (nibbleIn (bytesFor c d) i)) false)
     stage-now = ap (λ (y : Controller). y .stage) (control (v .controller) seen (busy .here) lent found (in-frame-nibble x) (framed .fits) refl)
 
-    twice : length (nibblesFor c d) ≡ 2 * length (bytesFor c d)
-    twice = let n = length-nibbles (bytesFor c d) in omega arith
-
     acts-are : actsIn (laterOf l v busy .marks) ≡ actsIn (l .marks) ++ cond (sentOf sender (seen .hsk)) (sent (senderNibble sender) ∷ []) []
     acts-are = acts-now l v busy different (in-frame-low x) ∙ ap (λ (y : List Act). actsIn (l .marks) ++ y) (sent-acts (sentOf sender (seen .hsk)) (senderNibble sender))
 
     module _ (was : actsIn (l .marks) ≡ map sent (take i (nibblesFor c d))) where
       one-sent : sentOf sender (seen .hsk) ≡ true → actsIn (laterOf l v busy .marks) ≡ map sent (take (suc i) (nibblesFor c d))
       one-sent e =
-          let t = twice in
+          let t = twice-as-many c d in
           acts-are ∙ ap (λ (b : Bool). actsIn (l .marks) ++ cond b (sent (senderNibble sender) ∷ []) []) e
           ∙ one-more sent (nibblesFor c d) i (senderNibble sender) (actsIn (l .marks)) (omega arith) (sends-nibble (seen .hsk) s e) was
 
@@ -262,7 +254,7 @@ module _ {T : Moment} (l : Capture) {found : List ℕ} where
           let m : l .frame .«data_length» ≡ length d = framed .announced in
           let all : lastNibble (l .frame) ≤ i = ltb-false i (lastNibble (l .frame)) f in
           let last : suc i ≡ 2 * length (bytesFor c d) = omega arith in
-          let t = twice in
+          let t = twice-as-many c d in
           let whole : actsIn (laterOf l v busy .marks) ≡ map sent (nibblesFor c d) = one-sent e ∙ ap (map sent) (take-all (suc i) (nibblesFor c d) (omega arith)) in
           listening-so Ready nothingTaken 0 (stage-now ∙ rw (e, f)) (last-tells e last whole) (λ still. whole)
 

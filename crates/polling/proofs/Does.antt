@@ -15,6 +15,7 @@ use Rattle.controller.specs.Controller.{isIdle, service, controllerMoved, contr
 use Rattle.controller.specs.declared.Controller.{Controller}
 use Rattle.frame.specs.Frame.{submittedFrame, frameStep, lentAt, nextNibble, waited, over, stays, quietAfter, ends, restStep, lastNibble}
 use Rattle.frame.specs.declared.End.the-variants.{NotYet, Over}
+use Rattle.delivery.proofs.Ends.{and-left}
 use Rattle.delivery.proofs.Running.{firstOf}
 use Rattle.frame.specs.declared.Frame.{Frame}
 use Rattle.frame.specs.declared.Kind.{Kind}
@@ -234,10 +235,6 @@ does c (steps seen busy lent response) = steps-do c seen busy lent response (ltb
 does c (submits k n room) = submits-do c k n room (isIdle (c .stage)) (ltb 65535 n) (eqb (k .command) 0x0A) (isShutOut k (c .ring)) (ltb room (k .«buffer_length»)) refl refl refl refl refl
 does c (acknowledges code) = acknowledges-do c code (isMarked code (live (c .ring))) refl
 
-begins-idle : (a b : Bool) → (a && b) ≡ true → a ≡ true
-begins-idle true b e = refl
-begins-idle false b e = absurd (false≢true e)
-
 -- The first of them, if there is one.
 -- A frame that runs stays until its end.
 pub stays-on : (f : Frame) (c : Controller) (ms : List Move) → running (c .stage) ≡ f ∷ [] → Stays f c ms
@@ -251,6 +248,6 @@ stays-on f c (m ∷ ms) r = by (does c m) (λ e. stays-on f (after c m) ms e)
     by (keeps ring b v u (same-frame e same)) go = goes-on r (go (same f r))
     by (keeps ring b v u (no-more none e)) go = no-frame none
     by (accepts k n ring b v u out poll st resting) go = no-frame resting
-    by (serves b v u some e) go = no-frame (idle-runs (c .stage) (begins-idle (isIdle (c .stage)) (isBegun (running (after c m .stage))) b))
+    by (serves b v u some e) go = no-frame (idle-runs (c .stage) (and-left (isIdle (c .stage)) (isBegun (running (after c m .stage))) b))
     by (frame-ends g status count q h b v u ring z) go = ends-now status count r (v ∙ ap (λ (x : Frame). frameEvent x status count) (ap (firstOf g) (sym q ∙ r))) (none-runs (after c m .stage) z)
     by (clears code x marked b v u ring st) go = goes-on r (go (ap running st ∙ r))

@@ -37,7 +37,7 @@ use Rattle.inside.specs.Calls.{HostCall}
 use Rattle.inside.specs.Inside.{Inside, isServed, hasRequest, replyFor}
 use Rattle.inside.specs.Lawful.{Fit}
 use Rattle.inside.proofs.Calls.{unit-called}
-use Rattle.inside.proofs.Ors.{or-left, or-first}
+use Rattle.inside.proofs.Ors.{or-left, or-first, or-second}
 use Rattle.inside.proofs.Lawful.{every-lawful}
 use Rattle.kind.specs.Kinds.{kindOf}
 use Rattle.line.specs.declared.Lines.{Lines}
@@ -216,11 +216,7 @@ said-by {r = r} {busy = busy} {own = own} nonzero k = subst (λ (n : ℕ). Took 
 
 -- A request's pull is seen.
 pub asking-low : (l : Lines) {ss : List Station} {st : Station} → Has st ss → st .unit .asking ≡ true → levelsWith l ss .bav ≡ true
-asking-low l {st = st} (here {xs = ss}) e = bav-kept (wired l (pullsOf (st .unit))) ss (or-true (l .bav) (st .unit .asking) e)
-  where
-    or-true : (a b : Bool) → b ≡ true → (a || b) ≡ true
-    or-true true b x = refl
-    or-true false b x = x
+asking-low l {st = st} (here {xs = ss}) e = bav-kept (wired l (pullsOf (st .unit))) ss (or-second (l .bav) (st .unit .asking) e)
 asking-low l (there {y = y} h) e = asking-low (wired l (pullsOf (y .unit))) h e
 
 pub bus-starts : BusStarts
