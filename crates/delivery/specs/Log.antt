@@ -42,8 +42,8 @@ pub data Deed : Type 0 where
   spoke : ℕ → Deed
   done : Deed
 
--- A frame begins, with its data and the response buffer that is lent to it; the controller acts; the unit with a code does; a call of its host; a submission that is
--- accepted.
+-- A frame begins, with its data and the response buffer that it finds; the controller acts; the unit with a code does something; its host
+-- makes a call; a submission is accepted.
 pub data Mark : Type 0 where
   begins : Frame → (lent found : List ℕ) → Mark
   acts : Act → Mark
