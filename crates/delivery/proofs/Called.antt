@@ -15,8 +15,9 @@ use Rattle.inside.proofs.Calls.{unit-called}
 use Rattle.line.specs.declared.Listener.{Listener}
 use Rattle.message.specs.Answer.{Answer, gives, refused, kept}
 use Rattle.phase.specs.declared.Phase.{Phase}
+use Rattle.delivery.specs.Run.{codesOf}
 use Rattle.delivery.specs.Calls.{Call, host, submits, acknowledges, lends, lendsUnit, called, calledAt, bufferAt, withBuffer, inFrame, foundAfter}
-use Rattle.delivery.specs.Demand2.{Answerer, nobody, unit, actsOf, Answers, Hushes, not-meant, by-the-rule, codesOf, Ended}
+use Rattle.delivery.specs.Demand2.{Answerer, nobody, unit, actsOf, Answers, Hushes, not-meant, by-the-rule, Ended}
 use Rattle.delivery.specs.Lists.{All, none, also, Has, Pairs, no-pair, a-pair}
 use Rattle.delivery.specs.Log.{Act, Deed, settled, Mark, submitted, callMarks, submissionMarks, Capture, actsIn, deedsIn}
 use Rattle.delivery.proofs.Promised.{Moment}

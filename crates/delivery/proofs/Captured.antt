@@ -21,8 +21,8 @@ use Rattle.message.specs.Answer.{Answer, gives, refused, kept}
 use Rattle.turn.specs.declared.Event.{Event}
 use lib.ListN.{length}
 use Rattle.delivery.specs.Calls.{Call, host, submits, acknowledges, lends, lendsUnit, called, inFrame}
-use Rattle.delivery.specs.Demand2.{codesOf, Ended}
-use Rattle.delivery.specs.Run.{QuietStart, Run, start, a-round, a-call}
+use Rattle.delivery.specs.Demand2.{Ended}
+use Rattle.delivery.specs.Run.{QuietStart, Run, start, a-round, a-call, codesOf}
 use Rattle.delivery.proofs.Rounds.{Took, takes-it, took-it}
 use Rattle.delivery.specs.Lists.{All, none, also, Has, here, there}
 use Rattle.delivery.specs.Log.{Act, sent, heard, told, acts, settled, Mark, stageMarks, begunBy, endedBy, roundMarks, callMarks, log, Capture, cutAll, framesOf, deedsIn}

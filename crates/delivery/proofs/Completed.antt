@@ -5,16 +5,31 @@ use mathlib.Core.List.{List, [], _∷_, _++_, map}
 use Prim.Native.Nat.{ℕ, _/_}
 use Rattle.bus.specs.Bus.{unitsAfter, isOdd}
 use Rattle.bus.specs.declared.Station.{Station}
+use Rattle.frame.specs.declared.Frame.{Frame}
+use Rattle.frame.specs.declared.Kind.{Kind}
+use Rattle.frame.specs.declared.Kind.the-variants.{Submitted, Poll, Null}
+use Rattle.header.specs.declared.Command.{Command}
 use Rattle.inside.specs.Inside.{Inside, replyFor}
 use Rattle.line.specs.declared.Lines.{Lines}
 use Rattle.reply.specs.Reply.{isSilent}
-use Rattle.delivery.specs.Demand2.{deedsOf, Hushes, not-meant as not-meant-by, by-the-rule, codesOf}
+use Rattle.turn.specs.Turn.{eventBy, eventOf}
+use Rattle.delivery.specs.Run.{codesOf}
+use Rattle.delivery.specs.Demand2.{eventTold, deedsOf, Hushes, not-meant as not-meant-by, by-the-rule}
 use Rattle.delivery.specs.Lists.{All, none, also, One, this, that, Has, here, there}
 use Rattle.delivery.specs.Log.{Capture, Deed, took, settled, spoke, done, deedsIn}
 use Rattle.delivery.proofs.Stages.{addressed}
 use Rattle.delivery.proofs.Deeds.{has-settled, nibblesFor, answerFor, Hush, not-meant, by-rule}
 use Rattle.delivery.proofs.Frame.{own-kept}
 use Rattle.delivery.proofs.Lists.{all-map, all-zip, has-all}
+
+-- The controller tells what the demand says.
+pub tells-so : (f : Frame) (status count : ℕ) → eventOf f status count ≡ eventTold (f .kind) (f .command .device) status count
+tells-so f status count = by (f .kind) (f .command)
+  where
+    by : (k : Kind) (c : Command) → eventBy k c status count ≡ eventTold k (c .device) status count
+    by Submitted c = refl
+    by Poll c = refl
+    by Null c = refl
 
 -- Codes stay as they are.
 pub codes-after : (seen : Lines) (hosts : ℕ) (ss : List Station) → codesOf (unitsAfter seen hosts ss) ≡ codesOf ss

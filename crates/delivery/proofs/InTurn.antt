@@ -31,7 +31,7 @@ use Rattle.ring.specs.declared.Ring.{Ring}
 use Rattle.turn.specs.Turn.{turnOf}
 use Rattle.turn.specs.declared.Event.{Event}
 use Rattle.delivery.specs.Calls.{Call, host, submits, acknowledges, lends, lendsUnit, called}
-use Rattle.delivery.specs.Demand2.{IsService, InTurn}
+use Rattle.delivery.specs.Demand2.{InTurn}
 use Rattle.delivery.specs.Lists.{All, none, also}
 use Rattle.delivery.specs.Log.{Mark, begins, acts, does, asks, submitted, begunBy, stageMarks, roundMarks, submissionMarks, callMarks, log, Due, service, command, dueAll}
 use Rattle.delivery.specs.Run.{QuietStart, Run, start, a-round, a-call}
@@ -65,8 +65,8 @@ plain-serves (does own e) p = p
 plain-serves (asks own call) p = p
 plain-serves (submitted k d response) p = p
 
-serves-is-service : (m : Mark) → Serves m → IsService m
-serves-is-service m s f lent found e = subst Serves e s
+serves-begin : (m : Mark) → Serves m → (f : Frame) (lent found : List ℕ) → m ≡ begins f lent found → isSubmitted (f .kind) ≡ false
+serves-begin m s f lent found e = subst Serves e s
 
 serves-due : {ms : List Mark} → All Serves ms → dueAll service ms ≡ service
 serves-due none = refl
@@ -208,7 +208,7 @@ waits-run w _ q (a-call {v = v} r call) = subst (Waits (called v call)) (sym (du
 
 -- The frame that begins in the next round is the one that is due.
 next-in-turn : {w v : World} → QuietStart w → (r : Run w v) (busy : Busy) {due : Due} → Waits v due → InTurn due (roundMarks v busy)
-next-in-turn {v = v} q r busy (nobody-waits e) = all-map serves-is-service (round-serves v busy e)
+next-in-turn {v = v} q r busy (nobody-waits e) = all-map serves-begin (round-serves v busy e)
 next-in-turn q r busy (it-waits k d response {timeout = timeout} {ring = ring} {units = units}) = begin-marks k d response timeout ring units q r busy
 
 pub in-turn-run : (w v : World) → QuietStart w → (r : Run w v) (busy : Busy) → InTurn (dueAll service (log r)) (roundMarks v busy)

@@ -22,6 +22,7 @@ use Rattle.phase.specs.declared.Phase.{Phase}
 use Rattle.ring.specs.declared.Ring.{Ring}
 use Rattle.serial.specs.declared.Reply.{Reply}
 use Rattle.unit.specs.Unit.{pullsHsk, pullsNibble}
+use Rattle.delivery.specs.Run.{codesOf}
 use Rattle.delivery.specs.Lists.{All, none, also, One, this, that, Has, here, there}
 use Rattle.delivery.specs.Log.{Act, heard, told, Deed, settled, Mark, acts, deedsBy, endedBy, Capture, actsIn, deedsIn, sent, took, spoke, done}
 use Rattle.delivery.proofs.Promised.{Moment, Promised}
@@ -37,11 +38,10 @@ use Rattle.delivery.proofs.Spoken.{count, hearing, HeardOf, Spoken, goe
 use Rattle.delivery.proofs.Story.{DidAt, TellsBy, TellsAt, Still, Acted, listening-so, laterOf, acts-now, did-now, tells-now, not-answering, answers-at, stands-has, step-in, deeds-now}
 use Rattle.answer.specs.declared.Response.the-variants.{Complete as Whole}
 use Rattle.reply.specs.Reply.{isSilent, replyStatus}
-use Rattle.turn.specs.Turn.{eventOf}
 use Rattle.whole.specs.Back.{received}
-use Rattle.delivery.specs.Demand2.{unit, actsOf, endBy, codesOf, Ended}
+use Rattle.delivery.specs.Demand2.{eventTold, unit, actsOf, endBy, Ended}
 use Rattle.delivery.proofs.Stages.{addressed, Finishes, movedIn, Spoke, spoke as spoke-it, answerData}
-use Rattle.delivery.proofs.Completed.{codes-after, all-codes, one-codes, one-both, one-zip, has-one, hush-hushes, hush-part, spoken-has, spoken-part}
+use Rattle.delivery.proofs.Completed.{tells-so, codes-after, all-codes, one-codes, one-both, one-zip, has-one, hush-hushes, hush-part, spoken-has, spoken-part}
 use Rattle.delivery.proofs.Listening.{Seen}
 use Rattle.frame.specs.declared.Moved.{Moved}
 use Rattle.delivery.specs.Calls.{inFrame}
@@ -254,11 +254,12 @@ module _ {T : Moment} (l : Capture) {found : List ℕ} (ear : Listener) (taken :
       spoke-end {own} {y} st r k p m b =
           let same = spoke-data st r k p in
           let stage : round v busy .controller .stage ≡ Resting true = ap (λ (q : Controller). q .stage) fin ∙ ap (λ (q : Moved). q .stage) m in
-          let event : eventIn (v .controller) seen (busy .here) lent ≡ eventOf (l .frame) (replyStatus r) (length (answerData p)) = ap (λ (q : Moved). eventAfter (q .end)) m in
-          let end : told-now ≡ told (eventOf (l .frame) (replyStatus r) (length (answerData p))) (cond (isSubmitted (l .frame .kind)) (answerData p ++ drop (length (answerData p)) (l .found)) []) =
-          (λ i. told (event i) (cond (isSubmitted (l .frame .kind)) (b i) [])) ∙ ap (told (eventOf (l .frame) (replyStatus r) (length (answerData p)))) (buffer-by (isSubmitted (l .frame .kind)) found (answerData p) refl refl) in
-          let its : told (eventOf (l .frame) (replyStatus r) (length (answerData p))) (cond (isSubmitted (l .frame .kind)) (answerData p ++ drop (length (answerData p)) (l .found)) []) ≡ endBy ended (unit own y) =
-          λ i. told (eventOf (l .frame) (replyStatus (same .1 i)) (length (dataIn (same .0 i) (same .1 i)))) (cond (isSubmitted (l .frame .kind)) (dataIn (same .0 i) (same .1 i) ++ drop (length (dataIn (same .0 i) (same .1 i))) (l .found)) []) in
+          let event : eventIn (v .controller) seen (busy .here) lent ≡ eventTold (l .frame .kind) (l .frame .command .device) (replyStatus r) (length (answerData p)) =
+          ap (λ (q : Moved). eventAfter (q .end)) m ∙ tells-so (l .frame) (replyStatus r) (length (answerData p)) in
+          let end : told-now ≡ told (eventTold (l .frame .kind) (l .frame .command .device) (replyStatus r) (length (answerData p))) (cond (isSubmitted (l .frame .kind)) (answerData p ++ drop (length (answerData p)) (l .found)) []) =
+          (λ i. told (event i) (cond (isSubmitted (l .frame .kind)) (b i) [])) ∙ ap (told (eventTold (l .frame .kind) (l .frame .command .device) (replyStatus r) (length (answerData p)))) (buffer-by (isSubmitted (l .frame .kind)) found (answerData p) refl refl) in
+          let its : told (eventTold (l .frame .kind) (l .frame .command .device) (replyStatus r) (length (answerData p))) (cond (isSubmitted (l .frame .kind)) (answerData p ++ drop (length (answerData p)) (l .found)) []) ≡ endBy ended (unit own y) =
+          λ i. told (eventTold (l .frame .kind) (l .frame .command .device) (replyStatus (same .1 i)) (length (dataIn (same .0 i) (same .1 i)))) (cond (isSubmitted (l .frame .kind)) (dataIn (same .0 i) (same .1 i) ++ drop (length (dataIn (same .0 i) (same .1 i))) (l .found)) []) in
           let heards : actsIn (l .marks) ++ hearing ear seen ≡ map sent (nibblesFor c d) ++ map heard (answerFor c d own y) = k .heards ∙ ap (λ (n : ℕ). map sent (nibblesFor c d) ++ map heard (answerFor c d n y)) (k .code) in
           frame-acts
           ∙ (λ i. actsIn (l .marks) ++ (hearing ear seen ++ actsIn (endedBy (stage i) ((end ∙ its) i))))

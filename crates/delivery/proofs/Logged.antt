@@ -29,8 +29,9 @@ use Rattle.phase.specs.declared.Phase.{Phase}
 use Rattle.phase.specs.declared.Phase.the-variants.{Idle, Selecting, Receiving, Responding, SittingOut}
 use Rattle.phase.specs.declared.Progress.the-variants.{Taking, Answered}
 use Rattle.reply.specs.Reply.{lastNibble}
+use Rattle.delivery.specs.Run.{codesOf}
 use Rattle.delivery.specs.Calls.{inFrame}
-use Rattle.delivery.specs.Demand2.{codesOf, Ended}
+use Rattle.delivery.specs.Demand2.{Ended}
 use Rattle.delivery.specs.Lists.{All, also, One, this, that, Has, here, there}
 use Rattle.delivery.specs.Log.{sent, took, settled, settledBy, deedsBy, Capture, actsIn, deedsIn}
 use Rattle.delivery.proofs.Promised.{Moment}

@@ -22,7 +22,8 @@ use Rattle.reply.specs.Reply.{isSilent}
 use Rattle.serial.specs.declared.Reply.{Reply}
 use Rattle.whole.specs.Whole.{bytesFor}
 use Rattle.whole.proofs.Whole.{length-bytes}
-use Rattle.delivery.specs.Demand2.{message, isAddressed, replyTo, response, deedsOf, answerOf, nobody, unit, endBy, Hushes, Speaks, Ended, Part, Underway, Delivered, all-ended, one-runs, codesOf}
+use Rattle.delivery.specs.Run.{codesOf}
+use Rattle.delivery.specs.Demand2.{message, isAddressed, replyTo, response, deedsOf, answerOf, nobody, unit, endBy, Hushes, Speaks, Ended, Part, Underway, Delivered, all-ended, one-runs}
 use Rattle.delivery.specs.Calls.{inFrame}
 use Rattle.delivery.specs.Lists.{All, also, One, this, that, Front}
 use Rattle.delivery.specs.Log.{Act, sent, heard, Deed, took, settled, spoke, done, Capture, actsIn, deedsIn}

@@ -14,6 +14,7 @@ use Rattle.line.specs.Line.{hearOf}
 use Rattle.line.specs.declared.Lines.{Lines}
 use Rattle.phase.specs.declared.Phase.{Phase}
 use Rattle.ring.specs.declared.Ring.{Ring}
+use Rattle.delivery.specs.Run.{codesOf}
 use Rattle.delivery.specs.Lists.{All, here, there}
 use Rattle.delivery.specs.Log.{Act, heard, told, acts, endedBy, Capture, actsIn, deedsIn, sent}
 use Rattle.delivery.proofs.Promised.{Moment}
@@ -24,9 +25,8 @@ use Rattle.delivery.proofs.EveryRound.{in-frame-nibble, in-frame-low}
 use Rattle.delivery.proofs.Frame.{control, own-kept}
 use Rattle.delivery.proofs.Lists.{all-map, all-zip, all-becomes}
 use Rattle.delivery.proofs.Story.{DidAt, Acted, listening-so, laterOf, acts-now, did-now, not-answering, step-in}
-use Rattle.turn.specs.Turn.{eventOf}
-use Rattle.delivery.specs.Demand2.{unit, endBy, codesOf, Ended, nobody}
-use Rattle.delivery.proofs.Completed.{all-codes, hush-hushes, hush-part}
+use Rattle.delivery.specs.Demand2.{eventTold, unit, endBy, Ended, nobody}
+use Rattle.delivery.proofs.Completed.{tells-so, all-codes, hush-hushes, hush-part}
 use Rattle.frame.specs.declared.Moved.{Moved}
 use Rattle.answer.specs.Answer.{nothingTaken}
 use Rattle.delivery.proofs.Listening.{still-hsk, units-sit}
@@ -86,8 +86,8 @@ module _ {T : Moment} (l : Capture) {found : List ℕ} (quiet timeout : ℕ) (ri
   pub waits-complete : (isSubmitted (l .frame .kind) ≡ true → found ≡ l .found) → Finishes v busy → movedIn v busy ≡ over (l .frame) nothingTaken → round v busy .response ≡ found → Ended (codesOf (round v busy .units)) ended
   waits-complete kept fin m b =
       let stage : round v busy .controller .stage ≡ Resting true = ap (λ (q : Controller). q .stage) fin ∙ ap (λ (q : Moved). q .stage) m in
-      let event : eventIn (v .controller) seen (busy .here) lent ≡ eventOf (l .frame) 0xFF 0 = ap (λ (q : Moved). eventAfter (q .end)) m in
-      let end : told-now ≡ endBy ended nobody = (λ i. told (event i) (cond (isSubmitted (l .frame .kind)) (b i) [])) ∙ ap (told (eventOf (l .frame) 0xFF 0)) (buffer-by (isSubmitted (l .frame .kind)) refl) in
+      let event : eventIn (v .controller) seen (busy .here) lent ≡ eventTold (l .frame .kind) (l .frame .command .device) 0xFF 0 = ap (λ (q : Moved). eventAfter (q .end)) m ∙ tells-so (l .frame) 0xFF 0 in
+      let end : told-now ≡ endBy ended nobody = (λ i. told (event i) (cond (isSubmitted (l .frame .kind)) (b i) [])) ∙ ap (told (eventTold (l .frame .kind) (l .frame .command .device) 0xFF 0)) (buffer-by (isSubmitted (l .frame .kind)) refl) in
       record {
         answerer = nobody;
         acted = waits-acts ∙ (λ i. so-far i ++ actsIn (endedBy (stage i) (end i)));

@@ -10,19 +10,20 @@ use lib.Dec.{eqb}
 use lib.ListN.{length, take, drop}
 use Rattle.bus.specs.declared.Station.{Station}
 use Rattle.field.specs.Field.{nibbles}
-use Rattle.frame.specs.Frame.{isSubmitted, submittedFrame}
+use Rattle.frame.specs.Frame.{isSubmitted}
 use Rattle.frame.specs.declared.Frame.{Frame}
+use Rattle.frame.specs.declared.Kind.{Kind}
+use Rattle.frame.specs.declared.Kind.the-variants.{Submitted, Poll, Null}
 use Rattle.inside.specs.Inside.{Inside, insideOf, replyFor, dataIn}
 use Rattle.reply.specs.Reply.{isSilent, replyStatus}
 use Rattle.serial.specs.declared.Reply.{Reply}
-use Rattle.turn.specs.Turn.{eventOf}
 use Rattle.turn.specs.declared.Event.{Event}
-use Rattle.turn.specs.declared.Event.the-variants.{Nothing}
+use Rattle.turn.specs.declared.Event.the-variants.{Nothing, Ended as EndedWith, Handed}
 use Rattle.unit.specs.Unit.{pullsOf}
 use Rattle.whole.specs.Back.{responseFor}
 use Rattle.whole.specs.Whole.{bytesFor}
 use Rattle.delivery.specs.Calls.{inFrame}
-use Rattle.delivery.specs.Run.{QuietStart, Run}
+use Rattle.delivery.specs.Run.{QuietStart, Run, codesOf}
 use Rattle.delivery.specs.Lists.{All, One, Has, Pairs, Front}
 use Rattle.delivery.specs.Following.{wholeOf, followingAll}
 use Rattle.delivery.specs.Log.{Act, sent, heard, told, Deed, took, settled, spoke, done, Mark, begins, acts, toldIn, roundMarks, log, unitsMarks, Capture, framesOf, actsIn, deedsIn, Due, service, command, dueAll}
@@ -42,8 +43,7 @@ replyTo l own x = replyFor own x (l .frame .command) (l .lent)
 abbrev pub response : Capture → ℕ → Inside → List ℕ
 response l own x = nibbles (responseFor (dataIn x (replyTo l own x)) (replyStatus (replyTo l own x)))
 
--- All that this unit does in the frame: it takes each nibble once, and gives its response, or is silent. One that is not addressed takes
--- the device code.
+-- All that it does in the frame: it takes each nibble once, and responds or is silent. A unit that is not addressed takes the device code.
 abbrev pub answerOf : Capture → ℕ → Inside → List Deed
 answerOf l own x = cond (isSilent (replyTo l own x)) [] (map spoke (response l own x) ++ (done ∷ []))
 
@@ -51,7 +51,8 @@ abbrev pub deedsOf : Capture → ℕ → Inside → List Deed
 deedsOf l own x = cond (isAddressed l own) (map took (message l) ++ (settled x ∷ answerOf l own x)) (map took (take 2 (message l)))
 
 -- All that the controller does, by who answers: it sends each nibble once, takes each of the response once, and tells the application
--- status and count, with the data at the front of the response buffer and the rest unchanged; or FF and 0, with the buffer unchanged.
+-- status and count, with the data at the front of the response buffer and the rest unchanged; or FF and 0, with the buffer unchanged. A poll
+-- that ends with 00 hands its code over, and of other service frames nothing is told.
 pub data Answerer : Type 0 where
   nobody : Answerer
   unit : (own : ℕ) → Inside → Answerer
@@ -68,8 +69,13 @@ abbrev pub heardBy : Capture → Answerer → List ℕ
 heardBy l nobody = []
 heardBy l (unit own x) = response l own x
 
+abbrev pub eventTold : Kind → (code status count : ℕ) → Event
+eventTold Submitted code status count = EndedWith status count
+eventTold Poll code status count = cond (eqb status 0x00) (Handed code) Nothing
+eventTold Null code status count = Nothing
+
 abbrev pub endBy : Capture → Answerer → Act
-endBy l a = told (eventOf (l .frame) (statusBy l a) (length (dataBy l a))) (cond (isSubmitted (l .frame .kind)) (dataBy l a ++ drop (length (dataBy l a)) (l .found)) [])
+endBy l a = told (eventTold (l .frame .kind) (l .frame .command .device) (statusBy l a) (length (dataBy l a))) (cond (isSubmitted (l .frame .kind)) (dataBy l a ++ drop (length (dataBy l a)) (l .found)) [])
 
 abbrev pub actsOf : Capture → Answerer → List Act
 actsOf l a = map sent (message l) ++ (map heard (heardBy l a) ++ (endBy l a ∷ []))
@@ -97,8 +103,7 @@ pub record Ended (codes : List ℕ) (l : Capture) : Type 0 where
   pub answers : Answers codes l answerer
   pub parts : All (λ (own : ℕ). (x : Inside) × (deedsIn own (l .marks) ≡ deedsOf l own x)) codes
 
--- A frame that runs: a front of all that, each unit as far as the controller has come. Behind the last nibble of the command it is settled
--- who answers.
+-- A frame that runs: a front of all that, each unit as far as the controller. Behind the last command nibble it is settled who answers.
 pub record Part (l : Capture) (own : ℕ) : Type 0 where
   pub inside : Inside
   pub in-order : Front (deedsIn own (l .marks)) (deedsOf l own inside)
@@ -117,12 +122,9 @@ pub data Delivered (codes : List ℕ) : (runs : Bool) → List Capture → Type 
 
 -- An accepted submission is the next frame that begins, in the next round, with its own command, data and response buffer. Every other
 -- frame is a service frame.
-abbrev pub IsService : Mark → Type 0
-IsService m = (f : Frame) (lent found : List ℕ) → m ≡ begins f lent found → isSubmitted (f .kind) ≡ false
-
 abbrev pub InTurn : Due → List Mark → Type 0
-InTurn service ms = All IsService ms
-InTurn (command k d response) ms = ms ≡ begins (submittedFrame k (length d)) d response ∷ []
+InTurn service ms = All (λ (m : Mark). (f : Frame) (lent found : List ℕ) → m ≡ begins f lent found → isSubmitted (f .kind) ≡ false) ms
+InTurn (command k d response) ms = ms ≡ begins (record { kind = Submitted; command = k; «data_length» = length d }) d response ∷ []
 
 -- A unit pulls a data line only in its response: no other has placed a nibble.
 pub data Places (frames : List Capture) (st : Station) : Type 0 where
@@ -136,9 +138,6 @@ pub data TellsEnds (e : Event) (ms : List Mark) : Type 0 where
 
 -- The demand, for a run, and so for every shorter one, with the next round of it. What is inside each unit changes by its own deeds and its
 -- host's calls alone, and between frames no unit does anything.
-abbrev pub codesOf : List Station → List ℕ
-codesOf ss = map (λ (st : Station). st .unit .own) ss
-
 pub record Demand2 {w v : World} (r : Run w v) : Type 0 where
   pub frames : Delivered (codesOf (v .units)) (inFrame (v .controller .stage)) (framesOf (log r))
   pub in-turn : (busy : Busy) → InTurn (dueAll service (log r)) (roundMarks v busy)

@@ -1,6 +1,7 @@
 -- Demand 2's bus: "a bus run in rounds, from a quiet start, with one controller, different codes and no step refused". The bus itself is in
 -- `World`, the calls in `Calls`.
 use Prim.Native.Nat.{ℕ, _≤_}
+use mathlib.Core.List.{List, map}
 use mathlib.Core.Path.{_≡_}
 use mathlib.Core.Bool.{Bool, false}
 use lib.ListN.{length}
@@ -35,6 +36,9 @@ pub record QuietStart (w : World) : Type 0 where
   pub is-new : w .controller ≡ newController timeout
   pub units : All New (w .units)
   pub codes : Different (w .units)
+
+abbrev pub codesOf : List Station → List ℕ
+codesOf ss = map (λ (st : Station). st .unit .own) ss
 
 -- A run: rounds, with any hosts busy, and calls of any hosts between any two of them, in mid-frame too.
 pub data Run (w : World) : World → Type 0 where

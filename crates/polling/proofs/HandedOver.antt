@@ -7,9 +7,10 @@ use mathlib.Core.List.{List, [], _∷_, _++_, map}
 use borrow.Author.Tests.{eq-eqb}
 use lib.Dec.{eqb}
 use lib.ListN.{length, take}
-use Rattle.delivery.specs.Demand2.{Underway, Answerer, nobody, unit, Answers, Hushes, not-meant, by-the-rule, Speaks, Part, message, isAddressed, replyTo, deedsOf, response, statusBy, dataBy, heardBy, endBy, actsOf}
+use Rattle.delivery.specs.Demand2.{Underway, Answerer, nobody, unit, Answers, Hushes, not-meant, by-the-rule, Speaks, Part, message, isAddressed, replyTo, deedsOf, response, statusBy, dataBy, heardBy, eventTold, endBy, actsOf}
 use Rattle.delivery.specs.Lists.{All, none, also, One, this, that, Has, here, there}
 use Rattle.delivery.specs.Log.{Act, sent, heard, told, Deed, took, settled, spoke, done, Capture, actsIn, deedsIn}
+use Rattle.delivery.proofs.Completed.{tells-so}
 use Rattle.delivery.proofs.Demand2.{demand-2}
 use Rattle.delivery.proofs.Lists.{all-map, all-zip, has-all, has-left}
 use Rattle.delivery.proofs.Logs.{all-append}
@@ -22,7 +23,6 @@ use Rattle.inside.proofs.Lawful.{every-lawful}
 use Rattle.inside.proofs.Ors.{or-first}
 use Rattle.kind.specs.Kinds.{kindOf}
 use Rattle.reply.specs.Reply.{isSilent, replyStatus}
-use Rattle.turn.specs.Turn.{eventOf}
 use Rattle.turn.specs.declared.Event.{Event}
 use Rattle.turn.specs.declared.Event.the-variants.{Handed}
 use Rattle.whole.specs.Whole.{storedOf}
@@ -58,7 +58,7 @@ Told end (heard n) = Unit
 Told end (told e buffer) = e ≡ end
 
 abbrev endOf : Capture → Answerer → Event
-endOf l a = eventOf (l .frame) (statusBy l a) (length (dataBy l a))
+endOf l a = eventTold (l .frame .kind) (l .frame .command .device) (statusBy l a) (length (dataBy l a))
 
 told-once : (l : Capture) (a : Answerer) → All (Told (endOf l a)) (actsOf l a)
 told-once l a = all-append (all-mapped sent (λ n. tt) (message l)) (all-append (all-mapped heard (λ n. tt) (heardBy l a)) (also refl none))
@@ -127,16 +127,16 @@ module _ {codes : List ℕ} {l : Capture} (k : Underway codes l) (s : FrameSays 
           let inside : x ≡ held .inside = settled-in part x (its-own own (held .poll) (at-last .coded) k) ∙ sym (settled-in part (held .inside) (held .takes-last)) in
           let zero : statusBy l (unit speaker x) ≡ 0x00 =
           ap replyStatus (reply-is own (held .poll) speaker x) ∙ held-says-zero speaker own x (settles codes s speaker x (k .inside) .fit) (at-last .coded) (ap hasRequest inside ∙ held .request) in
-          q ∙ (λ i. eventOf (held .poll i) (zero i) (length (dataBy l (unit speaker x))))
+          q ∙ (λ i. eventTold (held .poll i .kind) (held .poll i .command .device) (zero i) (length (dataBy l (unit speaker x))))
 
   -- Handed over: held when polled.
   was-held : (code : ℕ) → Tells l (Handed code) → HeldWhenPolled code l
   was-held code t = by (k .answerer) (ended t .answers) (ended t .event)
     where
       by : (a : Answerer) → Answers codes l a → Handed code ≡ endOf l a → HeldWhenPolled code l
-      by nobody all q = let z = hands-by (l .frame .kind) (l .frame .command) 0xFF 0 code (sym q) .1 .1 in absurd (omega arith)
+      by nobody all q = let z = hands-by (l .frame .kind) (l .frame .command) 0xFF 0 code (tells-so (l .frame) 0xFF 0 ∙ sym q) .1 .1 in absurd (omega arith)
       by (unit speaker x) one q =
-          let h = hands-by (l .frame .kind) (l .frame .command) (statusBy l (unit speaker x)) (length (dataBy l (unit speaker x))) code (sym q) in
+          let h = hands-by (l .frame .kind) (l .frame .command) (statusBy l (unit speaker x)) (length (dataBy l (unit speaker x))) code (tells-so (l .frame) (statusBy l (unit speaker x)) (length (dataBy l (unit speaker x))) ∙ sym q) in
           let poll : l .frame ≡ pollOf code = poll-shape (l .frame) code (s .begin .shape) (h .0) (h .1 .0) in
           let k = spoken-by one .1 in
           let nonzero : code ≡ 0 → ⊥ = λ z. true≢false (sym (every-lawful (kindOf speaker) .zero-silent x (l .frame .command) (length (l .lent)) (storedOf (l .lent)) (h .1 .0 ∙ z)) ∙ k .defined) in

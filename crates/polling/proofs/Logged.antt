@@ -12,10 +12,9 @@ use Rattle.bus.specs.declared.Station.{Station}
 use Rattle.controller.specs.Controller.{eventIn}
 use Rattle.controller.specs.declared.Controller.{Controller}
 use Rattle.delivery.specs.Calls.{Call, host, submits, acknowledges, lends, lendsUnit}
-use Rattle.delivery.specs.Demand2.{codesOf}
 use Rattle.delivery.specs.Lists.{All, none, also, Has, here, there}
 use Rattle.delivery.specs.Log.{Act, told, Deed, took, settled, spoke, done, Mark, begins, acts, does, asks, submitted, begunBy, endedBy, stageMarks, settledBy, doneBy, deedsBy, unitsMarks, hostMarks, submissionMarks, callMarks, log, Capture, withMark, cutAll, framesOf, deedIn, deedsIn}
-use Rattle.delivery.specs.Run.{QuietStart, Run, start, a-round, a-call}
+use Rattle.delivery.specs.Run.{QuietStart, Run, start, a-round, a-call, codesOf}
 use Rattle.delivery.specs.World.{World, levels, round}
 use Rattle.delivery.proofs.Called.{alike-called, codes-alike}
 use Rattle.delivery.proofs.Completed.{codes-after}
