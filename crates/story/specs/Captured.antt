@@ -1,0 +1,210 @@
+-- One run of demand 2's bus from a quiet start, with three units and with busy hosts: an open; a read, in whose answer another byte is fed;
+-- a bus reset; a command to a code that no unit has; a write of more data than a unit stores, and one that it stores; an enabling; the
+-- poll of a request; and, since nobody acknowledges it, a null message. What its log says is computed.
+use Prim.Native.Nat.{ℕ, suc, _+_}
+use mathlib.Core.Path.{_≡_, refl}
+use mathlib.Core.Bool.{Bool, true, false, cond}
+use mathlib.Core.List.{List, [], _∷_, _++_, map}
+use lib.Dec.{lit<}
+use lib.ListN.{replicate}
+use Rattle.bus.specs.Bus.{newStation}
+use Rattle.bus.specs.declared.Station.{Station}
+use Rattle.controller.specs.Controller.{newController}
+use Rattle.delivery.specs.Calls.{Call, host}
+use Rattle.delivery.specs.Demand2.{codesOf}
+use Rattle.delivery.specs.Ends.{quietly}
+use Rattle.delivery.specs.Log.{Act, sent, heard, told, Deed, took, settled, spoke, done, Mark, begins, acts, does, asks, submitted, log, Capture, framesOf, actsIn, deedsIn}
+use Rattle.delivery.specs.Run.{QuietStart, Run, start}
+use Rattle.delivery.specs.World.{World, Busy}
+use Rattle.inside.specs.Calls.{feeds, raises}
+use Rattle.inside.specs.Inside.{Inside, insideOf}
+use Rattle.kind.specs.Kinds.{kindOf}
+use Rattle.queue.specs.Queue.{contents}
+use Rattle.ring.specs.Ring.{live, entryOf}
+use Rattle.ring.specs.declared.Entry.{Entry}
+use Rattle.serial.specs.declared.Mode.the-variants.{Update}
+use Rattle.serial.specs.declared.Opening.{Opening}
+use Rattle.serial.specs.declared.Opening.the-variants.{Closed, OpenFor}
+use Rattle.turn.specs.declared.Event.the-variants.{Nothing, Ended, Handed}
+use Rattle.unit.specs.Unit.{newUnit}
+use Rattle.story.specs.Script.{Doing, rounds, calls, after, runOn, sends}
+
+abbrev pub quietBus : World
+quietBus = record { controller = newController 8; units = newStation (newUnit 20 4) ∷ newStation (newUnit 21 4) ∷ newStation (newUnit 22 4) ∷ []; lent = []; response = [] }
+
+-- Every host is busy: the controller's, and those of the units.
+abbrev pub busily : Busy
+busily = record { here = true; there = 7 }
+
+-- The calls. All that is meant for one unit goes to 21. It is opened for update with length 80. 99 is a code that no unit has.
+abbrev pub opens : Call
+opens = sends 21 0x00 (0x50 ∷ 0x00 ∷ 0xC0 ∷ []) (0 ∷ 0 ∷ 0 ∷ 0 ∷ []) refl
+
+abbrev pub feedsFirst : Call
+feedsFirst = host 1 (feeds 0x43 (lit< tt))
+
+abbrev pub feedsSecond : Call
+feedsSecond = host 1 (feeds 0x44 (lit< tt))
+
+abbrev pub reads : Call
+reads = sends 21 0x03 [] (0 ∷ 0 ∷ 0 ∷ 0 ∷ 0 ∷ []) refl
+
+abbrev pub resets : Call
+resets = sends 0 0xFF [] [] refl
+
+abbrev pub readsAbsent : Call
+readsAbsent = sends 99 0x03 [] (1 ∷ 2 ∷ 3 ∷ []) refl
+
+abbrev pub writesLong : Call
+writesLong = sends 21 0x04 (replicate 257 0x5A) [] refl
+
+abbrev pub writes : Call
+writes = sends 21 0x04 (0x41 ∷ 0x42 ∷ []) [] refl
+
+abbrev pub enables : Call
+enables = sends 21 0x08 [] [] refl
+
+abbrev pub raisesOne : Call
+raisesOne = host 1 raises
+
+-- The run in three parts. The second byte is fed while the unit answers.
+abbrev pub reading : List Doing
+reading =
+    calls opens ∷ rounds 30 quietly ∷ rounds 9 busily ∷ rounds 130 quietly
+    ∷ calls feedsFirst
+    ∷ calls reads ∷ rounds 90 quietly ∷ calls feedsSecond ∷ rounds 9 busily ∷ rounds 30 quietly
+    ∷ []
+
+abbrev pub resetting : List Doing
+resetting = calls resets ∷ rounds 30 quietly ∷ rounds 9 busily ∷ rounds 70 quietly ∷ []
+
+abbrev pub goingOn : List Doing
+goingOn =
+    calls readsAbsent ∷ rounds 5 quietly ∷ rounds 9 busily ∷ rounds 70 quietly
+    ∷ calls opens ∷ rounds 160 quietly
+    ∷ calls writesLong ∷ rounds 500 quietly ∷ rounds 9 busily ∷ rounds 1670 quietly
+    ∷ calls writes ∷ rounds 120 quietly
+    ∷ calls enables ∷ rounds 105 quietly
+    ∷ calls raisesOne ∷ rounds 105 quietly
+    ∷ calls raisesOne ∷ rounds 85 quietly
+    ∷ []
+
+abbrev pub script : List Doing
+script = reading ++ (resetting ++ goingOn)
+
+abbrev pub last : World
+unfolding kindOf
+last = after script quietBus
+
+abbrev pub run : Run quietBus last
+unfolding kindOf
+run = runOn script start
+
+-- It meets the premises of demand 2.
+abbrev pub Meets : Type 0
+Meets = QuietStart quietBus × Run quietBus last
+
+-- What is seen of a frame: its device and command code; how many nibbles each of the three units takes, and how many it sends; how many
+-- nibbles of the answer are sent at each call of a unit's host; and what the application is told, with the response buffer.
+pub record Seen : Type 0 where
+  pub device : ℕ
+  pub command : ℕ
+  pub taken : List ℕ
+  pub given : List ℕ
+  pub asked : List ℕ
+  pub ends : List Act
+
+abbrev pub takenIn : List Deed → ℕ
+takenIn [] = 0
+takenIn (took n ∷ ds) = suc (takenIn ds)
+takenIn (settled x ∷ ds) = takenIn ds
+takenIn (spoke n ∷ ds) = takenIn ds
+takenIn (done ∷ ds) = takenIn ds
+
+abbrev pub givenIn : List Deed → ℕ
+givenIn [] = 0
+givenIn (took n ∷ ds) = givenIn ds
+givenIn (settled x ∷ ds) = givenIn ds
+givenIn (spoke n ∷ ds) = suc (givenIn ds)
+givenIn (done ∷ ds) = givenIn ds
+
+abbrev pub askedIn : ℕ → List Mark → List ℕ
+askedIn n [] = []
+askedIn n (begins f lent found ∷ ms) = askedIn n ms
+askedIn n (acts a ∷ ms) = askedIn n ms
+askedIn n (does own e ∷ ms) = askedIn (n + givenIn (e ∷ [])) ms
+askedIn n (asks own call ∷ ms) = n ∷ askedIn n ms
+askedIn n (submitted k d response ∷ ms) = askedIn n ms
+
+abbrev pub endsIn : List Act → List Act
+endsIn [] = []
+endsIn (sent n ∷ more) = endsIn more
+endsIn (heard n ∷ more) = endsIn more
+endsIn (told event response ∷ more) = told event response ∷ endsIn more
+
+abbrev pub seenOf : Capture → Seen
+seenOf l = record {
+  device = l .frame .command .device;
+  command = l .frame .command .command;
+  taken = map (λ (own : ℕ). takenIn (deedsIn own (l .marks))) (codesOf (quietBus .units));
+  given = map (λ (own : ℕ). givenIn (deedsIn own (l .marks))) (codesOf (quietBus .units));
+  asked = askedIn 0 (l .marks);
+  ends = endsIn (actsIn (l .marks));
+}
+
+-- The first frame first.
+abbrev pub inOrder : List Capture → List Seen → List Seen
+inOrder [] later = later
+inOrder (l ∷ ls) later = inOrder ls (seenOf l ∷ later)
+
+abbrev pub seen : ℕ → ℕ → List ℕ → List ℕ → List ℕ → Act → Seen
+seen device command taken given asked end = record { device = device; command = command; taken = taken; given = given; asked = asked; ends = end ∷ [] }
+
+-- What the papers say of the ten frames. A command has 9 bytes and its data, a response 3 and its data, and a byte is two nibbles. A unit that
+-- is not addressed takes the two of the device code. The read gives the byte that was queued at its last nibble; the other one comes when 3
+-- nibbles of the answer are sent.
+abbrev pub papers : List Seen
+papers =
+    seen 21 0x00 (2 ∷ 24 ∷ 2 ∷ []) (0 ∷ 14 ∷ 0 ∷ []) (14 ∷ []) (told (Ended 0x00 4) (80 ∷ 0 ∷ 0 ∷ 0 ∷ []))
+    ∷ seen 21 0x03 (2 ∷ 18 ∷ 2 ∷ []) (0 ∷ 8 ∷ 0 ∷ []) (3 ∷ []) (told (Ended 0x00 1) (0x43 ∷ 0 ∷ 0 ∷ 0 ∷ 0 ∷ []))
+    ∷ seen 0 0xFF (18 ∷ 18 ∷ 18 ∷ []) (0 ∷ 0 ∷ 0 ∷ []) [] (told (Ended 0xFF 0) [])
+    ∷ seen 99 0x03 (2 ∷ 2 ∷ 2 ∷ []) (0 ∷ 0 ∷ 0 ∷ []) [] (told (Ended 0xFF 0) (1 ∷ 2 ∷ 3 ∷ []))
+    ∷ seen 21 0x00 (2 ∷ 24 ∷ 2 ∷ []) (0 ∷ 14 ∷ 0 ∷ []) [] (told (Ended 0x00 4) (80 ∷ 0 ∷ 0 ∷ 0 ∷ []))
+    ∷ seen 21 0x04 (2 ∷ 532 ∷ 2 ∷ []) (0 ∷ 6 ∷ 0 ∷ []) [] (told (Ended 0x08 0) [])
+    ∷ seen 21 0x04 (2 ∷ 22 ∷ 2 ∷ []) (0 ∷ 6 ∷ 0 ∷ []) [] (told (Ended 0x00 0) [])
+    ∷ seen 21 0x08 (2 ∷ 18 ∷ 2 ∷ []) (0 ∷ 6 ∷ 0 ∷ []) (6 ∷ []) (told (Ended 0x00 0) [])
+    ∷ seen 21 0x0A (2 ∷ 18 ∷ 2 ∷ []) (0 ∷ 6 ∷ 0 ∷ []) (6 ∷ []) (told (Handed 21) [])
+    ∷ seen 0 0xFE (18 ∷ 18 ∷ 18 ∷ []) (0 ∷ 0 ∷ 0 ∷ []) [] (told Nothing [])
+    ∷ []
+
+-- What is inside a unit: its opening, enabling and request, and what its queues hold.
+pub record Holds : Type 0 where
+  pub opening : Opening
+  pub enabled : Bool
+  pub requesting : Bool
+  pub input : List ℕ
+  pub output : List ℕ
+
+abbrev pub holds : Station → Holds
+holds st = record {
+  opening = st .unit .serial .opening;
+  enabled = st .unit .serial .enabled;
+  requesting = st .unit .serial .requesting;
+  input = contents (st .input) (st .unit .serial .input);
+  output = contents (st .output) (st .unit .serial .output);
+}
+
+abbrev pub isNew : Holds
+isNew = record { opening = Closed; enabled = false; requesting = false; input = []; output = [] }
+
+-- Only one of the three is ever changed. Behind the read the byte that was fed in mid-answer is queued; the reset closes the unit and empties
+-- its queue; the two bytes that it can store are stored, and of the 257 none.
+abbrev pub onlyOne : Holds → List Holds
+onlyOne x = isNew ∷ x ∷ isNew ∷ []
+
+pub record Story : Type 0 where
+  pub frames : inOrder (framesOf (log run)) [] ≡ papers
+  pub read : map holds (after reading quietBus .units) ≡ onlyOne (record { opening = OpenFor Update 80; enabled = false; requesting = false; input = 0x44 ∷ []; output = [] })
+  pub reset : map holds (after (reading ++ resetting) quietBus .units) ≡ onlyOne isNew
+  pub at-last : map holds (last .units) ≡ onlyOne (record { opening = OpenFor Update 80; enabled = true; requesting = true; input = []; output = 0x41 ∷ 0x42 ∷ [] })
+  pub ring : live (last .controller .ring) ≡ entryOf 21 true ∷ []
