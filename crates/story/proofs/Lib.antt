@@ -1,4 +1,3 @@
 pub mod Script
 pub mod Captured
-pub mod Frames
-pub mod Bound
+pub mod Turns

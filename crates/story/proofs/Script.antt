@@ -1,14 +1,28 @@
--- A script played in one pass: the world, and the frames of its log so far. So the log of a run is computed without a walk through the run.
+-- Scripts played in one pass, so that a run's log and its calls are computed without a walk through the run; and quiet starts.
 use Prim.Native.Nat.{ℕ, zero, suc}
-use mathlib.Core.Path.{_≡_, refl, _∙_, ap}
-use mathlib.Core.List.{List, [], _∷_}
+use native.Mathlib.Omega.{arith}
+use mathlib.Core.Path.{_≡_, refl, sym, _∙_, ap}
+use mathlib.Core.Bool.{Bool, true, false, _&&_, not, false≢true}
+use mathlib.Core.List.{List, [], _∷_, map}
+use borrow.Author.Tests.{eq-eqb}
+use lib.Dec.{eqb}
+use Rattle.bus.specs.Bus.{newStation}
+use Rattle.bus.specs.declared.Station.{Station}
 use Rattle.delivery.proofs.Logs.{cut-append}
 use Rattle.delivery.specs.Calls.{called}
+use Rattle.delivery.specs.Lists.{All, none, also}
 use Rattle.delivery.specs.Log.{roundMarks, callMarks, log, Capture, cutAll, framesOf}
-use Rattle.delivery.specs.Run.{Run, a-round, a-call}
-use Rattle.delivery.specs.World.{World, Busy, round}
-use Rattle.story.specs.Script.{Doing, rounds, calls, after, afterRounds, runRounds, runOn}
+use Rattle.delivery.specs.Run.{New, QuietStart, Run, start, a-round, a-call}
+use Rattle.delivery.specs.World.{World, Busy, round, Different, nobody, another}
+use Rattle.inside.specs.Inside.{insideOf}
+use Rattle.inside.specs.Lawful.{Lent}
+use Rattle.kind.specs.Kinds.{kindOf}
+use Rattle.polling.specs.BusMoves.{moveOf, callOf, movesOf}
+use Rattle.polling.specs.Moves.{Move}
+use Rattle.unit.specs.Unit.{newUnit}
+use Rattle.story.specs.Script.{quietBus, Doing, rounds, calls, after, afterRounds, runRounds, runOn}
 
+-- The world, and the frames of the log so far.
 pub record Played : Type 0 where
   pub world : World
   pub frames : List Capture
@@ -22,8 +36,7 @@ play [] p = p
 play (rounds n busy ∷ script) p = play script (playRounds n busy p)
 play (calls call ∷ script) p = play script (record { world = called (p .world) call; frames = cutAll (p .frames) (callMarks (p .world) call) })
 
--- It plays the run.
-abbrev at : {w v : World} → Run w v → Played
+abbrev pub at : {w v : World} → Run w v → Played
 at {v = v} r = record { world = v; frames = framesOf (log r) }
 
 plays-rounds : (n : ℕ) (busy : Busy) {w v : World} (r : Run w v) → at (runRounds n busy r) ≡ playRounds n busy (at r)
@@ -38,3 +51,67 @@ plays (rounds n busy ∷ script) r = plays script (runRounds n busy r) ∙ ap (p
 plays (calls call ∷ script) {w} {v} r =
     plays script (a-call r call)
     ∙ ap (λ (ls : List Capture). play script (record { world = called v call; frames = ls })) (cut-append [] (log r) (callMarks v call))
+
+-- The controller's calls.
+abbrev pub movesRounds : ℕ → Busy → World → List Move → List Move
+movesRounds zero busy w ms = ms
+movesRounds (suc n) busy w ms = moveOf w busy ∷ movesRounds n busy (round w busy) ms
+
+abbrev pub movesIn : List Doing → World → List Move
+movesIn [] w = []
+movesIn (rounds n busy ∷ script) w = movesRounds n busy w (movesIn script (afterRounds n busy w))
+movesIn (calls call ∷ script) w = callOf call (movesIn script (called w call))
+
+moves-rounds : (n : ℕ) (busy : Busy) {w v : World} (r : Run w v) (ms : List Move) → movesOf (runRounds n busy r) ms ≡ movesOf r (movesRounds n busy v ms)
+moves-rounds zero busy r ms = refl
+moves-rounds (suc n) busy r ms = moves-rounds n busy (a-round r busy) ms
+
+pub moves-on : (script : List Doing) {w v : World} (r : Run w v) → movesOf (runOn script r) [] ≡ movesOf r (movesIn script v)
+moves-on [] r = refl
+moves-on (rounds n busy ∷ script) {w} {v} r = moves-on script (runRounds n busy r) ∙ moves-rounds n busy r (movesIn script (afterRounds n busy v))
+moves-on (calls call ∷ script) r = moves-on script (a-call r call)
+
+-- A quiet start: no code is 0, and all differ.
+abbrev pub isOther : ℕ → List ℕ → Bool
+isOther own [] = true
+isOther own (code ∷ codes) = not (eqb code own) && isOther own codes
+
+abbrev pub areCodes : List ℕ → Bool
+areCodes [] = true
+areCodes (own ∷ codes) = not (eqb own 0) && (isOther own codes && areCodes codes)
+
+pub both : (a b : Bool) → (a && b) ≡ true → (a ≡ true) × (b ≡ true)
+both true true e = (e, e)
+both true false e = absurd (false≢true e)
+both false b e = absurd (false≢true e)
+
+pub not-true : (a : Bool) → not a ≡ true → a ≡ false
+not-true true e = absurd (false≢true e)
+not-true false e = refl
+
+differs : (a b : ℕ) → not (eqb a b) ≡ true → a ≡ b → ⊥
+differs a b e same = false≢true (sym (not-true (eqb a b) e) ∙ eq-eqb a b same)
+
+abbrev pub NewLent : ℕ → Type 0
+NewLent own = Lent (kindOf own) (insideOf (newStation (newUnit own 4)))
+
+others : (own : ℕ) (codes : List ℕ) → isOther own codes ≡ true → All (λ (x : Station). x .unit .own ≡ own → ⊥) (quietBus codes .units)
+others own [] e = none
+others own (code ∷ codes) e =
+    let t = both (not (eqb code own)) (isOther own codes) e in
+    also (differs code own (t .0)) (others own codes (t .1))
+
+different : (codes : List ℕ) → areCodes codes ≡ true → Different (quietBus codes .units)
+different [] e = nobody
+different (own ∷ codes) e =
+    let t = both (isOther own codes) (areCodes codes) (both (not (eqb own 0)) (isOther own codes && areCodes codes) e .1) in
+    another (others own codes (t .0)) (different codes (t .1))
+
+new-units : (codes : List ℕ) → areCodes codes ≡ true → All NewLent codes → All New (quietBus codes .units)
+new-units [] e none = none
+new-units (own ∷ codes) e (also lent more) =
+    let t = both (not (eqb own 0)) (isOther own codes && areCodes codes) e in
+    also (record { own = own; retry = 4; coded = differs own 0 (t .0); is-new = refl; room = refl; lent = lent }) (new-units codes (both (isOther own codes) (areCodes codes) (t .1) .1) more)
+
+pub quiet-start : (codes : List ℕ) → areCodes codes ≡ true → All NewLent codes → QuietStart (quietBus codes)
+quiet-start codes e lent = record { timeout = 8; least = omega arith; is-new = refl; units = new-units codes e lent; codes = different codes e }

@@ -7,18 +7,13 @@ use mathlib.Core.Bool.{Bool, true, false, cond}
 use mathlib.Core.List.{List, [], _∷_, _++_, map}
 use lib.Dec.{lit<}
 use lib.ListN.{replicate}
-use Rattle.bus.specs.Bus.{newStation}
 use Rattle.bus.specs.declared.Station.{Station}
-use Rattle.controller.specs.Controller.{newController}
 use Rattle.delivery.specs.Calls.{Call, host}
-use Rattle.delivery.specs.Demand2.{codesOf}
 use Rattle.delivery.specs.Ends.{quietly}
 use Rattle.delivery.specs.Log.{Act, sent, heard, told, Deed, took, settled, spoke, done, Mark, begins, acts, does, asks, submitted, log, Capture, framesOf, actsIn, deedsIn}
 use Rattle.delivery.specs.Run.{QuietStart, Run, start}
 use Rattle.delivery.specs.World.{World, Busy}
 use Rattle.inside.specs.Calls.{feeds, raises}
-use Rattle.inside.specs.Inside.{Inside, insideOf}
-use Rattle.kind.specs.Kinds.{kindOf}
 use Rattle.queue.specs.Queue.{contents}
 use Rattle.ring.specs.Ring.{live, entryOf}
 use Rattle.ring.specs.declared.Entry.{Entry}
@@ -26,11 +21,14 @@ use Rattle.serial.specs.declared.Mode.the-variants.{Update}
 use Rattle.serial.specs.declared.Opening.{Opening}
 use Rattle.serial.specs.declared.Opening.the-variants.{Closed, OpenFor}
 use Rattle.turn.specs.declared.Event.the-variants.{Nothing, Ended, Handed}
-use Rattle.unit.specs.Unit.{newUnit}
-use Rattle.story.specs.Script.{Doing, rounds, calls, after, runOn, sends}
+use Rattle.kind.specs.Kinds.{kindOf}
+use Rattle.story.specs.Script.{quietBus, Doing, rounds, calls, after, runOn, sends}
 
-abbrev pub quietBus : World
-quietBus = record { controller = newController 8; units = newStation (newUnit 20 4) ∷ newStation (newUnit 21 4) ∷ newStation (newUnit 22 4) ∷ []; lent = []; response = [] }
+abbrev pub codes : List ℕ
+codes = 20 ∷ 21 ∷ 22 ∷ []
+
+abbrev pub first : World
+first = quietBus codes
 
 -- Every host is busy: the controller's, and those of the units.
 abbrev pub busily : Busy
@@ -94,15 +92,15 @@ script = reading ++ (resetting ++ goingOn)
 
 abbrev pub last : World
 unfolding kindOf
-last = after script quietBus
+last = after script first
 
-abbrev pub run : Run quietBus last
+abbrev pub run : Run first last
 unfolding kindOf
 run = runOn script start
 
 -- It meets the premises of demand 2.
 abbrev pub Meets : Type 0
-Meets = QuietStart quietBus × Run quietBus last
+Meets = QuietStart first × Run first last
 
 -- What is seen of a frame: its device and command code; how many nibbles each of the three units takes, and how many it sends; how many
 -- nibbles of the answer are sent at each call of a unit's host; and what the application is told, with the response buffer.
@@ -146,8 +144,8 @@ abbrev pub seenOf : Capture → Seen
 seenOf l = record {
   device = l .frame .command .device;
   command = l .frame .command .command;
-  taken = map (λ (own : ℕ). takenIn (deedsIn own (l .marks))) (codesOf (quietBus .units));
-  given = map (λ (own : ℕ). givenIn (deedsIn own (l .marks))) (codesOf (quietBus .units));
+  taken = map (λ (own : ℕ). takenIn (deedsIn own (l .marks))) codes;
+  given = map (λ (own : ℕ). givenIn (deedsIn own (l .marks))) codes;
   asked = askedIn 0 (l .marks);
   ends = endsIn (actsIn (l .marks));
 }
@@ -204,7 +202,7 @@ onlyOne x = isNew ∷ x ∷ isNew ∷ []
 
 pub record Story : Type 0 where
   pub frames : inOrder (framesOf (log run)) [] ≡ papers
-  pub read : map holds (after reading quietBus .units) ≡ onlyOne (record { opening = OpenFor Update 80; enabled = false; requesting = false; input = 0x44 ∷ []; output = [] })
-  pub reset : map holds (after (reading ++ resetting) quietBus .units) ≡ onlyOne isNew
+  pub read : map holds (after reading first .units) ≡ onlyOne (record { opening = OpenFor Update 80; enabled = false; requesting = false; input = 0x44 ∷ []; output = [] })
+  pub reset : map holds (after (reading ++ resetting) first .units) ≡ onlyOne isNew
   pub at-last : map holds (last .units) ≡ onlyOne (record { opening = OpenFor Update 80; enabled = true; requesting = true; input = []; output = 0x41 ∷ 0x42 ∷ [] })
   pub ring : live (last .controller .ring) ≡ entryOf 21 true ∷ []

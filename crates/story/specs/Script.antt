@@ -2,16 +2,23 @@
 use Prim.Native.Nat.{ℕ, zero, suc, _<_}
 use mathlib.Core.Path.{_≡_}
 use mathlib.Core.Bool.{Bool, true, false, _&&_, false≢true}
-use mathlib.Core.List.{List, [], _∷_}
+use mathlib.Core.List.{List, [], _∷_, map}
 use borrow.Author.Tests.{ltb-true}
 use lib.Dec.{ltb, lit<}
 use lib.ListN.{length}
+use Rattle.bus.specs.Bus.{newStation}
+use Rattle.controller.specs.Controller.{newController}
 use Rattle.delivery.specs.Calls.{Call, submits, called}
 use Rattle.delivery.specs.Run.{Run, a-round, a-call}
 use Rattle.delivery.specs.World.{World, Busy, round}
 use Rattle.field.specs.Field.{Below}
 use Rattle.header.specs.Header.{InRange}
 use Rattle.header.specs.declared.Command.{Command}
+use Rattle.unit.specs.Unit.{newUnit}
+
+-- A quiet start: new units with these codes. The time-out is 8 and every retry count 4, the least that the papers allow.
+abbrev pub quietBus : List ℕ → World
+quietBus codes = record { controller = newController 8; units = map (λ (own : ℕ). newStation (newUnit own 4)) codes; lent = []; response = [] }
 
 -- So many rounds with these hosts busy, or a call.
 pub data Doing : Type 0 where
