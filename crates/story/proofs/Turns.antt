@@ -31,6 +31,10 @@ use Rattle.story.specs.Script.{quietBus, Doing, rounds, calls, after, af
 use Rattle.story.specs.Turns.{codes, joining, raised, unplugged, onTheWay, itsTurn, before, front, rest, Turn, turnsNow, turnsIn, Seen, seenOf, papers, Reached, BothReached, Met}
 use Rattle.story.proofs.Script.{both, not-true, movesIn, moves-on, quiet-start}
 
+-- With two ahead and three begun there are enough.
+third : (k n : ℕ) → k ≡ 2 → n ≡ 3 → suc k ≤ n
+third k n two three = omega arith
+
 -- A service frame is counted where a turn begins.
 turns-now : (c : Controller) (m : Move) (ms : List Move) (idle : Bool) (fs : List Frame) → isIdle (c .stage) ≡ idle → running (afterMove c m .stage) ≡ fs
     → services c (m ∷ ms) ≡ length (turnsNow (idle && isBegun fs) (getD (live (c .ring)) 0 no-entry .code) fs) + services (afterMove c m) ms
@@ -124,3 +128,121 @@ reaches w n status e = record {
 
 pub both-reached : BothReached
 both-reached = (reaches raised 100 0x0A (shows-by raised 100 0x0A plays-answered), reaches unplugged 67 0xFF (shows-by unplugged 67 0xFF plays-timed-out))
+
+-- The premises of the chain, tested unit by unit and round by round.
+abbrev isOn : ℕ → List Station → Bool
+isOn own [] = false
+isOn own (st ∷ ss) = eqb (st .unit .own) own || isOn own ss
+
+is-on : (own : ℕ) (ss : List Station) → isOn own ss ≡ true → HasCode own ss
+is-on own [] e = absurd (false≢true e)
+is-on own (st ∷ ss) e = by (eqb (st .unit .own) own) refl e (is-on own ss)
+  where
+    by : (t : Bool) → eqb (st .unit .own) own ≡ t → (t || isOn own ss) ≡ true → (isOn own ss ≡ true → HasCode own ss) → HasCode own (st ∷ ss)
+    by true t e more = it-has (eqb-true (st .unit .own) own t)
+    by false t e more = later (more e)
+
+abbrev areAsking : ℕ → List Station → Bool
+areAsking own [] = true
+areAsking own (st ∷ ss) = (not (eqb (st .unit .own) own) || hasRequest (insideOf st)) && areAsking own ss
+
+are-asking : (own : ℕ) (ss : List Station) → areAsking own ss ≡ true → All (Requests own) ss
+are-asking own [] e = none
+are-asking own (st ∷ ss) e =
+    let t = both (not (eqb (st .unit .own) own) || hasRequest (insideOf st)) (areAsking own ss) e in
+    also (λ (same : st .unit .own ≡ own). sym (ap (λ (b : Bool). not b || hasRequest (insideOf st)) (eq-eqb (st .unit .own) own same)) ∙ t .0) (are-asking own ss (t .1))
+
+abbrev isHarmless : ℕ → List Frame → Bool
+isHarmless own [] = true
+isHarmless own (f ∷ fs) = not (isFor own f) && not (eqb (f .command .command) 0xFF)
+
+harmless : (own : ℕ) (fs : List Frame) → isHarmless own fs ≡ true → Harmless own fs
+harmless own [] e = tt
+harmless own (f ∷ fs) e =
+    let t = both (not (isFor own f)) (not (eqb (f .command .command) 0xFF)) e in
+    (not-true (isFor own f) (t .0), not-true (eqb (f .command .command) 0xFF) (t .1))
+
+abbrev calmRounds : ℕ → ℕ → Busy → World → Bool
+calmRounds own zero busy w = true
+calmRounds own (suc n) busy w = isHarmless own (running (w .controller .stage)) && calmRounds own n busy (round w busy)
+
+abbrev isCalm : ℕ → List Doing → World → Bool
+isCalm own [] w = true
+isCalm own (rounds n busy ∷ script) w = calmRounds own n busy w && isCalm own script (afterRounds n busy w)
+isCalm own (calls call ∷ script) w = isHarmless own (running (w .controller .stage)) && isCalm own script (called w call)
+
+calm-rounds : (own n : ℕ) (busy : Busy) {v u : World} (r : Run v u) → Calm own r → calmRounds own n busy u ≡ true → Calm own (runRounds n busy r)
+calm-rounds own zero busy r c e = c
+calm-rounds own (suc n) busy {v} {u} r c e =
+    let t = both (isHarmless own (running (u .controller .stage))) (calmRounds own n busy (round u busy)) e in
+    calm-rounds own n busy (a-round r busy) (c, harmless own (running (u .controller .stage)) (t .0)) (t .1)
+
+calm-on : (own : ℕ) (script : List Doing) {v u : World} (r : Run v u) → Calm own r → isCalm own script u ≡ true → Calm own (runOn script r)
+calm-on own [] r c e = c
+calm-on own (rounds n busy ∷ script) {v} {u} r c e =
+    let t = both (calmRounds own n busy u) (isCalm own script (afterRounds n busy u)) e in
+    calm-on own script (runRounds n busy r) (calm-rounds own n busy r c (t .0)) (t .1)
+calm-on own (calls call ∷ script) {v} {u} r c e =
+    let t = both (isHarmless own (running (u .controller .stage))) (isCalm own script (called u call)) e in
+    calm-on own script (a-call r call) (c, harmless own (running (u .controller .stage)) (t .0)) (t .1)
+
+-- All that is computed of the bus, in one pass.
+record Tested : Type 0 where
+  is-on-it : Bool
+  is-asking : Bool
+  is-marked : Bool
+  calm-way : Bool
+  calm-turn : Bool
+  in-frame : Bool
+
+abbrev tested : World → World → Tested
+tested v u = record {
+  is-on-it = isOn 22 (v .units);
+  is-asking = areAsking 22 (v .units);
+  is-marked = isMarked 22 (live (v .controller .ring));
+  calm-way = isCalm 22 (onTheWay 100) v;
+  calm-turn = isCalm 22 itsTurn u;
+  in-frame = inFrame (after itsTurn u .controller .stage);
+}
+
+tests : tested raised (after (onTheWay 100) raised) ≡ record { is-on-it = true; is-asking = true; is-marked = false; calm-way = true; calm-turn = true; in-frame = false }
+unfolding kindOf
+tests = refl
+
+-- The controller of a run is that behind its calls, and counts their service frames.
+controller-then : (codes : List ℕ) (script : List Doing) → after script (quietBus codes) .controller ≡ since 8 (movesOf (runOn script {w = quietBus codes} start) [])
+controller-then codes script = run-moves (runOn script {w = quietBus codes} start) []
+
+services-on : (past : List Move) (way turn : List Doing) (v : World) (k l : ℕ)
+    → v .controller ≡ since 8 past
+    → services (since 8 past) (movesOf (runOn way {w = v} start) []) ≡ k
+    → services (since 8 (past ++ movesOf (runOn way {w = v} start) [])) (movesOf (runOn turn {w = after way v} start) []) ≡ l
+    → services (v .controller) (movesOf (runOn turn (runOn way {w = v} start)) []) ≡ k + l
+services-on past way turn v k l same x y =
+    let on = runOn way {w = v} start in
+    let all : services (v .controller) (movesOf (runOn turn on) []) ≡ services (v .controller) (movesOf on (movesIn turn (after way v))) = ap (services (v .controller)) (moves-on turn on) in
+    let parts = services-then on (movesIn turn (after way v)) in
+    let one : services (v .controller) (movesOf on []) ≡ k = ap (λ (d : Controller). services d (movesOf on [])) same ∙ x in
+    let there : after way v .controller ≡ since 8 (past ++ movesOf on []) = run-moves on [] ∙ ap (λ (d : Controller). afterAll d (movesOf on [])) same ∙ sym (after-append (since 8 []) past (movesOf on [])) in
+    let other : services (after way v .controller) (movesIn turn (after way v)) ≡ l = ap (services (after way v .controller)) (sym (moves-on turn {w = after way v} start)) ∙ ap (λ (d : Controller). services d (movesOf (runOn turn {w = after way v} start) [])) there ∙ y in
+    omega arith
+
+pub met : Met
+unfolding kindOf
+met =
+    let c = controller-then codes joining in
+    let shown = shows-by raised 100 0x0A plays-answered in
+    let two-ahead : ahead 22 (raised .controller) ≡ 2 = ap (ahead 22) c ∙ ap (λ (x : Shown). x .seen .units-ahead) shown in
+    let three = services-on before (onTheWay 100) itsTurn raised 2 1 c (two-on-the-way raised 100 0x0A shown) (one-then raised 100 0x0A shown) in
+    record {
+      quiet = quiet-start codes refl (also (refl, zeros-below 256) (also (refl, zeros-below 256) (also (refl, zeros-below 256) (also (refl, zeros-below 256) none))));
+      run = runOn joining {w = quietBus codes} start;
+      more = runOn itsTurn (runOn (onTheWay 100) {w = raised} start);
+      coded = is-on 22 (raised .units) (ap (λ (t : Tested). t .is-on-it) tests);
+      requests = are-asking 22 (raised .units) (ap (λ (t : Tested). t .is-asking) tests);
+      in-ring = ap (inRing 22) c ∙ ap (λ (x : Shown). x .seen .in-ring) shown;
+      unmarked = ap (λ (t : Tested). t .is-marked) tests;
+      calm = calm-on 22 itsTurn (runOn (onTheWay 100) {w = raised} start) (calm-on 22 (onTheWay 100) {v = raised} start tt (ap (λ (t : Tested). t .calm-way) tests)) (ap (λ (t : Tested). t .calm-turn) tests);
+      enough = third (ahead 22 (raised .controller)) (services (raised .controller) (movesOf (runOn itsTurn (runOn (onTheWay 100) {w = raised} start)) [])) two-ahead three;
+      over = ap (λ (t : Tested). t .in-frame) tests;
+    }
