@@ -20,7 +20,7 @@ use Rattle.kind.specs.Kinds.{kindOf}
 use Rattle.polling.specs.BusMoves.{moveOf, callOf, movesOf}
 use Rattle.polling.specs.Moves.{Move}
 use Rattle.unit.specs.Unit.{newUnit}
-use Rattle.story.specs.Script.{quietBus, Doing, rounds, calls, after, afterRounds, runRounds, runOn}
+use Rattle.story.specs.Script.{quietBus, Doing, rounds, calls, after, afterRounds, runRounds, runOn, both}
 
 -- The world, and the frames of the log so far.
 pub record Played : Type 0 where
@@ -79,11 +79,6 @@ isOther own (code ∷ codes) = not (eqb code own) && isOther own codes
 abbrev pub areCodes : List ℕ → Bool
 areCodes [] = true
 areCodes (own ∷ codes) = not (eqb own 0) && (isOther own codes && areCodes codes)
-
-pub both : (a b : Bool) → (a && b) ≡ true → (a ≡ true) × (b ≡ true)
-both true true e = (e, e)
-both true false e = absurd (false≢true e)
-both false b e = absurd (false≢true e)
 
 pub not-true : (a : Bool) → not a ≡ true → a ≡ false
 not-true true e = absurd (false≢true e)

@@ -27,9 +27,9 @@ use Rattle.polling.specs.Chain.{HasCode, it-has, later, Requests, Harmless, Cal
 use Rattle.polling.specs.History.{since, anyFor}
 use Rattle.polling.specs.Moves.{Move, after as afterMove, afterAll, begins, isBegun, services, ahead, inRing, isFor, Without, Spared, so-far, spared}
 use Rattle.ring.specs.Ring.{none as no-entry, live, isMarked}
-use Rattle.story.specs.Script.{quietBus, Doing, rounds, calls, after, afterRounds, runRounds, runOn}
+use Rattle.story.specs.Script.{quietBus, Doing, rounds, calls, after, afterRounds, runRounds, runOn, both}
 use Rattle.story.specs.Turns.{codes, joining, raised, unplugged, onTheWay, itsTurn, before, front, rest, Turn, turnsNow, turnsIn, Seen, seenOf, papers, Reached, BothReached, Met}
-use Rattle.story.proofs.Script.{both, not-true, movesIn, moves-on, quiet-start}
+use Rattle.story.proofs.Script.{not-true, movesIn, moves-on, quiet-start}
 
 -- With two ahead and three begun there are enough.
 third : (k n : ℕ) → k ≡ 2 → n ≡ 3 → suc k ≤ n

@@ -1,28 +1,28 @@
--- One run of demand 2's bus from a quiet start, with three units and with busy hosts: an open; a read, in whose answer another byte is fed;
--- a bus reset; a command to a code that no unit has; a write of more data than a unit stores, and one that it stores; an enabling; the
--- poll of a request; and, since nobody acknowledges it, a null message. What its log says is computed.
-use Prim.Native.Nat.{ℕ, suc, _+_}
+-- One run of demand 2's bus from a quiet start, with three units and with busy hosts, and what its log says, computed. Two units are opened. A
+-- byte is fed to one in the middle of its answer to a read. A bus reset closes both. Nobody answers a command to a code that no unit has.
+-- A write of 257 bytes is taken whole and stored nowhere; one of two bytes is stored. A request is polled, and stays unacknowledged: so its
+-- unit's next turn is a null message.
+use Prim.Native.Nat.{ℕ, suc, _+_, _<_}
 use mathlib.Core.Path.{_≡_, refl}
-use mathlib.Core.Bool.{Bool, true, false, cond}
+use mathlib.Core.Bool.{Bool, true, false}
 use mathlib.Core.List.{List, [], _∷_, _++_, map}
 use lib.Dec.{lit<}
 use lib.ListN.{replicate}
 use Rattle.bus.specs.declared.Station.{Station}
-use Rattle.delivery.specs.Calls.{Call, host}
+use Rattle.delivery.specs.Calls.{host}
 use Rattle.delivery.specs.Ends.{quietly}
 use Rattle.delivery.specs.Log.{Act, sent, heard, told, Deed, took, settled, spoke, done, Mark, begins, acts, does, asks, submitted, log, Capture, framesOf, actsIn, deedsIn}
 use Rattle.delivery.specs.Run.{QuietStart, Run, start}
 use Rattle.delivery.specs.World.{World, Busy}
 use Rattle.inside.specs.Calls.{feeds, raises}
+use Rattle.kind.specs.Kinds.{kindOf}
 use Rattle.queue.specs.Queue.{contents}
 use Rattle.ring.specs.Ring.{live, entryOf}
-use Rattle.ring.specs.declared.Entry.{Entry}
 use Rattle.serial.specs.declared.Mode.the-variants.{Update}
 use Rattle.serial.specs.declared.Opening.{Opening}
 use Rattle.serial.specs.declared.Opening.the-variants.{Closed, OpenFor}
 use Rattle.turn.specs.declared.Event.the-variants.{Nothing, Ended, Handed}
-use Rattle.kind.specs.Kinds.{kindOf}
-use Rattle.story.specs.Script.{quietBus, Doing, rounds, calls, after, runOn, sends}
+use Rattle.story.specs.Script.{quietBus, Doing, rounds, calls, after, runOn, sends, opens, enables}
 
 abbrev pub codes : List ℕ
 codes = 20 ∷ 21 ∷ 22 ∷ []
@@ -34,57 +34,29 @@ first = quietBus codes
 abbrev pub busily : Busy
 busily = record { here = true; there = 7 }
 
--- The calls. All that is meant for one unit goes to 21. It is opened for update with length 80. 99 is a code that no unit has.
-abbrev pub opens : Call
-opens = sends 21 0x00 (0x50 ∷ 0x00 ∷ 0xC0 ∷ []) (0 ∷ 0 ∷ 0 ∷ 0 ∷ []) refl
+-- The run in three parts: up to the read, in whose answer a byte is fed; the reset; and the rest. 99 is a code that no unit has.
+abbrev pub feedsTo : (i b : ℕ) → b < 256 → Doing
+feedsTo i b h = calls (host i (feeds b h))
 
-abbrev pub feedsFirst : Call
-feedsFirst = host 1 (feeds 0x43 (lit< tt))
-
-abbrev pub feedsSecond : Call
-feedsSecond = host 1 (feeds 0x44 (lit< tt))
-
-abbrev pub reads : Call
-reads = sends 21 0x03 [] (0 ∷ 0 ∷ 0 ∷ 0 ∷ 0 ∷ []) refl
-
-abbrev pub resets : Call
-resets = sends 0 0xFF [] [] refl
-
-abbrev pub readsAbsent : Call
-readsAbsent = sends 99 0x03 [] (1 ∷ 2 ∷ 3 ∷ []) refl
-
-abbrev pub writesLong : Call
-writesLong = sends 21 0x04 (replicate 257 0x5A) [] refl
-
-abbrev pub writes : Call
-writes = sends 21 0x04 (0x41 ∷ 0x42 ∷ []) [] refl
-
-abbrev pub enables : Call
-enables = sends 21 0x08 [] [] refl
-
-abbrev pub raisesOne : Call
-raisesOne = host 1 raises
-
--- The run in three parts. The second byte is fed while the unit answers.
 abbrev pub reading : List Doing
 reading =
-    calls opens ∷ rounds 30 quietly ∷ rounds 9 busily ∷ rounds 130 quietly
-    ∷ calls feedsFirst
-    ∷ calls reads ∷ rounds 90 quietly ∷ calls feedsSecond ∷ rounds 9 busily ∷ rounds 30 quietly
+    opens 20 refl ∷ rounds 160 quietly ∷ feedsTo 0 0x55 (lit< tt)
+    ∷ opens 21 refl ∷ rounds 30 quietly ∷ rounds 9 busily ∷ rounds 130 quietly ∷ feedsTo 1 0x43 (lit< tt)
+    ∷ calls (sends 21 0x03 [] (0 ∷ 0 ∷ 0 ∷ 0 ∷ 0 ∷ []) refl) ∷ rounds 90 quietly ∷ feedsTo 1 0x44 (lit< tt) ∷ rounds 9 busily ∷ rounds 30 quietly
     ∷ []
 
 abbrev pub resetting : List Doing
-resetting = calls resets ∷ rounds 30 quietly ∷ rounds 9 busily ∷ rounds 70 quietly ∷ []
+resetting = calls (sends 0 0xFF [] [] refl) ∷ rounds 30 quietly ∷ rounds 9 busily ∷ rounds 70 quietly ∷ []
 
 abbrev pub goingOn : List Doing
 goingOn =
-    calls readsAbsent ∷ rounds 5 quietly ∷ rounds 9 busily ∷ rounds 70 quietly
-    ∷ calls opens ∷ rounds 160 quietly
-    ∷ calls writesLong ∷ rounds 500 quietly ∷ rounds 9 busily ∷ rounds 1670 quietly
-    ∷ calls writes ∷ rounds 120 quietly
-    ∷ calls enables ∷ rounds 105 quietly
-    ∷ calls raisesOne ∷ rounds 105 quietly
-    ∷ calls raisesOne ∷ rounds 85 quietly
+    calls (sends 99 0x03 [] (1 ∷ 2 ∷ 3 ∷ []) refl) ∷ rounds 5 quietly ∷ rounds 9 busily ∷ rounds 70 quietly
+    ∷ opens 21 refl ∷ rounds 160 quietly
+    ∷ calls (sends 21 0x04 (replicate 257 0x5A) [] refl) ∷ rounds 500 quietly ∷ rounds 9 busily ∷ rounds 1670 quietly
+    ∷ calls (sends 21 0x04 (0x41 ∷ 0x42 ∷ []) [] refl) ∷ rounds 120 quietly
+    ∷ enables 21 refl ∷ rounds 105 quietly
+    ∷ calls (host 1 raises) ∷ rounds 105 quietly
+    ∷ calls (host 1 raises) ∷ rounds 85 quietly
     ∷ []
 
 abbrev pub script : List Doing
@@ -158,12 +130,13 @@ inOrder (l ∷ ls) later = inOrder ls (seenOf l ∷ later)
 abbrev pub seen : ℕ → ℕ → List ℕ → List ℕ → List ℕ → Act → Seen
 seen device command taken given asked end = record { device = device; command = command; taken = taken; given = given; asked = asked; ends = end ∷ [] }
 
--- What the papers say of the ten frames. A command has 9 bytes and its data, a response 3 and its data, and a byte is two nibbles. A unit that
--- is not addressed takes the two of the device code. The read gives the byte that was queued at its last nibble; the other one comes when 3
+-- What the papers say of the eleven frames. A command has 9 bytes and its data, a response 3 and its data, and a byte is two nibbles. A unit
+-- that is not addressed takes two, the device code. The read gives the one byte that was queued at its last nibble: the other is fed when 3
 -- nibbles of the answer are sent.
 abbrev pub papers : List Seen
 papers =
-    seen 21 0x00 (2 ∷ 24 ∷ 2 ∷ []) (0 ∷ 14 ∷ 0 ∷ []) (14 ∷ []) (told (Ended 0x00 4) (80 ∷ 0 ∷ 0 ∷ 0 ∷ []))
+    seen 20 0x00 (24 ∷ 2 ∷ 2 ∷ []) (14 ∷ 0 ∷ 0 ∷ []) (14 ∷ []) (told (Ended 0x00 4) (80 ∷ 0 ∷ 0 ∷ 0 ∷ []))
+    ∷ seen 21 0x00 (2 ∷ 24 ∷ 2 ∷ []) (0 ∷ 14 ∷ 0 ∷ []) (14 ∷ []) (told (Ended 0x00 4) (80 ∷ 0 ∷ 0 ∷ 0 ∷ []))
     ∷ seen 21 0x03 (2 ∷ 18 ∷ 2 ∷ []) (0 ∷ 8 ∷ 0 ∷ []) (3 ∷ []) (told (Ended 0x00 1) (0x43 ∷ 0 ∷ 0 ∷ 0 ∷ 0 ∷ []))
     ∷ seen 0 0xFF (18 ∷ 18 ∷ 18 ∷ []) (0 ∷ 0 ∷ 0 ∷ []) [] (told (Ended 0xFF 0) [])
     ∷ seen 99 0x03 (2 ∷ 2 ∷ 2 ∷ []) (0 ∷ 0 ∷ 0 ∷ []) [] (told (Ended 0xFF 0) (1 ∷ 2 ∷ 3 ∷ []))
@@ -195,14 +168,17 @@ holds st = record {
 abbrev pub isNew : Holds
 isNew = record { opening = Closed; enabled = false; requesting = false; input = []; output = [] }
 
--- Only one of the three is ever changed. Behind the read the byte that was fed in mid-answer is queued; the reset closes the unit and empties
--- its queue; the two bytes that it can store are stored, and of the 257 none.
-abbrev pub onlyOne : Holds → List Holds
-onlyOne x = isNew ∷ x ∷ isNew ∷ []
+abbrev pub isOpen : List ℕ → Holds
+isOpen queued = record { opening = OpenFor Update 80; enabled = false; requesting = false; input = queued; output = [] }
+
+-- Behind the read the byte that was fed in mid-answer is queued, and 20 still holds its own. The reset leaves every unit as a new one. At last
+-- the two bytes stand in the output queue, none of the 257 does, and the second request is held.
+abbrev pub atLast : Holds
+atLast = record { opening = OpenFor Update 80; enabled = true; requesting = true; input = []; output = 0x41 ∷ 0x42 ∷ [] }
 
 pub record Story : Type 0 where
   pub frames : inOrder (framesOf (log run)) [] ≡ papers
-  pub read : map holds (after reading first .units) ≡ onlyOne (record { opening = OpenFor Update 80; enabled = false; requesting = false; input = 0x44 ∷ []; output = [] })
-  pub reset : map holds (after (reading ++ resetting) first .units) ≡ onlyOne isNew
-  pub at-last : map holds (last .units) ≡ onlyOne (record { opening = OpenFor Update 80; enabled = true; requesting = true; input = []; output = 0x41 ∷ 0x42 ∷ [] })
+  pub read : map holds (after reading first .units) ≡ isOpen (0x55 ∷ []) ∷ isOpen (0x44 ∷ []) ∷ isNew ∷ []
+  pub reset : map holds (after (reading ++ resetting) first .units) ≡ isNew ∷ isNew ∷ isNew ∷ []
+  pub at-last : map holds (last .units) ≡ isNew ∷ atLast ∷ isNew ∷ []
   pub ring : live (last .controller .ring) ≡ entryOf 21 true ∷ []

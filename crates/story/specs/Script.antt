@@ -1,4 +1,4 @@
--- Scripts for demand 2's bus: rounds and calls, one after the other; the world that a script leads to, and the run that it is.
+-- Scripts for demand 2's bus: rounds and calls, one after the other. A script leads from a world to another, and is a run between them.
 use Prim.Native.Nat.{ℕ, zero, suc, _<_}
 use mathlib.Core.Path.{_≡_}
 use mathlib.Core.Bool.{Bool, true, false, _&&_, false≢true}
@@ -45,7 +45,7 @@ runOn [] r = r
 runOn (rounds n busy ∷ script) r = runOn script (runRounds n busy r)
 runOn (calls call ∷ script) r = runOn script (a-call r call)
 
--- What the types say of a command that is submitted: device and command code and data are bytes, the buffer length takes two.
+-- What the types say of a submitted command: codes and data are bytes, and two bytes hold the buffer length.
 abbrev pub areBytes : List ℕ → Bool
 areBytes [] = true
 areBytes (b ∷ d) = ltb b 256 && areBytes d
@@ -53,7 +53,7 @@ areBytes (b ∷ d) = ltb b 256 && areBytes d
 abbrev pub isTyped : (device command : ℕ) (d response : List ℕ) → Bool
 isTyped device command d response = areBytes (device ∷ command ∷ d) && ltb (length response) 65536
 
-both : (a b : Bool) → (a && b) ≡ true → (a ≡ true) × (b ≡ true)
+pub both : (a b : Bool) → (a && b) ≡ true → (a ≡ true) × (b ≡ true)
 both true true e = (e, e)
 both true false e = absurd (false≢true e)
 both false b e = absurd (false≢true e)
@@ -78,3 +78,13 @@ data-below device command d response e i = below (device ∷ command ∷ d) (bot
 
 abbrev pub sends : (device command : ℕ) (d response : List ℕ) → isTyped device command d response ≡ true → Call
 sends device command d response e = submits (commandTo device command (length response)) d response (in-range device command d response e) (data-below device command d response e)
+
+-- A unit is opened for update with length 80; it is enabled; it is disabled.
+abbrev pub opens : (device : ℕ) → isTyped device 0x00 (0x50 ∷ 0x00 ∷ 0xC0 ∷ []) (0 ∷ 0 ∷ 0 ∷ 0 ∷ []) ≡ true → Doing
+opens device e = calls (sends device 0x00 (0x50 ∷ 0x00 ∷ 0xC0 ∷ []) (0 ∷ 0 ∷ 0 ∷ 0 ∷ []) e)
+
+abbrev pub enables : (device : ℕ) → isTyped device 0x08 [] [] ≡ true → Doing
+enables device e = calls (sends device 0x08 [] [] e)
+
+abbrev pub disables : (device : ℕ) → isTyped device 0x09 [] [] ≡ true → Doing
+disables device e = calls (sends device 0x09 [] [] e)

@@ -1,7 +1,7 @@
--- Two runs on which the bound of demand 3 is reached. The ring is 20, 21, 22. A request of 20 was handed over and nobody acknowledges it. Now
--- 22 raises one, with k = 2 units ahead of it. The first service frame is 20's turn, a null message; the second polls 21; only the third,
--- k + 1, is the turn of 22. On the way 20 leaves the ring and 23 joins it. In one run, on demand 2's bus, 21 answers its poll. In the other
--- its plug is pulled, so that its poll times out.
+-- Two runs on which the bound of demand 3 is reached. The ring is 20, 21, 22. A request of 20 was handed over, and nobody acknowledges it. Now
+-- 22 raises one, with k = 2 units ahead of it. The first service frame is 20's turn, a null message; the second polls 21. Only the third, the
+-- (k+1)th, is the turn of 22. On the way 20 leaves the ring and 23 joins it. In one run, on demand 2's bus, 21 answers its poll. In the other
+-- 21 is unplugged, and its poll times out.
 use Prim.Native.Nat.{ℕ, zero, suc, _≤_}
 use mathlib.Core.Path.{_≡_, refl}
 use mathlib.Core.Bool.{Bool, true, false}
@@ -11,7 +11,7 @@ use Rattle.bus.specs.declared.Station.{Station}
 use Rattle.controller.specs.Calls.{stepping}
 use Rattle.controller.specs.Controller.{frameOf}
 use Rattle.controller.specs.declared.Controller.{Controller}
-use Rattle.delivery.specs.Calls.{Call, host, inFrame, running}
+use Rattle.delivery.specs.Calls.{host, inFrame, running}
 use Rattle.delivery.specs.Ends.{quietly}
 use Rattle.delivery.specs.Lists.{All}
 use Rattle.delivery.specs.Run.{QuietStart, Run, start}
@@ -21,6 +21,7 @@ use Rattle.frame.specs.declared.End.{End}
 use Rattle.frame.specs.declared.End.the-variants.{NotYet, Over}
 use Rattle.frame.specs.declared.Frame.{Frame}
 use Rattle.inside.specs.Calls.{raises}
+use Rattle.kind.specs.Kinds.{kindOf}
 use Rattle.message.specs.Answer.{kept}
 use Rattle.polling.specs.BusMoves.{movesOf}
 use Rattle.polling.specs.Chain.{HasCode, Requests, Calm}
@@ -28,28 +29,18 @@ use Rattle.polling.specs.Demand3.{turnFrame}
 use Rattle.polling.specs.History.{since}
 use Rattle.polling.specs.Moves.{Move, steps, submits, acknowledges, after as afterMove, begins, services, ahead, inRing, Spared}
 use Rattle.ring.specs.Ring.{none, live, isMarked}
-use Rattle.kind.specs.Kinds.{kindOf}
-use Rattle.story.specs.Script.{quietBus, Doing, rounds, calls, after, runOn, sends, isTyped}
+use Rattle.story.specs.Script.{quietBus, Doing, rounds, calls, after, runOn, opens, enables, disables}
 
--- Each unit is opened and then enabled; 23 is enabled later. As soon as it is enabled, 20 raises a request, and it is handed over.
+-- Each unit is opened and then enabled, 23 only on the way. A request of 20 is handed over before the others join.
 abbrev pub codes : List ℕ
 codes = 20 ∷ 21 ∷ 22 ∷ 23 ∷ []
 
-abbrev pub opens : (device : ℕ) → isTyped device 0x00 (0x50 ∷ 0x00 ∷ 0xC0 ∷ []) (0 ∷ 0 ∷ 0 ∷ 0 ∷ []) ≡ true → Call
-opens device e = sends device 0x00 (0x50 ∷ 0x00 ∷ 0xC0 ∷ []) (0 ∷ 0 ∷ 0 ∷ 0 ∷ []) e
-
-abbrev pub enables : (device : ℕ) → isTyped device 0x08 [] [] ≡ true → Call
-enables device e = sends device 0x08 [] [] e
-
-abbrev pub disables : (device : ℕ) → isTyped device 0x09 [] [] ≡ true → Call
-disables device e = sends device 0x09 [] [] e
-
 abbrev pub joining : List Doing
 joining =
-    calls (opens 20 refl) ∷ rounds 160 quietly ∷ calls (enables 20 refl) ∷ rounds 105 quietly ∷ calls (host 0 raises) ∷ rounds 105 quietly
-    ∷ calls (opens 21 refl) ∷ rounds 160 quietly ∷ calls (enables 21 refl) ∷ rounds 105 quietly
-    ∷ calls (opens 22 refl) ∷ rounds 160 quietly ∷ calls (enables 22 refl) ∷ rounds 105 quietly
-    ∷ calls (opens 23 refl) ∷ rounds 160 quietly
+    opens 20 refl ∷ rounds 160 quietly ∷ enables 20 refl ∷ rounds 105 quietly ∷ calls (host 0 raises) ∷ rounds 105 quietly
+    ∷ opens 21 refl ∷ rounds 160 quietly ∷ enables 21 refl ∷ rounds 105 quietly
+    ∷ opens 22 refl ∷ rounds 160 quietly ∷ enables 22 refl ∷ rounds 105 quietly
+    ∷ opens 23 refl ∷ rounds 160 quietly
     ∷ calls (host 2 raises)
     ∷ []
 
@@ -57,7 +48,7 @@ abbrev pub raised : World
 unfolding kindOf
 raised = after joining (quietBus codes)
 
--- The same moment with the plug of 21 pulled.
+-- The same moment with 21 unplugged.
 abbrev pub withoutUnit : ℕ → List Station → List Station
 withoutUnit i [] = []
 withoutUnit zero (st ∷ ss) = ss
@@ -67,9 +58,9 @@ abbrev pub unplugged : World
 unfolding kindOf
 unplugged = record { controller = raised .controller; units = withoutUnit 1 (raised .units); lent = raised .lent; response = raised .response }
 
--- A null message; 09 to 20; the poll of 21, which takes 100 rounds with its answer and 67 without; 08 to 23; and the round before the turn.
+-- The null message; 09 to 20; the poll of 21, which takes 100 rounds with an answer and 67 without; 08 to 23. The turn begins in the next round.
 abbrev pub onTheWay : ℕ → List Doing
-onTheWay n = rounds 85 quietly ∷ calls (disables 20 refl) ∷ rounds 104 quietly ∷ rounds n quietly ∷ calls (enables 23 refl) ∷ rounds 103 quietly ∷ []
+onTheWay n = rounds 85 quietly ∷ disables 20 refl ∷ rounds 104 quietly ∷ rounds n quietly ∷ enables 23 refl ∷ rounds 103 quietly ∷ []
 
 abbrev pub itsTurn : List Doing
 itsTurn = rounds 101 quietly ∷ []
@@ -120,7 +111,8 @@ abbrev pub endsIn : Controller → List Move → List Ended
 endsIn c [] = []
 endsIn c (m ∷ ms) = endedNow c m ++ endsIn (afterMove c m) ms
 
--- What is seen of the unit's turn, and of the way there.
+-- What is seen of the unit: its place at first; whose turns the service frames on the way are, and which frames end there; the frame that
+-- demand 3 says its turn has; and its turn.
 pub record Seen : Type 0 where
   pub in-ring : Bool
   pub units-ahead : ℕ
@@ -144,7 +136,7 @@ seenBy own c d frame way turn = record {
 abbrev pub seenOf : ℕ → List Move → List Move → List Move → Seen
 seenOf own past way turn = seenBy own (since 8 past) (since 8 (past ++ way)) (turnFrame own 8 (past ++ way)) way turn
 
--- With the status that the poll of 21 ends with.
+-- What the papers say, by the status that the poll of 21 ends with.
 abbrev pub papers : ℕ → Seen
 papers status = record {
   in-ring = true;
@@ -156,18 +148,18 @@ papers status = record {
   its-end = ended 22 0x0A 0x00 ∷ [];
 }
 
--- So the bound is reached: in the ring with k = 2 ahead, and two service frames begin before the turn. The premises of `TurnComes` are met.
+-- So the bound is reached: with k = 2 ahead, two service frames begin before the turn. The premises of `TurnComes` are met.
 pub record Reached (w : World) (n status : ℕ) : Type 0 where
   pub seen : seenOf 22 before (front w n) (rest w n) ≡ papers status
   pub counted : services (since 8 before) (front w n) ≡ 2
   pub spared : Spared 22 (since 8 before) (front w n ++ rest w n)
   pub enough : suc (ahead 22 (since 8 before)) ≤ services (since 8 before) (front w n ++ rest w n)
 
--- With the answer of 21, and without: 0A, since it holds no request, and FF at the time-out.
+-- 21 holds no request, and answers 0A; unplugged, its poll ends with FF.
 abbrev pub BothReached : Type 0
 BothReached = Reached raised 100 0x0A × Reached unplugged 67 0xFF
 
--- And the first is a run of demand 2's bus, from a quiet start, that meets every premise of the chain.
+-- The first is a run of demand 2's bus from a quiet start, and meets every premise of the chain.
 pub record Met : Type 0 where
   pub quiet : QuietStart (quietBus codes)
   pub run : Run (quietBus codes) raised
