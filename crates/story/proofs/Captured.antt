@@ -1,27 +1,40 @@
 -- The story computed, frame by frame, and that it is a run from a quiet start.
 use mathlib.Core.Path.{_≡_, refl, _∙_, ap}
-use mathlib.Core.List.{List, []}
+use mathlib.Core.List.{List, [], map}
 use Rattle.delivery.specs.Lists.{none, also}
 use Rattle.delivery.specs.Run.{start}
 use Rattle.kind.specs.Kinds.{kindOf}
 use Rattle.message.proofs.Fields.{zeros-below}
-use Rattle.story.specs.Captured.{codes, first, script, run, inOrder, papers, Story, Meets}
-use Rattle.story.proofs.Script.{Played, play, plays, quiet-start}
+use Rattle.ring.specs.Ring.{live}
+use Rattle.ring.specs.declared.Entry.{Entry}
+use Rattle.story.specs.Captured.{codes, first, script, run, Seen, inOrder, papers, Holds, holds, atLast, ringAtLast, Story, Meets}
+use Rattle.story.proofs.Script.{Played, play, at, plays, quiet-start}
 
 pub meets : Meets
 unfolding kindOf
 meets = (quiet-start codes refl (also (refl, zeros-below 256) (also (refl, zeros-below 256) (also (refl, zeros-below 256) none))), run)
 
-frames-seen : inOrder (play script (record { world = first; frames = [] }) .frames) [] ≡ papers
+-- All that is computed of the whole run, in one pass.
+record Shown : Type 0 where
+  frames : List Seen
+  units : List Holds
+  ring : List Entry
+
+abbrev shownBy : Played → Shown
+shownBy p = record { frames = inOrder (p .frames) []; units = map holds (p .world .units); ring = live (p .world .controller .ring) }
+
+shown : shownBy (play script (record { world = first; frames = [] })) ≡ record { frames = papers; units = atLast; ring = ringAtLast }
 unfolding kindOf
-frames-seen = refl
+shown = refl
 
 pub story : Story
 unfolding kindOf
-story = record {
-  frames = ap (λ (p : Played). inOrder (p .frames) []) (plays script {w = first} start) ∙ frames-seen;
-  read = refl;
-  reset = refl;
-  at-last = refl;
-  ring = refl;
-}
+story =
+    let whole : shownBy (at run) ≡ record { frames = papers; units = atLast; ring = ringAtLast } = ap shownBy (plays script {w = first} start) ∙ shown in
+    record {
+      frames = ap (λ (x : Shown). x .frames) whole;
+      read = refl;
+      reset = refl;
+      at-last = ap (λ (x : Shown). x .units) whole;
+      ring = ap (λ (x : Shown). x .ring) whole;
+    }

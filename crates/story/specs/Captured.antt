@@ -18,6 +18,7 @@ use Rattle.inside.specs.Calls.{feeds, raises}
 use Rattle.kind.specs.Kinds.{kindOf}
 use Rattle.queue.specs.Queue.{contents}
 use Rattle.ring.specs.Ring.{live, entryOf}
+use Rattle.ring.specs.declared.Entry.{Entry}
 use Rattle.serial.specs.declared.Mode.the-variants.{Update}
 use Rattle.serial.specs.declared.Opening.{Opening}
 use Rattle.serial.specs.declared.Opening.the-variants.{Closed, OpenFor}
@@ -172,13 +173,22 @@ abbrev pub isOpen : List ℕ → Holds
 isOpen queued = record { opening = OpenFor Update 80; enabled = false; requesting = false; input = queued; output = [] }
 
 -- Behind the read the byte that was fed in mid-answer is queued, and 20 still holds its own. The reset leaves every unit as a new one. At last
--- the two bytes stand in the output queue, none of the 257 does, and the second request is held.
-abbrev pub atLast : Holds
-atLast = record { opening = OpenFor Update 80; enabled = true; requesting = true; input = []; output = 0x41 ∷ 0x42 ∷ [] }
+-- the two bytes stand in the output queue, none of the 257 does, and the second request is held. The first is unacknowledged.
+abbrev pub afterRead : List Holds
+afterRead = isOpen (0x55 ∷ []) ∷ isOpen (0x44 ∷ []) ∷ isNew ∷ []
+
+abbrev pub afterReset : List Holds
+afterReset = isNew ∷ isNew ∷ isNew ∷ []
+
+abbrev pub atLast : List Holds
+atLast = isNew ∷ record { opening = OpenFor Update 80; enabled = true; requesting = true; input = []; output = 0x41 ∷ 0x42 ∷ [] } ∷ isNew ∷ []
+
+abbrev pub ringAtLast : List Entry
+ringAtLast = entryOf 21 true ∷ []
 
 pub record Story : Type 0 where
   pub frames : inOrder (framesOf (log run)) [] ≡ papers
-  pub read : map holds (after reading first .units) ≡ isOpen (0x55 ∷ []) ∷ isOpen (0x44 ∷ []) ∷ isNew ∷ []
-  pub reset : map holds (after (reading ++ resetting) first .units) ≡ isNew ∷ isNew ∷ isNew ∷ []
-  pub at-last : map holds (last .units) ≡ isNew ∷ atLast ∷ isNew ∷ []
-  pub ring : live (last .controller .ring) ≡ entryOf 21 true ∷ []
+  pub read : map holds (after reading first .units) ≡ afterRead
+  pub reset : map holds (after (reading ++ resetting) first .units) ≡ afterReset
+  pub at-last : map holds (last .units) ≡ atLast
+  pub ring : live (last .controller .ring) ≡ ringAtLast
