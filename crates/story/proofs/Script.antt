@@ -9,7 +9,7 @@ use lib.Dec.{eqb}
 use Rattle.bus.specs.Bus.{newStation}
 use Rattle.bus.specs.declared.Station.{Station}
 use Rattle.delivery.proofs.Logs.{cut-append}
-use Rattle.delivery.specs.Calls.{called}
+use Rattle.delivery.specs.Calls.{Call, called}
 use Rattle.delivery.specs.Lists.{All, none, also}
 use Rattle.delivery.specs.Log.{roundMarks, callMarks, log, Capture, cutAll, framesOf}
 use Rattle.delivery.specs.Run.{New, QuietStart, Run, start, a-round, a-call}
@@ -53,7 +53,7 @@ plays (calls call ∷ script) {w} {v} r =
     ∙ ap (λ (ls : List Capture). play script (record { world = called v call; frames = ls })) (cut-append [] (log r) (callMarks v call))
 
 -- The controller's calls.
-abbrev pub movesRounds : ℕ → Busy → World → List Move → List Move
+abbrev movesRounds : ℕ → Busy → World → List Move → List Move
 movesRounds zero busy w ms = ms
 movesRounds (suc n) busy w ms = moveOf w busy ∷ movesRounds n busy (round w busy) ms
 
@@ -70,6 +70,35 @@ pub moves-on : (script : List Doing) {w v : World} (r : Run w v) → movesOf (ru
 moves-on [] r = refl
 moves-on (rounds n busy ∷ script) {w} {v} r = moves-on script (runRounds n busy r) ∙ moves-rounds n busy r (movesIn script (afterRounds n busy v))
 moves-on (calls call ∷ script) r = moves-on script (a-call r call)
+
+-- The world and the calls together.
+pub record Went : Type 0 where
+  pub world : World
+  pub moves : List Move
+
+abbrev pub noted : Move → Went → Went
+noted m p = record { world = p .world; moves = m ∷ p .moves }
+
+abbrev pub also-called : Call → Went → Went
+also-called call p = record { world = p .world; moves = callOf call (p .moves) }
+
+abbrev pub goRounds : ℕ → Busy → World → (World → Went) → Went
+goRounds zero busy w then = then w
+goRounds (suc n) busy w then = noted (moveOf w busy) (goRounds n busy (round w busy) then)
+
+abbrev pub go : List Doing → World → Went
+go [] w = record { world = w; moves = [] }
+go (rounds n busy ∷ script) w = goRounds n busy w (go script)
+go (calls call ∷ script) w = also-called call (go script (called w call))
+
+goes-rounds : (n : ℕ) (busy : Busy) (w : World) (then : World → Went) → goRounds n busy w then ≡ record { world = then (afterRounds n busy w) .world; moves = movesRounds n busy w (then (afterRounds n busy w) .moves) }
+goes-rounds zero busy w then = refl
+goes-rounds (suc n) busy w then = ap (noted (moveOf w busy)) (goes-rounds n busy (round w busy) then)
+
+pub goes : (script : List Doing) (w : World) → go script w ≡ record { world = after script w; moves = movesIn script w }
+goes [] w = refl
+goes (rounds n busy ∷ script) w = goes-rounds n busy w (go script) ∙ ap (λ (p : Went). record { world = p .world; moves = movesRounds n busy w (p .moves) }) (goes script (afterRounds n busy w))
+goes (calls call ∷ script) w = ap (also-called call) (goes script (called w call))
 
 -- A quiet start: no code is 0, and all differ.
 abbrev pub isOther : ℕ → List ℕ → Bool

@@ -28,8 +28,8 @@ use Rattle.polling.specs.History.{since, anyFor}
 use Rattle.polling.specs.Moves.{Move, after as afterMove, afterAll, begins, isBegun, services, ahead, inRing, isFor, Without, Spared, so-far, spared}
 use Rattle.ring.specs.Ring.{none as no-entry, live, isMarked}
 use Rattle.story.specs.Script.{quietBus, Doing, rounds, calls, after, afterRounds, runRounds, runOn, both}
-use Rattle.story.specs.Turns.{codes, joining, raised, unplugged, onTheWay, itsTurn, before, front, rest, Turn, turnsNow, turnsIn, Seen, seenOf, papers, Reached, BothReached, Met}
-use Rattle.story.proofs.Script.{not-true, movesIn, moves-on, quiet-start}
+use Rattle.story.specs.Turns.{codes, joining, raised, without21, unplugged, onTheWay, itsTurn, before, front, rest, Turn, turnsNow, turnsIn, Seen, seenOf, papers, Reached, BothReached, Met}
+use Rattle.story.proofs.Script.{not-true, movesIn, moves-on, Went, go, goes, quiet-start}
 
 -- With two ahead and three begun there are enough.
 third : (k n : ℕ) → k ≡ 2 → n ≡ 3 → suc k ≤ n
@@ -79,35 +79,35 @@ are-spared own c (m ∷ ms) e =
     let t = both (not (anyFor own (running (c .stage)))) (isSpared own (afterMove c m) ms) e in
     spared (without own (running (c .stage)) (t .0)) (are-spared own (afterMove c m) ms (t .1))
 
--- All that is computed of a run, in one pass.
+-- What is computed of a run.
 record Shown : Type 0 where
   seen : Seen
   is-spared : Bool
 
-abbrev shownOf : ℕ → List Move → List Move → List Move → Shown
-shownOf own past way turn = record { seen = seenOf own past way turn; is-spared = isSpared own (since 8 past) (way ++ turn) }
+abbrev shownOf : List Move → List Move → List Move → Shown
+shownOf past way turn = record { seen = seenOf 22 past way turn; is-spared = isSpared 22 (since 8 past) (way ++ turn) }
 
 abbrev Shows : World → ℕ → ℕ → Type 0
-Shows w n status = shownOf 22 before (front w n) (rest w n) ≡ record { seen = papers status; is-spared = true }
+Shows w n status = shownOf before (front w n) (rest w n) ≡ record { seen = papers status; is-spared = true }
 
--- The calls, played.
-abbrev Plays : World → ℕ → ℕ → Type 0
-Plays w n status = shownOf 22 (movesIn joining (quietBus codes)) (movesIn (onTheWay n) w) (movesIn itsTurn (after (onTheWay n) w)) ≡ record { seen = papers status; is-spared = true }
+-- The same, played: from the calls up to that moment, the world, and the rounds of the poll.
+abbrev shownThen : List Move → List Move → Went → Shown
+shownThen past way q = shownOf past way (q .moves)
 
-shows-by : (w : World) (n status : ℕ) → Plays w n status → Shows w n status
-shows-by w n status e =
-    ap (λ (past : List Move). shownOf 22 past (front w n) (rest w n)) (moves-on joining {w = quietBus codes} start)
-    ∙ ap (λ (way : List Move). shownOf 22 (movesIn joining (quietBus codes)) way (rest w n)) (moves-on (onTheWay n) {w = w} start)
-    ∙ ap (λ (turn : List Move). shownOf 22 (movesIn joining (quietBus codes)) (movesIn (onTheWay n) w) turn) (moves-on itsTurn {w = after (onTheWay n) w} start)
-    ∙ e
+abbrev shownOn : List Move → Went → Shown
+shownOn past p = shownThen past (p .moves) (go itsTurn (p .world))
 
-plays-answered : Plays raised 100 0x0A
-unfolding kindOf
-plays-answered = refl
+abbrev shownFrom : List Move → ℕ → World → Shown
+shownFrom past n w = shownOn past (go (onTheWay n) w)
 
-plays-timed-out : Plays unplugged 67 0xFF
-unfolding kindOf
-plays-timed-out = refl
+shown-from : (w : World) (n : ℕ) → shownFrom (movesIn joining (quietBus codes)) n w ≡ shownOf before (front w n) (rest w n)
+shown-from w n =
+    let past = movesIn joining (quietBus codes) in
+    ap (shownOn past) (goes (onTheWay n) w)
+    ∙ ap (shownThen past (movesIn (onTheWay n) w)) (goes itsTurn (after (onTheWay n) w))
+    ∙ ap (λ (way : List Move). shownOf past way (movesIn itsTurn (after (onTheWay n) w))) (sym (moves-on (onTheWay n) {w = w} start))
+    ∙ ap (λ (turn : List Move). shownOf past (front w n) turn) (sym (moves-on itsTurn {w = after (onTheWay n) w} start))
+    ∙ ap (λ (earlier : List Move). shownOf earlier (front w n) (rest w n)) (sym (moves-on joining {w = quietBus codes} start))
 
 two-on-the-way : (w : World) (n status : ℕ) → Shows w n status → services (since 8 before) (front w n) ≡ 2
 two-on-the-way w n status e = turns-counted (since 8 before) (front w n) ∙ ap (λ (x : Shown). length (x .seen .turns)) e
@@ -125,9 +125,6 @@ reaches w n status e = record {
   where
     enough : (c : Controller) (a b : List Move) → ahead 22 c ≡ 2 → services c a ≡ 2 → services (afterAll c a) b ≡ 1 → suc (ahead 22 c) ≤ services c (a ++ b)
     enough c a b k x y = let all = services-append c a b in omega arith
-
-pub both-reached : BothReached
-both-reached = (reaches raised 100 0x0A (shows-by raised 100 0x0A plays-answered), reaches unplugged 67 0xFF (shows-by unplugged 67 0xFF plays-timed-out))
 
 -- The premises of the chain, tested unit by unit and round by round.
 abbrev isOn : ℕ → List Station → Bool
@@ -162,52 +159,80 @@ harmless own (f ∷ fs) e =
     let t = both (not (isFor own f)) (not (eqb (f .command .command) 0xFF)) e in
     (not-true (isFor own f) (t .0), not-true (eqb (f .command .command) 0xFF) (t .1))
 
-abbrev calmRounds : ℕ → ℕ → Busy → World → Bool
-calmRounds own zero busy w = true
-calmRounds own (suc n) busy w = isHarmless own (running (w .controller .stage)) && calmRounds own n busy (round w busy)
+-- Calm in these rounds and calls, and then as `then` says of the world.
+abbrev calmRounds : ℕ → ℕ → Busy → (World → Bool) → World → Bool
+calmRounds own zero busy then w = then w
+calmRounds own (suc n) busy then w = isHarmless own (running (w .controller .stage)) && calmRounds own n busy then (round w busy)
 
-abbrev isCalm : ℕ → List Doing → World → Bool
-isCalm own [] w = true
-isCalm own (rounds n busy ∷ script) w = calmRounds own n busy w && isCalm own script (afterRounds n busy w)
-isCalm own (calls call ∷ script) w = isHarmless own (running (w .controller .stage)) && isCalm own script (called w call)
+abbrev isCalm : ℕ → List Doing → (World → Bool) → World → Bool
+isCalm own [] then w = then w
+isCalm own (rounds n busy ∷ script) then w = calmRounds own n busy (isCalm own script then) w
+isCalm own (calls call ∷ script) then w = isHarmless own (running (w .controller .stage)) && isCalm own script then (called w call)
 
-calm-rounds : (own n : ℕ) (busy : Busy) {v u : World} (r : Run v u) → Calm own r → calmRounds own n busy u ≡ true → Calm own (runRounds n busy r)
-calm-rounds own zero busy r c e = c
-calm-rounds own (suc n) busy {v} {u} r c e =
-    let t = both (isHarmless own (running (u .controller .stage))) (calmRounds own n busy (round u busy)) e in
-    calm-rounds own n busy (a-round r busy) (c, harmless own (running (u .controller .stage)) (t .0)) (t .1)
+calm-rounds : (own n : ℕ) (busy : Busy) (then : World → Bool) {v u : World} (r : Run v u) → Calm own r → calmRounds own n busy then u ≡ true → Calm own (runRounds n busy r) × (then (afterRounds n busy u) ≡ true)
+calm-rounds own zero busy then r c e = (c, e)
+calm-rounds own (suc n) busy then {v} {u} r c e =
+    let t = both (isHarmless own (running (u .controller .stage))) (calmRounds own n busy then (round u busy)) e in
+    calm-rounds own n busy then (a-round r busy) (c, harmless own (running (u .controller .stage)) (t .0)) (t .1)
 
-calm-on : (own : ℕ) (script : List Doing) {v u : World} (r : Run v u) → Calm own r → isCalm own script u ≡ true → Calm own (runOn script r)
-calm-on own [] r c e = c
-calm-on own (rounds n busy ∷ script) {v} {u} r c e =
-    let t = both (calmRounds own n busy u) (isCalm own script (afterRounds n busy u)) e in
-    calm-on own script (runRounds n busy r) (calm-rounds own n busy r c (t .0)) (t .1)
-calm-on own (calls call ∷ script) {v} {u} r c e =
-    let t = both (isHarmless own (running (u .controller .stage))) (isCalm own script (called u call)) e in
-    calm-on own script (a-call r call) (c, harmless own (running (u .controller .stage)) (t .0)) (t .1)
+calm-on : (own : ℕ) (script : List Doing) (then : World → Bool) {v u : World} (r : Run v u) → Calm own r → isCalm own script then u ≡ true → Calm own (runOn script r) × (then (after script u) ≡ true)
+calm-on own [] then r c e = (c, e)
+calm-on own (rounds n busy ∷ script) then {v} {u} r c e =
+    let t = calm-rounds own n busy (isCalm own script then) r c e in
+    calm-on own script then (runRounds n busy r) (t .0) (t .1)
+calm-on own (calls call ∷ script) then {v} {u} r c e =
+    let t = both (isHarmless own (running (u .controller .stage))) (isCalm own script then (called u call)) e in
+    calm-on own script then (a-call r call) (c, harmless own (running (u .controller .stage)) (t .0)) (t .1)
 
--- All that is computed of the bus, in one pass.
+abbrev isOver : World → Bool
+isOver w = not (inFrame (w .controller .stage))
+
+-- All that is computed, in one pass up to that moment.
 record Tested : Type 0 where
+  answered : Shown
+  timed-out : Shown
   is-on-it : Bool
   is-asking : Bool
   is-marked : Bool
-  calm-way : Bool
-  calm-turn : Bool
-  in-frame : Bool
+  is-calm : Bool
 
-abbrev tested : World → World → Tested
-tested v u = record {
-  is-on-it = isOn 22 (v .units);
-  is-asking = areAsking 22 (v .units);
-  is-marked = isMarked 22 (live (v .controller .ring));
-  calm-way = isCalm 22 (onTheWay 100) v;
-  calm-turn = isCalm 22 itsTurn u;
-  in-frame = inFrame (after itsTurn u .controller .stage);
+abbrev tested : Went → Tested
+tested p = record {
+  answered = shownFrom (p .moves) 100 (p .world);
+  timed-out = shownFrom (p .moves) 67 (without21 (p .world));
+  is-on-it = isOn 22 (p .world .units);
+  is-asking = areAsking 22 (p .world .units);
+  is-marked = isMarked 22 (live (p .world .controller .ring));
+  is-calm = isCalm 22 (onTheWay 100) (isCalm 22 itsTurn isOver) (p .world);
 }
 
-tests : tested raised (after (onTheWay 100) raised) ≡ record { is-on-it = true; is-asking = true; is-marked = false; calm-way = true; calm-turn = true; in-frame = false }
+abbrev passed : Tested
+passed = record {
+  answered = record { seen = papers 0x0A; is-spared = true };
+  timed-out = record { seen = papers 0xFF; is-spared = true };
+  is-on-it = true;
+  is-asking = true;
+  is-marked = false;
+  is-calm = true;
+}
+
+played : tested (go joining (quietBus codes)) ≡ passed
 unfolding kindOf
-tests = refl
+played = refl
+
+tests : tested (record { world = raised; moves = movesIn joining (quietBus codes) }) ≡ passed
+unfolding kindOf
+tests = ap tested (sym (goes joining (quietBus codes))) ∙ played
+
+shows-answered : Shows raised 100 0x0A
+shows-answered = sym (shown-from raised 100) ∙ ap (λ (t : Tested). t .answered) tests
+
+shows-timed-out : Shows unplugged 67 0xFF
+unfolding kindOf
+shows-timed-out = sym (shown-from unplugged 67) ∙ ap (λ (t : Tested). t .timed-out) tests
+
+pub both-reached : BothReached
+both-reached = (reaches raised 100 0x0A shows-answered, reaches unplugged 67 0xFF shows-timed-out)
 
 -- The controller of a run is that behind its calls, and counts their service frames.
 controller-then : (codes : List ℕ) (script : List Doing) → after script (quietBus codes) .controller ≡ since 8 (movesOf (runOn script {w = quietBus codes} start) [])
@@ -231,9 +256,11 @@ pub met : Met
 unfolding kindOf
 met =
     let c = controller-then codes joining in
-    let shown = shows-by raised 100 0x0A plays-answered in
+    let shown = shows-answered in
     let two-ahead : ahead 22 (raised .controller) ≡ 2 = ap (ahead 22) c ∙ ap (λ (x : Shown). x .seen .units-ahead) shown in
     let three = services-on before (onTheWay 100) itsTurn raised 2 1 c (two-on-the-way raised 100 0x0A shown) (one-then raised 100 0x0A shown) in
+    let way = calm-on 22 (onTheWay 100) (isCalm 22 itsTurn isOver) {v = raised} start tt (ap (λ (t : Tested). t .is-calm) tests) in
+    let calm = calm-on 22 itsTurn isOver (runOn (onTheWay 100) {w = raised} start) (way .0) (way .1) in
     record {
       quiet = quiet-start codes refl (also (refl, zeros-below 256) (also (refl, zeros-below 256) (also (refl, zeros-below 256) (also (refl, zeros-below 256) none))));
       run = runOn joining {w = quietBus codes} start;
@@ -242,7 +269,7 @@ met =
       requests = are-asking 22 (raised .units) (ap (λ (t : Tested). t .is-asking) tests);
       in-ring = ap (inRing 22) c ∙ ap (λ (x : Shown). x .seen .in-ring) shown;
       unmarked = ap (λ (t : Tested). t .is-marked) tests;
-      calm = calm-on 22 itsTurn (runOn (onTheWay 100) {w = raised} start) (calm-on 22 (onTheWay 100) {v = raised} start tt (ap (λ (t : Tested). t .calm-way) tests)) (ap (λ (t : Tested). t .calm-turn) tests);
+      calm = calm .0;
       enough = third (ahead 22 (raised .controller)) (services (raised .controller) (movesOf (runOn itsTurn (runOn (onTheWay 100) {w = raised} start)) [])) two-ahead three;
-      over = ap (λ (t : Tested). t .in-frame) tests;
+      over = not-true (inFrame (after itsTurn (after (onTheWay 100) raised) .controller .stage)) (calm .1);
     }

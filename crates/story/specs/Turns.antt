@@ -54,9 +54,12 @@ withoutUnit i [] = []
 withoutUnit zero (st ∷ ss) = ss
 withoutUnit (suc i) (st ∷ ss) = st ∷ withoutUnit i ss
 
+abbrev pub without21 : World → World
+without21 w = record { controller = w .controller; units = withoutUnit 1 (w .units); lent = w .lent; response = w .response }
+
 abbrev pub unplugged : World
 unfolding kindOf
-unplugged = record { controller = raised .controller; units = withoutUnit 1 (raised .units); lent = raised .lent; response = raised .response }
+unplugged = without21 raised
 
 -- The null message; 09 to 20; the poll of 21, which takes 100 rounds with an answer and 67 without; 08 to 23. The turn begins in the next round.
 abbrev pub onTheWay : ℕ → List Doing
