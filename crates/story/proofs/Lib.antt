@@ -1,3 +1,4 @@
 pub mod Script
 pub mod Captured
+pub mod Premises
 pub mod Turns

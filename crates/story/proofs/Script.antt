@@ -3,7 +3,7 @@ use Prim.Native.Nat.{ℕ, zero, suc}
 use native.Mathlib.Omega.{arith}
 use mathlib.Core.Path.{_≡_, refl, sym, _∙_, ap}
 use mathlib.Core.Bool.{Bool, true, false, _&&_, not, false≢true}
-use mathlib.Core.List.{List, [], _∷_, map}
+use mathlib.Core.List.{List, [], _∷_}
 use borrow.Author.Tests.{eq-eqb}
 use lib.Dec.{eqb}
 use Rattle.bus.specs.Bus.{newStation}
@@ -12,7 +12,7 @@ use Rattle.delivery.proofs.Logs.{cut-append}
 use Rattle.delivery.specs.Calls.{Call, called}
 use Rattle.delivery.specs.Lists.{All, none, also}
 use Rattle.delivery.specs.Log.{roundMarks, callMarks, log, Capture, cutAll, framesOf}
-use Rattle.delivery.specs.Run.{New, QuietStart, Run, start, a-round, a-call}
+use Rattle.delivery.specs.Run.{New, QuietStart, Run, a-round, a-call}
 use Rattle.delivery.specs.World.{World, Busy, round, Different, nobody, another}
 use Rattle.inside.specs.Inside.{insideOf}
 use Rattle.inside.specs.Lawful.{Lent}

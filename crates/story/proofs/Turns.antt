@@ -1,35 +1,30 @@
 -- The bound reached, computed, and that the runs meet the premises of the turn and of the chain.
-use Prim.Native.Nat.{ℕ, zero, suc, _+_, _≤_}
+use Prim.Native.Nat.{ℕ, suc, _+_, _≤_}
 use native.Mathlib.Omega.{arith}
-use mathlib.Core.Path.{_≡_, refl, sym, _∙_, ap, subst}
-use mathlib.Core.Bool.{Bool, true, false, cond, _&&_, _||_, not, false≢true, true≢false}
+use mathlib.Core.Path.{_≡_, refl, sym, _∙_, ap}
+use mathlib.Core.Bool.{Bool, true, false, _&&_, not}
 use mathlib.Core.List.{List, [], _∷_, _++_}
-use borrow.Author.Tests.{eqb-true, eq-eqb}
-use lib.Dec.{eqb}
-use lib.ListN.{length, getD}
-use lib.ListN.{length-append}
-use Rattle.bus.specs.declared.Station.{Station}
+use lib.ListN.{length, getD, length-append}
 use Rattle.controller.specs.Controller.{isIdle}
 use Rattle.controller.specs.declared.Controller.{Controller}
-use Rattle.delivery.specs.Calls.{called, inFrame, running}
-use Rattle.delivery.specs.Lists.{All, none, also}
-use Rattle.delivery.specs.Run.{QuietStart, Run, start, a-round, a-call}
-use Rattle.delivery.specs.World.{World, Busy, round}
+use Rattle.delivery.specs.Calls.{inFrame, running}
+use Rattle.delivery.specs.Lists.{none, also}
+use Rattle.delivery.specs.Run.{start}
+use Rattle.delivery.specs.World.{World}
 use Rattle.frame.specs.declared.Frame.{Frame}
-use Rattle.inside.specs.Inside.{insideOf, hasRequest}
 use Rattle.kind.specs.Kinds.{kindOf}
 use Rattle.message.proofs.Fields.{zeros-below}
 use Rattle.polling.proofs.Chain.{services-then}
-use Rattle.polling.proofs.OnTheBus.{run-moves, made}
+use Rattle.polling.proofs.OnTheBus.{run-moves}
 use Rattle.polling.proofs.Turns.{none-counted, one-counted}
 use Rattle.polling.specs.BusMoves.{movesOf}
-use Rattle.polling.specs.Chain.{HasCode, it-has, later, Requests, Harmless, Calm}
-use Rattle.polling.specs.History.{since, anyFor}
-use Rattle.polling.specs.Moves.{Move, after as afterMove, afterAll, begins, isBegun, services, ahead, inRing, isFor, Without, Spared, so-far, spared}
+use Rattle.polling.specs.History.{since}
+use Rattle.polling.specs.Moves.{Move, after as afterMove, afterAll, begins, isBegun, services, ahead, inRing}
 use Rattle.ring.specs.Ring.{none as no-entry, live, isMarked}
-use Rattle.story.specs.Script.{quietBus, Doing, rounds, calls, after, afterRounds, runRounds, runOn, both}
-use Rattle.story.specs.Turns.{codes, joining, raised, without21, unplugged, onTheWay, itsTurn, before, front, rest, Turn, turnsNow, turnsIn, Seen, seenOf, papers, Reached, BothReached, Met}
+use Rattle.story.specs.Script.{quietBus, Doing, after, runOn}
+use Rattle.story.specs.Turns.{codes, joining, raised, unplugging, unplugged, onTheWay, itsTurn, before, front, rest, turnsNow, turnsIn, Seen, seenOf, papers, Reached, BothReached, Met}
 use Rattle.story.proofs.Script.{not-true, movesIn, moves-on, Went, go, goes, quiet-start}
+use Rattle.story.proofs.Premises.{isSpared, are-spared, isOn, is-on, areAsking, are-asking, isCalm, calm-on}
 
 -- With two ahead and three begun there are enough.
 third : (k n : ℕ) → k ≡ 2 → n ≡ 3 → suc k ≤ n
@@ -63,21 +58,6 @@ counted-now c m a b k false e h = let x = none-counted c m a e in let y = none-c
 services-append : (c : Controller) (a b : List Move) → services c (a ++ b) ≡ services c a + services (afterAll c a) b
 services-append c [] b = omega arith
 services-append c (m ∷ a) b = counted-now c m a (a ++ b) (services (afterAll (afterMove c m) a) b) (begins c m) refl (services-append (afterMove c m) a b)
-
--- No disable or close goes to the unit, tested call by call.
-abbrev isSpared : ℕ → Controller → List Move → Bool
-isSpared own c [] = true
-isSpared own c (m ∷ ms) = not (anyFor own (running (c .stage))) && isSpared own (afterMove c m) ms
-
-without : (own : ℕ) (fs : List Frame) → not (anyFor own fs) ≡ true → Without own fs
-without own [] e = tt
-without own (f ∷ fs) e = not-true (isFor own f) e
-
-are-spared : (own : ℕ) (c : Controller) (ms : List Move) → isSpared own c ms ≡ true → Spared own c ms
-are-spared own c [] e = so-far
-are-spared own c (m ∷ ms) e =
-    let t = both (not (anyFor own (running (c .stage)))) (isSpared own (afterMove c m) ms) e in
-    spared (without own (running (c .stage)) (t .0)) (are-spared own (afterMove c m) ms (t .1))
 
 -- What is computed of a run.
 record Shown : Type 0 where
@@ -126,64 +106,6 @@ reaches w n status e = record {
     enough : (c : Controller) (a b : List Move) → ahead 22 c ≡ 2 → services c a ≡ 2 → services (afterAll c a) b ≡ 1 → suc (ahead 22 c) ≤ services c (a ++ b)
     enough c a b k x y = let all = services-append c a b in omega arith
 
--- The premises of the chain, tested unit by unit and round by round.
-abbrev isOn : ℕ → List Station → Bool
-isOn own [] = false
-isOn own (st ∷ ss) = eqb (st .unit .own) own || isOn own ss
-
-is-on : (own : ℕ) (ss : List Station) → isOn own ss ≡ true → HasCode own ss
-is-on own [] e = absurd (false≢true e)
-is-on own (st ∷ ss) e = by (eqb (st .unit .own) own) refl e (is-on own ss)
-  where
-    by : (t : Bool) → eqb (st .unit .own) own ≡ t → (t || isOn own ss) ≡ true → (isOn own ss ≡ true → HasCode own ss) → HasCode own (st ∷ ss)
-    by true t e more = it-has (eqb-true (st .unit .own) own t)
-    by false t e more = later (more e)
-
-abbrev areAsking : ℕ → List Station → Bool
-areAsking own [] = true
-areAsking own (st ∷ ss) = (not (eqb (st .unit .own) own) || hasRequest (insideOf st)) && areAsking own ss
-
-are-asking : (own : ℕ) (ss : List Station) → areAsking own ss ≡ true → All (Requests own) ss
-are-asking own [] e = none
-are-asking own (st ∷ ss) e =
-    let t = both (not (eqb (st .unit .own) own) || hasRequest (insideOf st)) (areAsking own ss) e in
-    also (λ (same : st .unit .own ≡ own). sym (ap (λ (b : Bool). not b || hasRequest (insideOf st)) (eq-eqb (st .unit .own) own same)) ∙ t .0) (are-asking own ss (t .1))
-
-abbrev isHarmless : ℕ → List Frame → Bool
-isHarmless own [] = true
-isHarmless own (f ∷ fs) = not (isFor own f) && not (eqb (f .command .command) 0xFF)
-
-harmless : (own : ℕ) (fs : List Frame) → isHarmless own fs ≡ true → Harmless own fs
-harmless own [] e = tt
-harmless own (f ∷ fs) e =
-    let t = both (not (isFor own f)) (not (eqb (f .command .command) 0xFF)) e in
-    (not-true (isFor own f) (t .0), not-true (eqb (f .command .command) 0xFF) (t .1))
-
--- Calm in these rounds and calls, and then as `then` says of the world.
-abbrev calmRounds : ℕ → ℕ → Busy → (World → Bool) → World → Bool
-calmRounds own zero busy then w = then w
-calmRounds own (suc n) busy then w = isHarmless own (running (w .controller .stage)) && calmRounds own n busy then (round w busy)
-
-abbrev isCalm : ℕ → List Doing → (World → Bool) → World → Bool
-isCalm own [] then w = then w
-isCalm own (rounds n busy ∷ script) then w = calmRounds own n busy (isCalm own script then) w
-isCalm own (calls call ∷ script) then w = isHarmless own (running (w .controller .stage)) && isCalm own script then (called w call)
-
-calm-rounds : (own n : ℕ) (busy : Busy) (then : World → Bool) {v u : World} (r : Run v u) → Calm own r → calmRounds own n busy then u ≡ true → Calm own (runRounds n busy r) × (then (afterRounds n busy u) ≡ true)
-calm-rounds own zero busy then r c e = (c, e)
-calm-rounds own (suc n) busy then {v} {u} r c e =
-    let t = both (isHarmless own (running (u .controller .stage))) (calmRounds own n busy then (round u busy)) e in
-    calm-rounds own n busy then (a-round r busy) (c, harmless own (running (u .controller .stage)) (t .0)) (t .1)
-
-calm-on : (own : ℕ) (script : List Doing) (then : World → Bool) {v u : World} (r : Run v u) → Calm own r → isCalm own script then u ≡ true → Calm own (runOn script r) × (then (after script u) ≡ true)
-calm-on own [] then r c e = (c, e)
-calm-on own (rounds n busy ∷ script) then {v} {u} r c e =
-    let t = calm-rounds own n busy (isCalm own script then) r c e in
-    calm-on own script then (runRounds n busy r) (t .0) (t .1)
-calm-on own (calls call ∷ script) then {v} {u} r c e =
-    let t = both (isHarmless own (running (u .controller .stage))) (isCalm own script then (called u call)) e in
-    calm-on own script then (a-call r call) (c, harmless own (running (u .controller .stage)) (t .0)) (t .1)
-
 abbrev isOver : World → Bool
 isOver w = not (inFrame (w .controller .stage))
 
@@ -199,7 +121,7 @@ record Tested : Type 0 where
 abbrev tested : Went → Tested
 tested p = record {
   answered = shownFrom (p .moves) 100 (p .world);
-  timed-out = shownFrom (p .moves) 67 (without21 (p .world));
+  timed-out = shownFrom (p .moves) 67 (unplugging (p .world));
   is-on-it = isOn 22 (p .world .units);
   is-asking = areAsking 22 (p .world .units);
   is-marked = isMarked 22 (live (p .world .controller .ring));

@@ -35,10 +35,11 @@ first = quietBus codes
 abbrev pub busily : Busy
 busily = record { here = true; there = 7 }
 
--- The run in three parts: up to the read, in whose answer a byte is fed; the reset; and the rest. 99 is a code that no unit has.
+-- The host of the unit at place i feeds a byte.
 abbrev pub feedsTo : (i b : ℕ) → b < 256 → Doing
 feedsTo i b h = calls (host i (feeds b h))
 
+-- The run in three parts: up to the read, in whose answer a byte is fed; the reset; and the rest. 99 is a code that no unit has.
 abbrev pub reading : List Doing
 reading =
     opens 20 refl ∷ rounds 160 quietly ∷ feedsTo 0 0x55 (lit< tt)
@@ -75,14 +76,16 @@ run = runOn script start
 abbrev pub Meets : Type 0
 Meets = QuietStart first × Run first last
 
--- What is seen of a frame: its device and command code; how many nibbles each of the three units takes, and how many it sends; how many
--- nibbles of the answer are sent at each call of a unit's host; and what the application is told, with the response buffer.
+-- What is seen of a frame.
 pub record Seen : Type 0 where
   pub device : ℕ
   pub command : ℕ
+  -- How many nibbles each of the three units takes, and how many it sends.
   pub taken : List ℕ
   pub given : List ℕ
+  -- At each call of a unit's host: how many nibbles of the answer are sent by then.
   pub asked : List ℕ
+  -- What the application is told, with the response buffer.
   pub ends : List Act
 
 abbrev pub takenIn : List Deed → ℕ

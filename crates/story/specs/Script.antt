@@ -1,5 +1,5 @@
 -- Scripts for demand 2's bus: rounds and calls, one after the other. A script leads from a world to another, and is a run between them.
-use Prim.Native.Nat.{ℕ, zero, suc, _<_}
+use Prim.Native.Nat.{ℕ, zero, suc}
 use mathlib.Core.Path.{_≡_}
 use mathlib.Core.Bool.{Bool, true, false, _&&_, false≢true}
 use mathlib.Core.List.{List, [], _∷_, map}

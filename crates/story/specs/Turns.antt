@@ -54,12 +54,12 @@ withoutUnit i [] = []
 withoutUnit zero (st ∷ ss) = ss
 withoutUnit (suc i) (st ∷ ss) = st ∷ withoutUnit i ss
 
-abbrev pub without21 : World → World
-without21 w = record { controller = w .controller; units = withoutUnit 1 (w .units); lent = w .lent; response = w .response }
+abbrev pub unplugging : World → World
+unplugging w = record { controller = w .controller; units = withoutUnit 1 (w .units); lent = w .lent; response = w .response }
 
 abbrev pub unplugged : World
 unfolding kindOf
-unplugged = without21 raised
+unplugged = unplugging raised
 
 -- The null message; 09 to 20; the poll of 21, which takes 100 rounds with an answer and 67 without; 08 to 23. The turn begins in the next round.
 abbrev pub onTheWay : ℕ → List Doing
@@ -114,13 +114,15 @@ abbrev pub endsIn : Controller → List Move → List Ended
 endsIn c [] = []
 endsIn c (m ∷ ms) = endedNow c m ++ endsIn (afterMove c m) ms
 
--- What is seen of the unit: its place at first; whose turns the service frames on the way are, and which frames end there; the frame that
--- demand 3 says its turn has; and its turn.
+-- What is seen of a unit.
 pub record Seen : Type 0 where
+  -- At first: whether it is in the ring, and how many are ahead of it.
   pub in-ring : Bool
   pub units-ahead : ℕ
+  -- On the way: the service frames that begin, and the frames that end.
   pub turns : List Turn
   pub ends : List Ended
+  -- The frame that its turn is to have, by demand 3; and its turn.
   pub turn-frame : Frame
   pub its-turn : List Turn
   pub its-end : List Ended
