@@ -20,6 +20,7 @@ use Rattle.message.specs.Answer.{gives}
 use Rattle.ring.specs.Ring.{counted, live, isMarked}
 use Rattle.ring.specs.declared.Entry.{Entry}
 use Rattle.turn.specs.declared.Event.the-variants.{Nothing, Handed}
+use Rattle.unit.specs.Unit.{pullsOf}
 use Rattle.polling.specs.BusMoves.{moveOf}
 use Rattle.polling.specs.Demand3.{turnFrame}
 use Rattle.polling.specs.History.{since, isPending}
@@ -79,7 +80,7 @@ BusStarts =
     → QuietStart w
     → Run w v
     → Has st (v .units)
-    → st .unit .asking ≡ true
+    → pullsOf (st .unit) .bav ≡ true
     → isIdle (v .controller .stage) ≡ true
     → 0 < counted (v .controller .ring)
     → (busy : Busy)

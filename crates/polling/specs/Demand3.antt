@@ -21,6 +21,7 @@ use Rattle.message.specs.Nibbles.{nibbleIn}
 use Rattle.ring.specs.Ring.{counted}
 use Rattle.turn.specs.declared.Event.{Event}
 use Rattle.turn.specs.declared.Event.the-variants.{Ended, Handed}
+use Rattle.unit.specs.Unit.{pullsOf}
 use Rattle.unit.specs.declared.Unit.{Unit}
 use Rattle.polling.specs.History.{since, isPending, isEnabling}
 use Rattle.polling.specs.Moves.{Move, steps, after, begins, services, ahead, inRing, Spared, eventOf, Stays}
@@ -42,29 +43,29 @@ abbrev pub RequestStands : Type 0
 RequestStands = (u : Unit) (m : UnitMove) → u .serial .requesting ≡ true → Stands u m
 
 -- "and pulls BAV, as document 01 says": "an idle peripheral that is enabled and holds a request pulls BAV once BAV has been seen high for the
--- retry count of rounds in a row, the present one included, counted with or without a request." With BAV high it is idle; `asking` is its pull.
+-- retry count of rounds in a row, the present one included, counted with or without a request." With BAV high it is idle.
 abbrev pub PullsBav : Type 0
 PullsBav =
     (own retry : ℕ) (ms : List UnitMove) (seen : Lines) (busy : Bool) (buffer input : List ℕ)
     → let u = unitSince own retry ms in
-    isSeen own seen buffer ≡ true → seen .bav ≡ false → u .asking ≡ false → u .serial .enabled ≡ true → u .serial .requesting ≡ true
-    → moved u (unitSteps seen busy buffer input) .asking ≡ leb retry (suc (rowOf own 0 ms))
+    isSeen own seen buffer ≡ true → seen .bav ≡ false → pullsOf u .bav ≡ false → u .serial .enabled ≡ true → u .serial .requesting ≡ true
+    → pullsOf (moved u (unitSteps seen busy buffer input)) .bav ≡ leb retry (suc (rowOf own 0 ms))
 
 -- "It releases it at the first HSK low it sees in a later round."
 abbrev pub HoldsBav : Type 0
 HoldsBav =
     (u : Unit) (seen : Lines) (busy : Bool) (buffer input : List ℕ)
-    → isSeen (u .own) seen buffer ≡ true → u .asking ≡ true → moved u (unitSteps seen busy buffer input) .asking ≡ not (seen .hsk)
+    → isSeen (u .own) seen buffer ≡ true → pullsOf u .bav ≡ true → pullsOf (moved u (unitSteps seen busy buffer input)) .bav ≡ not (seen .hsk)
 
 -- It pulls BAV for a request alone, and only while it is enabled;
 abbrev pub PullsForIt : Type 0
-PullsForIt = (own retry : ℕ) (ms : List UnitMove) → let u = unitSince own retry ms in u .asking ≡ true → (u .serial .enabled ≡ true) × (u .serial .requesting ≡ true)
+PullsForIt = (own retry : ℕ) (ms : List UnitMove) → let u = unitSince own retry ms in pullsOf u .bav ≡ true → (u .serial .enabled ≡ true) × (u .serial .requesting ≡ true)
 
 -- and it begins only in a step that sees BAV high and fills its row.
 abbrev pub PullsNotBefore : Type 0
 PullsNotBefore =
     (own retry : ℕ) (ms : List UnitMove) (m : UnitMove)
-    → let u = unitSince own retry ms in u .asking ≡ false → moved u m .asking ≡ true → Fills own retry (rowOf own 0 ms) m
+    → let u = unitSince own retry ms in pullsOf u .bav ≡ false → pullsOf (moved u m) .bav ≡ true → Fills own retry (rowOf own 0 ms) m
 
 -- "An idle controller that sees BAV low begins a service frame": in that very step. A refused step sees nothing; the ring is not empty.
 abbrev pub Starts : Type 0

@@ -1,18 +1,21 @@
 -- The story computed, frame by frame, and that it is a run from a quiet start.
 use mathlib.Core.Path.{_≡_, refl, _∙_, ap}
 use mathlib.Core.List.{List, [], map}
+use Rattle.delivery.proofs.Demand2.{demand-2}
 use Rattle.delivery.specs.Lists.{none, also}
 use Rattle.delivery.specs.Run.{start}
 use Rattle.kind.specs.Kinds.{kindOf}
 use Rattle.message.proofs.Fields.{zeros-below}
 use Rattle.ring.specs.Ring.{live}
 use Rattle.ring.specs.declared.Entry.{Entry}
-use Rattle.story.specs.Captured.{codes, first, script, run, Seen, inOrder, papers, Holds, holds, atLast, ringAtLast, Story, Meets}
+use Rattle.story.specs.Captured.{codes, first, script, last, run, Seen, inOrder, papers, Holds, holds, atLast, ringAtLast, Story, Meets}
 use Rattle.story.proofs.Script.{Played, play, at, plays, quiet-start}
 
 pub meets : Meets
 unfolding kindOf
-meets = (quiet-start codes refl (also (refl, zeros-below 256) (also (refl, zeros-below 256) (also (refl, zeros-below 256) none))), run)
+meets =
+    let quiet = quiet-start codes refl (also (refl, zeros-below 256) (also (refl, zeros-below 256) (also (refl, zeros-below 256) none))) in
+    (quiet, demand-2 first last quiet run)
 
 -- All that is computed of the whole run, in one pass.
 record Shown : Type 0 where

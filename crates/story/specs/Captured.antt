@@ -10,6 +10,7 @@ use lib.Dec.{lit<}
 use lib.ListN.{replicate}
 use Rattle.bus.specs.declared.Station.{Station}
 use Rattle.delivery.specs.Calls.{host}
+use Rattle.delivery.specs.Demand2.{Demand2}
 use Rattle.delivery.specs.Ends.{quietly}
 use Rattle.delivery.specs.Log.{Act, sent, heard, told, Deed, took, settled, spoke, done, Mark, begins, acts, does, asks, submitted, log, Capture, framesOf, actsIn, deedsIn}
 use Rattle.delivery.specs.Run.{QuietStart, Run, start}
@@ -72,9 +73,10 @@ abbrev pub run : Run first last
 unfolding kindOf
 run = runOn script start
 
--- It meets the premises of demand 2.
+-- It meets the premises of demand 2, so that the demand holds of it.
 abbrev pub Meets : Type 0
-Meets = QuietStart first × Run first last
+unfolding kindOf
+Meets = QuietStart first × Demand2 run
 
 -- What is seen of a frame.
 pub record Seen : Type 0 where
