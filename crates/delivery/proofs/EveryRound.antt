@@ -43,14 +43,13 @@ use Rattle.unit.specs.declared.Unit.{Unit}
 use Rattle.delivery.specs.Lists.{All, none, also}
 use Rattle.delivery.proofs.Promised.{Moment, Promised}
 use Rattle.delivery.proofs.Stages.{isAnswered, Noted, Hushed, not-its-own, by-the-rule, Sound, addressed, Talk, talks, Part, listens, answers, sits, InFrame, begins, sends, hears, waits, Fresh, idles, On, AtRest, is-free, is-resting, rests, submitted, ended, runs}
-use Rattle.delivery.specs.World.{World, Busy, levels, round, Becomes, in-front, behind, Different, another}
+use Rattle.delivery.specs.World.{World, Busy, levels, round, outcome, Becomes, in-front, behind, Different, another}
 use Rattle.delivery.specs.Run.{New, QuietStart, Run, start, a-round, a-call, Steps}
 use borrow.Author.Tests.{le-ltb}
-use Rattle.controller.specs.Calls.{stepping}
 use Rattle.frame.specs.declared.Lent.the-variants.{Fits as AsLent}
 use Rattle.line.specs.declared.Listener.the-variants.{Ready}
 use Rattle.line.specs.declared.Sender.the-variants.{Next}
-use Rattle.unit.specs.Calls.{stepping as unitStepping}
+use Rattle.unit.specs.Calls.{stepping}
 use Rattle.unit.specs.Unit.{unitStep, pullsNibble}
 use Rattle.delivery.proofs.Lines.{nibble-kept, hsk-own, bav-kept}
 use Rattle.delivery.proofs.Stage.{sending, sent-nibble, shows, nibble-below}
@@ -163,19 +162,19 @@ on-sound (submitted f framed codes d a) = all-map (λ st p. p .1) a
 on-sound (ended eight codes d a) = all-map (λ st p. p .1) a
 on-sound (runs f found x codes) = in-frame-sound x
 
+level-fine : {T : Moment} {v : World} → On T v → ltb 15 (levels v .nibble) ≡ false
+level-fine {v = v} o = let n = on-nibble o in le-ltb 15 (levels v .nibble) (omega arith)
+
+pub every-outcome : (w v : World) → QuietStart w → (r : Run w v) (busy : Busy) → outcome v busy ≡ gives (eventIn (v .controller) (levels v) (busy .here) (v .lent))
+every-outcome w v q r busy = rw (level-fine (every-run w v q r), on-lent (every-run w v q r))
+
 pub every-step : Steps
-every-step w v q r busy =
-    let o = every-run w v q r in
-    let n : levels v .nibble < 16 = on-nibble o in
-    let fine : ltb 15 (levels v .nibble) ≡ false = le-ltb 15 (levels v .nibble) (omega arith) in
-    let lent = on-lent o in
-    let c : stepping (v .controller) (levels v) busy (v .lent) (v .response) ≡ gives (eventIn (v .controller) (levels v) busy (v .lent)) = rw (fine, lent) in
-    ((eventIn (v .controller) (levels v) busy (v .lent), c), all-map (λ st s. unit-step fine st s) (on-sound o))
+every-step w v q r busy = ((eventIn (v .controller) (levels v) (busy .here) (v .lent), every-outcome w v q r busy), all-map unit-step (on-sound (every-run w v q r)))
   where
-    unit-step : ltb 15 (levels v .nibble) ≡ false → (st : Station) → Sound st → (u : Unit) × (unitStepping (st .unit) (levels v) busy (st .buffer) (st .input) ≡ gives u)
-    unit-step fine st s =
-        let e : unitStepping (st .unit) (levels v) busy (st .buffer) (st .input) ≡ gives (unitStep (st .unit) (levels v) busy (st .buffer) (st .input)) = rw (fine, s .room) in
-        (unitStep (st .unit) (levels v) busy (st .buffer) (st .input), e)
+    unit-step : (st : Station) → Sound st → (host : Bool) → (u : Unit) × (stepping (st .unit) (levels v) host (st .buffer) (st .input) ≡ gives u)
+    unit-step st s host =
+        let e : stepping (st .unit) (levels v) host (st .buffer) (st .input) ≡ gives (unitStep (st .unit) (levels v) host (st .buffer) (st .input)) = rw (level-fine (every-run w v q r), s .room) in
+        (unitStep (st .unit) (levels v) host (st .buffer) (st .input), e)
 
 -- What a round of a frame makes of its units.
 talk-addressed : {T : Moment} {c : Command} {d : List ℕ} {stores : Bool} {found : List ℕ} {ear : Listener} {taken : Response} {quiet : ℕ} {buffer : List ℕ} (st : Station) → Talk T c d stores found ear taken quiet buffer st → addressed c (st .unit .own) ≡ true

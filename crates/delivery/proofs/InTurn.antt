@@ -39,7 +39,7 @@ use Rattle.delivery.specs.World.{World, Busy, levels, round}
 use Rattle.delivery.proofs.Stages.{world}
 use Rattle.delivery.proofs.Between.{nothing-between}
 use Rattle.delivery.proofs.Captured.{frame-plain}
-use Rattle.delivery.proofs.EveryRound.{every-run, every-step}
+use Rattle.delivery.proofs.EveryRound.{every-run, every-outcome}
 use Rattle.delivery.proofs.Lists.{all-map}
 use Rattle.delivery.proofs.Logs.{Plain, due-append, due-plain, all-append, units-plain, host-plain}
 
@@ -167,7 +167,7 @@ module _ (k : Command) (d response : List ℕ) (timeout : ℕ) (ring : Ring) (un
 
   module _ {w : World} (q : QuietStart w) (r : Run w before) (busy : Busy) where
     begins-now : round before busy .controller .stage ≡ begun (submittedFrame k (length d))
-    begins-now = ap (λ (a : Answer Event). kept a (controllerStep (before .controller) (levels before) (busy .here) d) (before .controller) .stage) (every-step w before q r (busy .here) .0 .1)
+    begins-now = ap (λ (a : Answer Event). kept a (controllerStep (before .controller) (levels before) (busy .here) d) (before .controller) .stage) (every-outcome w before q r busy)
 
     begin-marks : roundMarks before busy ≡ begins (submittedFrame k (length d)) d response ∷ []
     begin-marks = λ i. nothing-between (every-run w before q r) refl (busy .there) i ++ begunBy (begins-now i) d response

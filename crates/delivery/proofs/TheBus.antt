@@ -310,5 +310,5 @@ uses-run h _ t (then-call {g = g} u call fits) = subst (Run (worldIn h)) (sym (c
 
 pub tells : Tells
 tells h g t q u busy =
-    let s = every-step (worldIn h) (worldIn g) q (uses-run h g t u) (isOdd (busy / 65536)) .0 in
+    let s = every-step (worldIn h) (worldIn g) q (uses-run h g t u) (busyOf busy) .0 in
     (s .0, outcomes g busy ∙ s .1)

@@ -13,15 +13,15 @@ use Rattle.frame.specs.declared.Stage.{Stage}
 use Rattle.frame.specs.declared.Stage.the-variants.{Free, Resting, Waiting, Sending, Listening}
 use Rattle.line.specs.Line.{hearOf, takenOf}
 use Rattle.line.specs.declared.Lines.{Lines}
-use Rattle.message.specs.Answer.{Answer, kept}
+use Rattle.message.specs.Answer.{Answer, gives, kept}
 use Rattle.ring.specs.declared.Ring.{Ring}
 use Rattle.turn.specs.declared.Event.{Event}
 use Rattle.delivery.specs.Demand2.{TellsEnds, nothing, of-a-frame}
 use Rattle.delivery.specs.Lists.{here}
 use Rattle.delivery.specs.Log.{Mark, acts, heard, told, endedBy, stageMarks, unitsMarks, toldIn, roundMarks}
 use Rattle.delivery.specs.Run.{QuietStart, Run}
-use Rattle.delivery.specs.World.{World, Busy, levels, round}
-use Rattle.delivery.proofs.EveryRound.{every-step}
+use Rattle.delivery.specs.World.{World, Busy, levels, round, outcome}
+use Rattle.delivery.proofs.EveryRound.{every-outcome}
 use Rattle.delivery.proofs.Lists.{has-right}
 
 -- A round of a controller that is not refused.
@@ -34,13 +34,13 @@ module _ (timeout : ℕ) (ring : Ring) (seen : Lines) (busy : Bool) (lent respon
 
   -- It takes a nibble, ends the frame, or waits.
   listens : (f : Frame) (before : Response) (takes ended : Bool) (on waits : Stage) (buffer : List ℕ) (first : List Mark)
-      → (m : Moved) → m ≡ cond takes (stays on) (cond ended (over f before) (stays waits)) → TellsEnds (eventAfter (m .end)) (first ++ endedBy (m .stage) (told (eventAfter (m .end)) buffer))
-  listens f before true ended on waits buffer first m e = nothing (ap (λ (x : Moved). eventAfter (x .end)) e)
+      → (m : Moved) → m ≡ cond takes (stays on) (cond ended (over f before) (stays waits)) → TellsEnds (gives (eventAfter (m .end))) (first ++ endedBy (m .stage) (told (eventAfter (m .end)) buffer))
+  listens f before true ended on waits buffer first m e = nothing (ap (λ (x : Moved). gives (eventAfter (x .end))) e)
   listens f before false true on waits buffer first m e =
-      subst (λ (x : Moved). TellsEnds (eventAfter (x .end)) (first ++ endedBy (x .stage) (told (eventAfter (x .end)) buffer))) (sym e) (of-a-frame buffer (has-right first here))
-  listens f before false false on waits buffer first m e = nothing (ap (λ (x : Moved). eventAfter (x .end)) e)
+      subst (λ (x : Moved). TellsEnds (gives (eventAfter (x .end))) (first ++ endedBy (x .stage) (told (eventAfter (x .end)) buffer))) (sym e) (of-a-frame (eventAfter (over f before .end)) buffer refl (has-right first here))
+  listens f before false false on waits buffer first m e = nothing (ap (λ (x : Moved). gives (eventAfter (x .end))) e)
 
-  pub stage-tells : (stage : Stage) → TellsEnds (event stage) (marks stage)
+  pub stage-tells : (stage : Stage) → TellsEnds (gives (event stage)) (marks stage)
   stage-tells Free = nothing refl
   stage-tells (Resting first) = nothing refl
   stage-tells (Waiting f) = nothing refl
@@ -49,15 +49,16 @@ module _ (timeout : ℕ) (ring : Ring) (seen : Lines) (busy : Bool) (lent respon
       listens f taken (takenOf ear (seen .hsk)) (ends (hearOf ear (seen .hsk) busy) taken timeout (quietAfter quiet (seen .hsk))) _ _ (cond (isSubmitted (f .kind)) after [])
       (cond (takenOf ear (seen .hsk)) (acts (heard (seen .nibble)) ∷ []) []) _ refl
 
-more-tells : {e : Event} (first : List Mark) {ms : List Mark} → TellsEnds e ms → TellsEnds e (first ++ ms)
+more-tells : {a : Answer Event} (first : List Mark) {ms : List Mark} → TellsEnds a ms → TellsEnds a (first ++ ms)
 more-tells first (nothing e) = nothing e
-more-tells first (of-a-frame buffer h) = of-a-frame buffer (has-right first h)
+more-tells first (of-a-frame e buffer given h) = of-a-frame e buffer given (has-right first h)
 
-pub tells-run : (w v : World) → QuietStart w → (r : Run w v) (busy : Busy) → TellsEnds (toldIn v busy) (roundMarks v busy)
+pub tells-run : (w v : World) → QuietStart w → (r : Run w v) (busy : Busy) → TellsEnds (outcome v busy) (roundMarks v busy)
 tells-run w v q r busy =
     let c = v .controller in
-    let steps : round v busy .controller ≡ controllerStep c (levels v) (busy .here) (v .lent) =
-    ap (λ (a : Answer Event). kept a (controllerStep c (levels v) (busy .here) (v .lent)) c) (every-step w v q r (busy .here) .0 .1) in
-    more-tells (unitsMarks (levels v) (busy .there) (v .units))
-    (subst (λ (x : Controller). TellsEnds (toldIn v busy) (stageMarks (c .stage) (x .stage) (levels v) (toldIn v busy) (v .lent) (v .response) (round v busy .response))) (sym steps)
-    (stage-tells (c .timeout) (c .ring) (levels v) (busy .here) (v .lent) (v .response) (round v busy .response) (c .stage)))
+    let given = every-outcome w v q r busy in
+    let steps : round v busy .controller ≡ controllerStep c (levels v) (busy .here) (v .lent) = ap (λ (a : Answer Event). kept a (controllerStep c (levels v) (busy .here) (v .lent)) c) given in
+    subst (λ (a : Answer Event). TellsEnds a (roundMarks v busy)) (sym given)
+    (more-tells (unitsMarks (levels v) (busy .there) (v .units))
+    (subst (λ (x : Controller). TellsEnds (gives (toldIn v busy)) (stageMarks (c .stage) (x .stage) (levels v) (toldIn v busy) (v .lent) (v .response) (round v busy .response))) (sym steps)
+    (stage-tells (c .timeout) (c .ring) (levels v) (busy .here) (v .lent) (v .response) (round v busy .response) (c .stage))))

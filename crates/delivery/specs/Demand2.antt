@@ -1,7 +1,6 @@
 -- Demand 2: "On a bus run in rounds, from a quiet start, with one controller, different codes and no step refused, each nibble sent
 -- reaches the addressed unit once and in order; code 0 addresses all. That unit gives the one response defined for its state, or the
--- defined silence. No other unit's opening, queues, enabling or request is changed by the frame."
--- `QuietStart` and `Run` are the bus, `log` what happens on it. `proofs/Demand2.antt` proves the theorem.
+-- defined silence. No other unit's opening, queues, enabling or request is changed by the frame." `Run` is the bus, `log` what happens on it.
 use Prim.Native.Nat.{ℕ, _<_, _≤_, min}
 use mathlib.Core.Path.{_≡_}
 use mathlib.Core.Bool.{Bool, true, false, cond, _||_}
@@ -15,6 +14,7 @@ use Rattle.frame.specs.declared.Frame.{Frame}
 use Rattle.frame.specs.declared.Kind.{Kind}
 use Rattle.frame.specs.declared.Kind.the-variants.{Submitted, Poll, Null}
 use Rattle.inside.specs.Inside.{Inside, insideOf, replyFor, dataIn}
+use Rattle.message.specs.Answer.{Answer, gives}
 use Rattle.reply.specs.Reply.{isSilent, replyStatus}
 use Rattle.serial.specs.declared.Reply.{Reply}
 use Rattle.turn.specs.declared.Event.{Event}
@@ -26,8 +26,8 @@ use Rattle.delivery.specs.Calls.{inFrame}
 use Rattle.delivery.specs.Run.{QuietStart, Run, codesOf}
 use Rattle.delivery.specs.Lists.{All, One, Has, Pairs, Front}
 use Rattle.delivery.specs.Following.{wholeOf, followingAll}
-use Rattle.delivery.specs.Log.{Act, sent, heard, told, Deed, took, settled, spoke, done, Mark, begins, acts, toldIn, roundMarks, log, unitsMarks, Capture, framesOf, actsIn, deedsIn, Due, service, command, dueAll}
-use Rattle.delivery.specs.World.{World, Busy, levels}
+use Rattle.delivery.specs.Log.{Act, sent, heard, told, Deed, took, settled, spoke, done, Mark, begins, acts, roundMarks, log, unitsMarks, Capture, framesOf, actsIn, deedsIn, Due, service, command, dueAll}
+use Rattle.delivery.specs.World.{World, Busy, levels, outcome}
 
 -- A frame's message. Own code or code 0 is addressed.
 abbrev pub message : Capture → List ℕ
@@ -131,10 +131,10 @@ pub data Places (frames : List Capture) (st : Station) : Type 0 where
   no-nibble : pullsOf (st .unit) .nibble ≡ 15 → Places frames st
   its-own : (l : Capture) (before : List Capture) (x : Inside) → frames ≡ l ∷ before → Speaks l (st .unit .own) x (st .unit .own) → Places frames st
 
--- The application is told something only as a frame ends.
-pub data TellsEnds (e : Event) (ms : List Mark) : Type 0 where
-  nothing : e ≡ Nothing → TellsEnds e ms
-  of-a-frame : (buffer : List ℕ) → Has (acts (told e buffer)) ms → TellsEnds e ms
+-- The application is told something only as a frame ends, and that is in the log.
+pub data TellsEnds (answer : Answer Event) (ms : List Mark) : Type 0 where
+  nothing : answer ≡ gives Nothing → TellsEnds answer ms
+  of-a-frame : (e : Event) (buffer : List ℕ) → answer ≡ gives e → Has (acts (told e buffer)) ms → TellsEnds answer ms
 
 -- The demand, for a run, and so for every shorter one, with the next round of it. What is inside each unit changes by its own deeds and its
 -- host's calls alone, and between frames no unit does anything.
@@ -143,7 +143,7 @@ pub record Demand2 {w v : World} (r : Run w v) : Type 0 where
   pub in-turn : (busy : Busy) → InTurn (dueAll service (log r)) (roundMarks v busy)
   pub insides : Pairs (λ (st after : Station). insideOf after ≡ followingAll (st .unit .own) (wholeOf st) (log r) .inside) (w .units) (v .units)
   pub placed : All (Places (framesOf (log r))) (v .units)
-  pub tells : (busy : Busy) → TellsEnds (toldIn v busy) (roundMarks v busy)
+  pub tells : (busy : Busy) → TellsEnds (outcome v busy) (roundMarks v busy)
   pub between : inFrame (v .controller .stage) ≡ false → (busy : Busy) → unitsMarks (levels v) (busy .there) (v .units) ≡ []
 
 abbrev pub Demand : Type 0

@@ -6,19 +6,18 @@ use mathlib.Core.Path.{_≡_}
 use mathlib.Core.Bool.{Bool, false}
 use lib.ListN.{length}
 use Rattle.bus.specs.declared.Station.{Station}
-use Rattle.controller.specs.Calls.{stepping}
 use Rattle.message.specs.Answer.{gives}
 use Rattle.turn.specs.declared.Event.{Event}
 use Rattle.controller.specs.Controller.{newController}
 use Rattle.inside.specs.Inside.{insideOf}
 use Rattle.inside.specs.Lawful.{Lent}
 use Rattle.kind.specs.Kinds.{kindOf, isShort}
-use Rattle.unit.specs.Calls.{stepping as unitStepping}
+use Rattle.unit.specs.Calls.{stepping}
 use Rattle.unit.specs.Unit.{newUnit}
 use Rattle.unit.specs.declared.Unit.{Unit}
 use Rattle.delivery.specs.Calls.{Call, called}
 use Rattle.delivery.specs.Lists.{All}
-use Rattle.delivery.specs.World.{World, Busy, levels, round, Different}
+use Rattle.delivery.specs.World.{World, Busy, levels, round, Different, outcome}
 
 -- A quiet start: every party is new, and each unit is lent its memory. The time-out is the controller's own setting. Own code 0 is
 -- refused when a unit is made.
@@ -52,6 +51,6 @@ Steps =
     (w v : World)
     → QuietStart w
     → Run w v
-    → (busy : Bool)
-    → ((e : Event) × (stepping (v .controller) (levels v) busy (v .lent) (v .response) ≡ gives e))
-    × All (λ (st : Station). (u : Unit) × (unitStepping (st .unit) (levels v) busy (st .buffer) (st .input) ≡ gives u)) (v .units)
+    → (busy : Busy)
+    → ((e : Event) × (outcome v busy ≡ gives e))
+    × All (λ (st : Station). (host : Bool) → (u : Unit) × (stepping (st .unit) (levels v) host (st .buffer) (st .input) ≡ gives u)) (v .units)

@@ -11,19 +11,18 @@ use Rattle.application.specs.Calls.{submitting, controllerSubmitted, controller
 use Rattle.bus.specs.Bus.{busOf, newBus, withUnit, counted, stationAt, unitsIn, bytesOf, isOdd, levelsOf, roundOf, outcomeOf, responseOf, memoryAfter}
 use Rattle.bus.specs.declared.Bus.{Bus}
 use Rattle.bus.specs.declared.Station.{Station}
-use Rattle.controller.specs.Calls.{stepping}
 use Rattle.controller.specs.Controller.{newController}
 use Rattle.controller.specs.declared.Controller.{Controller}
 use Rattle.field.specs.Field.{Below}
 use Rattle.inside.specs.Calls.{calledBy}
-use Rattle.message.specs.Answer.{Answer, gives, kept}
+use Rattle.message.specs.Answer.{gives, kept}
 use Rattle.turn.specs.declared.Event.{Event}
 use Rattle.unit.specs.Unit.{newUnit}
 use Rattle.unit.specs.declared.Unit.{Unit}
 use Rattle.delivery.specs.Calls.{Call, host, submits, acknowledges, lends, lendsUnit, called, isKept, inFrame, withBuffer}
 use Rattle.delivery.specs.Run.{QuietStart, Run}
 use Rattle.delivery.specs.Lists.{All}
-use Rattle.delivery.specs.World.{World, Busy, levels, round, worldOf}
+use Rattle.delivery.specs.World.{World, Busy, round, outcome, worldOf}
 
 -- What a caller holds: the bus, and what it lends: data and response buffer to the controller's steps, memory to the units.
 pub record Caller : Type 0 where
@@ -84,10 +83,6 @@ roundOn h busy = record {
 
 abbrev pub Rounds : Type 0
 Rounds = (h : Caller) (busy : ℕ) → Typed h → worldIn (roundOn h busy) ≡ round (worldIn h) (busyOf busy)
-
--- What it comes to: what the application is told, or a refusal.
-abbrev pub outcome : World → Busy → Answer Event
-outcome w busy = stepping (w .controller) (levels w) (busy .here) (w .lent) (w .response)
 
 abbrev pub Outcomes : Type 0
 Outcomes = (h : Caller) (busy : ℕ) → outcomeOf (h .bus) (levelsOf (h .bus)) busy (h .lent) (h .response) ≡ outcome (worldIn h) (busyOf busy)

@@ -10,10 +10,12 @@ use Rattle.delivery.specs.Lists.{All}
 use Rattle.bus.specs.Bus.{levelsWith, unitsAfter, stationStep, isOdd, unitsOf, levelsOf, roundOf, responseOf, memoryAfter}
 use Rattle.bus.specs.declared.Bus.{Bus}
 use Rattle.bus.specs.declared.Station.{Station}
-use Rattle.controller.specs.Calls.{controllerStepped, bufferAfter}
+use Rattle.controller.specs.Calls.{stepping, controllerStepped, bufferAfter}
 use Rattle.controller.specs.declared.Controller.{Controller}
 use Rattle.frame.specs.Frame.{pullsOf}
 use Rattle.line.specs.declared.Lines.{Lines}
+use Rattle.message.specs.Answer.{Answer}
+use Rattle.turn.specs.declared.Event.{Event}
 
 -- The controller, its units, the command data and the response buffer that its steps are lent.
 pub record World : Type 0 where
@@ -37,6 +39,10 @@ round w busy = record {
   lent = w .lent;
   response = bufferAfter (w .controller) (levels w) (busy .here) (w .lent) (w .response);
 }
+
+-- What it comes to: what the application is told, or a refusal.
+abbrev pub outcome : World → Busy → Answer Event
+outcome w busy = stepping (w .controller) (levels w) (busy .here) (w .lent) (w .response)
 
 -- The code's bus of up to sixteen units, run at its own levels, is such a world: its round is this one, memory included.
 abbrev pub worldOf : Bus → List ℕ → List ℕ → List ℕ → World

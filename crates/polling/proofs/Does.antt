@@ -35,6 +35,7 @@ use Rattle.ring.specs.Ring.{counted, live, ringOf, withMark, isMarked}
 use Rattle.turn.specs.Turn.{ringEnded, eventOf as frameEvent}
 use Rattle.turn.specs.declared.Event.{Event}
 use Rattle.turn.specs.declared.Event.the-variants.{Nothing}
+use Rattle.polling.specs.Beyond.{SeesLow, sees-low}
 use Rattle.polling.specs.Moves.{Move, steps, submits, acknowledges, after, isBegun, begins, isFor, told, eventOf, Stays, runs, goes-on, ends as ends-now}
 use Rattle.delivery.specs.Calls.{running}
 use Rattle.polling.specs.History.{isDone, anyFor, settles}
@@ -65,7 +66,7 @@ Unsettled c m = (own : ℕ) → isMarked own (live (c .ring)) ≡ true → settl
 pub data Does (c : Controller) (m : Move) : Type 0 where
   keeps : after c m .ring ≡ c .ring → begins c m ≡ false → eventOf c m ≡ Nothing → Unsettled c m → Onward (c .stage) (after c m .stage) → Does c m
   accepts : (k : Command) (n : ℕ) → after c m .ring ≡ c .ring → begins c m ≡ false → eventOf c m ≡ Nothing → Unsettled c m → isShutOut k (c .ring) ≡ false → eqb (k .command) 0x0A ≡ false → after c m .stage ≡ Waiting (submittedFrame k n) → running (c .stage) ≡ [] → Does c m
-  serves : begins c m ≡ true → eventOf c m ≡ Nothing → Unsettled c m → 0 < counted (c .ring) → after c m ≡ service c → Does c m
+  serves : begins c m ≡ true → eventOf c m ≡ Nothing → Unsettled c m → 0 < counted (c .ring) → SeesLow m → after c m ≡ service c → Does c m
   frame-ends :
       (f : Frame) (status count : ℕ) → running (c .stage) ≡ f ∷ [] → held (c .stage) ≡ f ∷ [] → begins c m ≡ false → eventOf c m ≡ frameEvent f status count
       → ((own : ℕ) → settles own c m ≡ (isDone (frameEvent f status count) && isFor own f))
@@ -185,7 +186,7 @@ module _ (c : Controller) (seen : Lines) (busy : Bool) (lent response : List ℕ
   idle true false i b e =
       let serve : after c m ≡ service c = stepped ∙ rw (i, b, e) in
       let some : counted (c .ring) ≡ 0 → ⊥ = eqb-false (counted (c .ring)) 0 e in
-      serves (ap (λ (x : Controller). isIdle (c .stage) && isBegun (running (x .stage))) serve ∙ ap (λ (t : Bool). t && true) i) (event ∙ rw i) (told-nothing (event ∙ rw i)) (omega arith) serve
+      serves (ap (λ (x : Controller). isIdle (c .stage) && isBegun (running (x .stage))) serve ∙ ap (λ (t : Bool). t && true) i) (event ∙ rw i) (told-nothing (event ∙ rw i)) (omega arith) (sees-low b) serve
 
   step-does : (t : Bool) → isIdle (c .stage) ≡ t → Does c m
   step-does true i = idle (seen .bav) (eqb (counted (c .ring)) 0) i refl refl
@@ -248,6 +249,6 @@ stays-on f c (m ∷ ms) r = by (does c m) (λ e. stays-on f (after c m) ms e)
     by (keeps ring b v u (same-frame e same)) go = goes-on r (go (same f r))
     by (keeps ring b v u (no-more none e)) go = no-frame none
     by (accepts k n ring b v u out poll st resting) go = no-frame resting
-    by (serves b v u some e) go = no-frame (idle-runs (c .stage) (and-left (isIdle (c .stage)) (isBegun (running (after c m .stage))) b))
+    by (serves b v u some low e) go = no-frame (idle-runs (c .stage) (and-left (isIdle (c .stage)) (isBegun (running (after c m .stage))) b))
     by (frame-ends g status count q h b v u ring z) go = ends-now status count r (v ∙ ap (λ (x : Frame). frameEvent x status count) (ap (firstOf g) (sym q ∙ r))) (none-runs (after c m .stage) z)
     by (clears code x marked b v u ring st) go = goes-on r (go (ap running st ∙ r))

@@ -1,8 +1,8 @@
 -- The beginning and the end of a turn.
-use Prim.Native.Nat.{ℕ}
+use Prim.Native.Nat.{ℕ, _<_}
 use native.Mathlib.Omega.{arith}
 use mathlib.Core.Path.{_≡_, refl, sym, _∙_, ap, subst}
-use mathlib.Core.Bool.{Bool, true, false, cond, _&&_, false≢true}
+use mathlib.Core.Bool.{Bool, true, false, cond, _&&_, true≢false, false≢true}
 use mathlib.Core.List.{List, [], _∷_}
 use borrow.Author.Tests.{ne-eqb, eqb-true}
 use lib.Dec.{eqb}
@@ -23,7 +23,7 @@ use Rattle.ring.specs.declared.Entry.{Entry}
 use Rattle.turn.specs.Turn.{turnOf, eventBy}
 use Rattle.turn.specs.declared.Event.{Event}
 use Rattle.turn.specs.declared.Event.the-variants.{Nothing, Ended, Handed}
-use Rattle.polling.specs.Beyond.{PollEnds}
+use Rattle.polling.specs.Beyond.{SeesLow, StartsOnly, PollEnds}
 use Rattle.polling.specs.Demand3.{Starts, HandsOnly}
 use Rattle.polling.specs.History.{since}
 use Rattle.polling.specs.Moves.{Move, steps, after, afterAll, isBegun, told, eventOf}
@@ -45,6 +45,16 @@ starts c seen busy lent response i n low some =
     let more : eqb (counted (c .ring)) 0 ≡ false = ne-eqb (counted (c .ring)) 0 (omega arith) in
     let serve : after c (steps seen busy lent response) ≡ service c = ap (λ (a : Answer Event). kept a (controllerStep c seen busy lent) c) goes ∙ rw (i, low, more) in
     (ap (λ (x : Controller). isIdle (c .stage) && isBegun (running (x .stage))) serve ∙ ap (λ (t : Bool). t && true) i, serve)
+
+pub starts-only : StartsOnly
+starts-only c m e = by (does c m)
+  where
+    by : Does c m → SeesLow m × (0 < counted (c .ring))
+    by (keeps r b v u o) = absurd (true≢false (sym e ∙ b))
+    by (accepts k n r b v u s p z w) = absurd (true≢false (sym e ∙ b))
+    by (serves b v u some low s) = (low, some)
+    by (frame-ends f status count r h b v u ring z) = absurd (true≢false (sym e ∙ b))
+    by (clears code is marked b v u ring s) = absurd (true≢false (sym e ∙ b))
 
 pub poll-ends : PollEnds
 poll-ends c seen busy lent response code status count goes i e = ap told goes ∙ rw i (ap eventAfter e)
@@ -76,7 +86,7 @@ shape-after c m s = by (does c m)
     by : Does c m → Shapes (held (after c m .stage))
     by (keeps ring b v u o) = onward-shape o s
     by (accepts k n ring b v u out poll st resting) = subst (λ (x : Stage). Shapes (held x)) (sym st) (a-command refl poll)
-    by (serves b v u some e) = subst (λ (x : Controller). Shapes (held (x .stage))) (sym e) (turn-shape (getD (live (c .ring)) 0 none))
+    by (serves b v u some low e) = subst (λ (x : Controller). Shapes (held (x .stage))) (sym e) (turn-shape (getD (live (c .ring)) 0 none))
     by (frame-ends f status count r g b v u ring z) = subst Shapes (sym z) tt
     by (clears code x marked b v u ring st) = subst (λ (y : Stage). Shapes (held y)) (sym st) s
 
@@ -122,7 +132,7 @@ hands-only timeout ms m code e = by (does (since timeout ms) m)
     by : Does (since timeout ms) m → running (since timeout ms .stage) ≡ pollOf code ∷ []
     by (keeps ring b v u o) = nothing v
     by (accepts k n ring b v u out poll st resting) = nothing v
-    by (serves b v u some x) = nothing v
+    by (serves b v u some low x) = nothing v
     by (clears k x marked b v u ring st) = nothing v
     by (frame-ends f status count r g b v u ring z) =
         let h = hands-by (f .kind) (f .command) status count code (sym v ∙ e) in

@@ -341,7 +341,7 @@ module _ (own : ℕ) where
               let less : counted (c .ring) < 16 = leb-false 16 (counted (c .ring)) full in
               let within = live-within (c .ring) in
               omega arith
-      by (serves b v u some e) = serving (live (c .ring)) refl (let n = ok .full in omega arith)
+      by (serves b v u some low e) = serving (live (c .ring)) refl (let n = ok .full in omega arith)
         where
           ring : after c m .ring ≡ ringOf (turned (live (c .ring)))
           ring = ap (λ (x : Controller). x .ring) e
@@ -427,7 +427,7 @@ every-turn own timeout ms m b i z = by (does (since timeout ms) m)
     by : Does (since timeout ms) m → after (since timeout ms) m .stage ≡ begun (cond (isPending own timeout ms) nullFrame (pollOf own))
     by (keeps ring none-begins v u o) = absurd (true≢false (sym b ∙ none-begins))
     by (accepts k n ring none-begins v u out poll st resting) = absurd (true≢false (sym b ∙ none-begins))
-    by (serves x v u some e) = ap (λ (x : Controller). x .stage) e ∙ ap (λ (x : Entry). begun (turnOf x)) (front-mark own (isPending own timeout ms) (live (since timeout ms .ring)) (ok-since own timeout ms .agrees) i z)
+    by (serves x v u some low e) = ap (λ (x : Controller). x .stage) e ∙ ap (λ (x : Entry). begun (turnOf x)) (front-mark own (isPending own timeout ms) (live (since timeout ms .ring)) (ok-since own timeout ms .agrees) i z)
     by (frame-ends f status count r g none-begins v u ring e) = absurd (true≢false (sym b ∙ none-begins))
     by (clears code x marked none-begins v u ring st) = absurd (true≢false (sym b ∙ none-begins))
 
@@ -469,7 +469,7 @@ joins-ring own timeout ms m f count nonzero run (kind, (command, device)) told =
     by : Does (since timeout ms) m → inRing own (after (since timeout ms) m) ≡ true
     by (keeps ring none-begins v u o) = nothing v
     by (accepts k n ring none-begins v u out poll st resting) = nothing v
-    by (serves x v u some e) = nothing v
+    by (serves x v u some low e) = nothing v
     by (clears code x marked none-begins v u ring st) = nothing v
     by (frame-ends g status n r h none-begins v u ring z) =
         let same : g ≡ f = ap (firstOf g) (sym r ∙ run) in

@@ -2,18 +2,17 @@
 use Prim.Native.Nat.{ℕ, zero, suc, _/_, _<_}
 use native.Mathlib.Omega.{arith}
 use mathlib.Core.Path.{_≡_, refl, sym, _∙_, ap, subst}
-use mathlib.Core.Bool.{Bool, true, false, cond, _&&_, _||_, true≢false, false≢true}
+use mathlib.Core.Bool.{Bool, true, false, cond, _&&_, _||_, true≢false}
 use mathlib.Core.List.{List, [], _∷_}
 use borrow.Author.Tests.{le-ltb, ne-eqb, eqb-true, eq-eqb}
-use lib.Dec.{ltb, eqb}
+use lib.Dec.{eqb}
 use lib.ListN.{length}
 use Rattle.answer.specs.Answer.{statusOf, countOf}
 use Rattle.answer.specs.declared.Response.{Response}
 use Rattle.answer.specs.declared.Response.the-variants.{Complete}
 use Rattle.bus.specs.Bus.{levelsWith, unitsAfter, isOdd}
 use Rattle.bus.specs.declared.Station.{Station}
-use Rattle.controller.specs.Calls.{stepping, ifLent}
-use Rattle.controller.specs.Controller.{eventIn, eventAfter}
+use Rattle.controller.specs.Controller.{eventAfter}
 use Rattle.controller.specs.declared.Controller.{Controller}
 use Rattle.delivery.specs.Calls.{Call, host, submits as submitsTo, acknowledges as acknowledgesTo, lends, lendsUnit, called, calledAt, bufferAt, inFrame}
 use Rattle.delivery.specs.Run.{QuietStart, Run, start, a-round, a-call}
@@ -22,15 +21,13 @@ use Rattle.delivery.specs.Lists.{All, none, also, One, this, that, Has, here, t
 use Rattle.delivery.proofs.Promised.{Moment}
 use Rattle.delivery.proofs.Stages.{InFrame, Spoke, spoke, Hushed, not-its-own, by-the-rule, addressed, movedIn, Sound, Sits, answerData, begins, sends, hears, waits}
 use Rattle.delivery.specs.World.{World, Busy, levels}
-use Rattle.delivery.proofs.EveryRound.{on-nibble, every-run, every-step, on-sound}
+use Rattle.delivery.proofs.EveryRound.{on-nibble, every-run, every-outcome, on-sound}
 use Rattle.delivery.proofs.Lists.{all-map, all-step}
 use Rattle.delivery.proofs.Frame.{own-kept, becomes-all}
 use Rattle.delivery.proofs.Calls.{all-lends}
 use Rattle.delivery.proofs.Run.{frame-busy}
-use Rattle.frame.specs.Frame.{pollOf, over, lentAt}
+use Rattle.frame.specs.Frame.{pollOf, over}
 use Rattle.frame.specs.declared.Frame.{Frame}
-use Rattle.frame.specs.declared.Lent.{Lent}
-use Rattle.frame.specs.declared.Lent.the-variants.{Fits, Data, Buffer}
 use Rattle.frame.specs.declared.Moved.{Moved}
 use Rattle.header.specs.declared.Command.{Command}
 use Rattle.inside.specs.Calls.{HostCall}
@@ -41,11 +38,9 @@ use Rattle.inside.proofs.Ors.{or-left, or-first, or-second}
 use Rattle.inside.proofs.Lawful.{every-lawful}
 use Rattle.kind.specs.Kinds.{kindOf}
 use Rattle.line.specs.declared.Lines.{Lines}
-use Rattle.message.specs.Answer.{Answer, gives, refused}
 use Rattle.reply.specs.Reply.{replyStatus}
 use Rattle.serial.specs.declared.Reply.{Reply}
 use Rattle.turn.specs.Turn.{eventOf as frameEvent}
-use Rattle.turn.specs.declared.Event.{Event}
 use Rattle.turn.specs.declared.Event.the-variants.{Nothing, Handed}
 use Rattle.unit.specs.declared.Unit.{Unit}
 use Rattle.polling.specs.Chain.{HasCode, it-has, later}
@@ -129,21 +124,8 @@ pub run-coded : (w v : World) (own : ℕ) → QuietStart w → Run w v → HasCo
 run-coded w v own q r h = has-coded own h (every-coded w v q r)
 
 -- What a round tells: on a run no step is refused.
-told-is : (c : Controller) (seen : Lines) (busy : Bool) (lent response : List ℕ) (e : Event) → stepping c seen busy lent response ≡ gives e → told (stepping c seen busy lent response) ≡ eventIn c seen busy lent
-told-is c seen busy lent response e g = by (ltb 15 (seen .nibble)) (lentAt (c .stage) (length lent) (length response)) g
-  where
-    isGiven : Answer Event → Bool
-    isGiven (gives x) = true
-    isGiven (refused k) = false
-
-    by : (t : Bool) (l : Lent) → cond t (refused 5) (ifLent l (eventIn c seen busy lent)) ≡ gives e → told (cond t (refused 5) (ifLent l (eventIn c seen busy lent))) ≡ eventIn c seen busy lent
-    by true l x = absurd (false≢true (ap isGiven x))
-    by false Fits x = refl
-    by false Data x = absurd (false≢true (ap isGiven x))
-    by false Buffer x = absurd (false≢true (ap isGiven x))
-
 pub told-move : (w v : World) → QuietStart w → (r : Run w v) (busy : Busy) → eventOf (v .controller) (moveOf v busy) ≡ toldIn v busy
-told-move w v q r busy = let e = every-step w v q r (busy .here) .0 in told-is (v .controller) (levels v) (busy .here) (v .lent) (v .response) (e .0) (e .1)
+told-move w v q r busy = ap told (every-outcome w v q r busy)
 
 pub frame-told : (w v : World) → QuietStart w → (r : Run w v) (busy : Busy) {T : Moment} {f : Frame} {found : List ℕ} → InFrame T f found v → (x : Response) → movedIn v busy ≡ over f x → toldIn v busy ≡ frameEvent f (statusOf x) (countOf x)
 frame-told w v q r busy i x m =

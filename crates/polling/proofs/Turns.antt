@@ -110,7 +110,7 @@ placed own c m found without = by (does c m)
     by (accepts cmd l ring b v u out poll st resting) = waits b (nearer-as own (c .ring) ring (stays own (c .ring) found))
     by (frame-ends f status count r g b v u ring z) = waits b (nearer-as own (c .ring) ring (by-status own (c .ring) found (eqb status 0x00) f (subst (Without own) r without)))
     by (clears code e x b v u ring st) = waits b (nearer-as own (c .ring) ring (marked own (c .ring) found false code))
-    by (serves b v u some e) = serving b e (ahead own c) refl
+    by (serves b v u some low e) = serving b e (ahead own c) refl
 
 -- How a call is counted.
 pub none-counted : (c : Controller) (m : Move) (ms : List Move) → begins c m ≡ false → services c (m ∷ ms) ≡ services (after c m) ms

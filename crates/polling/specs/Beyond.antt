@@ -1,4 +1,4 @@
--- Beyond demand 3: the bound of any controller, every turn of a unit, the ring's marks, that no unit is in the ring twice, what the end of a
+-- Beyond demand 3: the bound of any controller, what begins a service frame, every turn of a unit, the ring's marks, that no unit is in the ring twice, what the end of a
 -- poll tells at any levels, and that on demand 2's bus a pull for a request is seen.
 use Prim.Native.Nat.{ℕ, suc, _<_, _≤_}
 use mathlib.Core.Path.{_≡_}
@@ -40,6 +40,13 @@ pub record Reaches (own n : ℕ) (c : Controller) (calls : List Move) : Type 0 w
 -- So it is for every controller, whatever it has been through.
 abbrev pub AnyController : Type 0
 AnyController = (own : ℕ) (c : Controller) (calls : List Move) → inRing own c ≡ true → Spared own c calls → suc (ahead own c) ≤ services c calls → Reaches own (suc (ahead own c)) c calls
+
+-- A service frame begins only in a step that sees BAV low, and only where the ring is not empty.
+pub data SeesLow : Move → Type 0 where
+  sees-low : {seen : Lines} {busy : Bool} {lent response : List ℕ} → seen .bav ≡ true → SeesLow (steps seen busy lent response)
+
+abbrev pub StartsOnly : Type 0
+StartsOnly = (c : Controller) (m : Move) → begins c m ≡ true → SeesLow m × (0 < counted (c .ring))
 
 -- Every service frame that begins with the unit's entry in front is its poll or its null message.
 abbrev pub EveryTurn : Type 0
