@@ -16,10 +16,11 @@ use Rattle.line.specs.declared.Listener.{Listener}
 use Rattle.message.specs.Answer.{Answer, gives, refused, kept}
 use Rattle.phase.specs.declared.Phase.{Phase}
 use Rattle.delivery.specs.Run.{codesOf}
-use Rattle.delivery.specs.Calls.{Call, host, submits, acknowledges, lends, lendsUnit, called, calledAt, bufferAt, withBuffer, inFrame, foundAfter}
+use Rattle.delivery.specs.Calls.{Call, host, submits, acknowledges, lends, lendsUnit, called, calledAt, bufferAt, withBuffer, inFrame}
 use Rattle.delivery.specs.Demand2.{Answerer, nobody, unit, actsOf, Answers, Hushes, not-meant, by-the-rule, Ended}
 use Rattle.delivery.specs.Lists.{All, none, also, Has, Pairs, no-pair, a-pair}
 use Rattle.delivery.specs.Log.{Act, Deed, settled, Mark, submitted, callMarks, submissionMarks, Capture, actsIn, deedsIn}
+use Rattle.delivery.proofs.Moves.{foundAfter}
 use Rattle.delivery.proofs.Promised.{Moment}
 use Rattle.delivery.proofs.Stages.{InFrame, isResponding}
 use Rattle.delivery.specs.World.{World}

@@ -20,7 +20,8 @@ use Rattle.reply.specs.Reply.{isSilent}
 use Rattle.serial.specs.declared.Reply.{Reply}
 use Rattle.unit.specs.Unit.{pullsHsk}
 use Rattle.whole.specs.Whole.{bytesFor}
-use Rattle.delivery.specs.Ends.{Falls, unitsFree}
+use Rattle.delivery.specs.Ends.{unitsFree}
+use Rattle.delivery.proofs.Moves.{Falls}
 use Rattle.delivery.proofs.Taking.{Fits, f-holds, f-waits}
 use Rattle.delivery.specs.Lists.{All, none, also}
 use Rattle.delivery.proofs.Stages.{Part, listens, answers, sits}

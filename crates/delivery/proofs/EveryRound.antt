@@ -17,6 +17,7 @@ use Rattle.whole.specs.Whole.{bytesFor}
 use Rattle.reply.specs.Reply.{isSilent, lastNibble as lastOf}
 use Rattle.line.specs.Line.{isReady, hearOf, sentOf}
 use Rattle.phase.specs.declared.Moved.{Moved as Step}
+use Rattle.delivery.proofs.Moves.{Becomes, in-front, behind}
 use Rattle.delivery.proofs.Part.{Stepped, low-step}
 use Rattle.delivery.proofs.Changes.{fresh-changes, sits-changes, talk-changes, part-changes}
 use Rattle.delivery.proofs.Rounds.{Changed, Changes, Took, takes-it, took-it, Runs, Responses, TakenOnce}
@@ -43,7 +44,7 @@ use Rattle.unit.specs.declared.Unit.{Unit}
 use Rattle.delivery.specs.Lists.{All, none, also}
 use Rattle.delivery.proofs.Promised.{Moment, Promised}
 use Rattle.delivery.proofs.Stages.{isAnswered, Noted, Hushed, not-its-own, by-the-rule, Sound, addressed, Talk, talks, Part, listens, answers, sits, InFrame, begins, sends, hears, waits, Fresh, idles, On, AtRest, is-free, is-resting, rests, submitted, ended, runs}
-use Rattle.delivery.specs.World.{World, Busy, levels, round, outcome, Becomes, in-front, behind, Different, another}
+use Rattle.delivery.specs.World.{World, Busy, levels, round, outcome, Different, another}
 use Rattle.delivery.specs.Run.{New, QuietStart, Run, start, a-round, a-call, Steps}
 use borrow.Author.Tests.{le-ltb}
 use Rattle.frame.specs.declared.Lent.the-variants.{Fits as AsLent}

@@ -46,7 +46,8 @@ use Rattle.delivery.specs.Following.{Whole, wholeOf, withInside, doing, 
 use Rattle.delivery.specs.Lists.{All, none, also, Pairs, no-pair, a-pair}
 use Rattle.delivery.specs.Log.{Act, sent, heard, told, Deed, took, settled, spoke, done, Mark, begins, acts, does, asks, submitted, settledBy, doneBy, deedsBy, stationDeeds, unitsMarks, begunBy, endedBy, stageMarks, roundMarks, hostMarks, submissionMarks, callMarks, log, Capture, cut, cutAll, withMark, framesOf, deedsIn}
 use Rattle.delivery.specs.Run.{New, QuietStart, Run, start, a-round, a-call}
-use Rattle.delivery.specs.World.{World, Busy, levels, round, Becomes, in-front, behind, Different, nobody, another}
+use Rattle.delivery.specs.World.{World, Busy, levels, round, Different, nobody, another}
+use Rattle.delivery.proofs.Moves.{Becomes, in-front, behind}
 use Rattle.delivery.proofs.Called.{pairs-same, pairs-lends}
 use Rattle.delivery.proofs.Captured.{Frames, at-rest, in-one, frames-run}
 use Rattle.delivery.proofs.EveryRound.{every-run, changes, on-nibble, on-sound, on-different}

@@ -44,12 +44,13 @@ use Rattle.serial.specs.declared.Reply.{Reply}
 use Rattle.unit.specs.Unit.{pullsHsk, pullsNibble, lowStep, highStep}
 use Rattle.whole.specs.Whole.{bytesFor}
 use Rattle.whole.proofs.Whole.{length-bytes}
+use Rattle.delivery.proofs.Moves.{Becomes, in-front, behind, Falls}
 use Rattle.delivery.proofs.Stages.{isResponding, Speaking, Hushed, not-its-own, by-the-rule, addressed, answers, sits, Framed, Fresh, Goes, InFrame, Noted, Part, Sends, Sits, Sound, Spoke, Talk, answered, begins, hears, idles, listens, movedIn, on, s-next, selects, sends, unanswered, waits, world, talks, s-placed, s-kept}
-use Rattle.delivery.specs.Ends.{place, phaseLeft, unitsLeft, controllerFree, unitsFree, isFree, listening, left, Falls}
+use Rattle.delivery.specs.Ends.{place, phaseLeft, unitsLeft, controllerFree, unitsFree, isFree, listening, left}
 use Rattle.delivery.proofs.Taking.{f-next, Heard, h-none, h-first, h-byte, h-half}
 use Rattle.delivery.specs.Lists.{All, One, none, also, this, that}
 use Rattle.delivery.proofs.Promised.{Moment, Promised}
-use Rattle.delivery.specs.World.{World, Busy, levels, round, Becomes, in-front, behind, Different, nobody, another}
+use Rattle.delivery.specs.World.{World, Busy, levels, round, Different, nobody, another}
 use Rattle.delivery.proofs.Lines.{hsk-high, bav-kept, nibble-kept}
 use Rattle.delivery.proofs.Lists.{all-map, all-step}
 use Rattle.delivery.proofs.Ends.{falls, and-left, and-right, free-step, part-lets-go}

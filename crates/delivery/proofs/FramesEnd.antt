@@ -14,10 +14,11 @@ use Rattle.frame.specs.declared.Frame.{Frame}
 use Rattle.frame.specs.declared.Moved.{Moved}
 use Rattle.frame.specs.declared.Stage.the-variants.{Resting}
 use Rattle.unit.specs.Unit.{pullsHsk}
-use Rattle.delivery.specs.Calls.{Call, calledAll, foundAfter, inFrame, running}
+use Rattle.delivery.specs.Calls.{Call, calledAll, inFrame, running}
 use Rattle.delivery.specs.Run.{Run, start, a-round, a-call}
-use Rattle.delivery.specs.Ends.{left, unitsFree, isFree, quietly, Falls, Nearer}
+use Rattle.delivery.specs.Ends.{left, unitsFree, isFree, quietly}
 use Rattle.delivery.specs.FramesEnd.{longest, Staying, freeRounds, FramesEnd, Ends, has-ended, next-free, FramesEndInTime, EndsQuietly, quiet-ended, next-quiet, QuietlyFree, FramesEndQuietly}
+use Rattle.delivery.proofs.Moves.{foundAfter, Falls, Nearer}
 use Rattle.delivery.proofs.Promised.{Moment}
 use Rattle.delivery.proofs.Stages.{InFrame, begins, sends, hears, waits, Goes, on, answered, unanswered, Finishes, movedIn, On}
 use Rattle.delivery.specs.World.{World, Busy, levels, round}

@@ -1,3 +1,4 @@
+pub mod Moves
 pub mod Lists
 pub mod World
 pub mod Taking

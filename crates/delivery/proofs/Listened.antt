@@ -25,9 +25,10 @@ use Rattle.unit.specs.Unit.{pullsHsk, pullsNibble}
 use Rattle.delivery.specs.Run.{codesOf}
 use Rattle.delivery.specs.Lists.{All, none, also, One, this, that, Has, here, there}
 use Rattle.delivery.specs.Log.{Act, heard, told, Deed, settled, Mark, acts, deedsBy, endedBy, Capture, actsIn, deedsIn, sent, took, spoke, done}
+use Rattle.delivery.proofs.Moves.{Becomes, in-front, behind}
 use Rattle.delivery.proofs.Promised.{Moment, Promised}
 use Rattle.delivery.proofs.Stages.{Sits, Sound, Talk, InFrame, hears, isResponding, Speaking, Framed, world}
-use Rattle.delivery.specs.World.{World, Busy, levels, round, Becomes, in-front, behind, Different}
+use Rattle.delivery.specs.World.{World, Busy, levels, round, Different}
 use Rattle.delivery.proofs.Deeds.{answerFor, Stands, Did, sits-did, Hush, nibblesFor}
 use Rattle.delivery.proofs.EveryRound.{in-frame-nibble, in-frame-low}
 use Rattle.delivery.proofs.Frame.{talk-responds, control, own-kept}

@@ -20,8 +20,9 @@ use Rattle.line.specs.declared.Sender.{Sender}
 use Rattle.phase.specs.Phase.{phaseStep}
 use Rattle.phase.specs.declared.Phase.{Phase}
 use Rattle.unit.specs.Unit.{pullsOf, pullsHsk, pullsNibble}
+use Rattle.delivery.proofs.Moves.{Falls}
 use Rattle.delivery.proofs.Stages.{Sits, Sound, Spoke, Talk, answerBytes, spoke, talks}
-use Rattle.delivery.specs.Ends.{phaseLeft, unitsLeft, Falls}
+use Rattle.delivery.specs.Ends.{phaseLeft, unitsLeft}
 use Rattle.delivery.proofs.Taking.{Fits, f-next, f-placed, f-holds, f-waits}
 use Rattle.delivery.proofs.Promised.{Moment}
 use Rattle.delivery.specs.Lists.{Has, All, none, also, One, this, that}

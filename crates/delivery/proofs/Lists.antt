@@ -6,7 +6,7 @@ use Rattle.bus.specs.Bus.{stationStep, unitsAfter, isOdd}
 use Rattle.bus.specs.declared.Station.{Station}
 use Rattle.line.specs.declared.Lines.{Lines}
 use Rattle.delivery.specs.Lists.{All, none, also, One, this, that, Has, here, there}
-use Rattle.delivery.specs.World.{Becomes, in-front, behind}
+use Rattle.delivery.proofs.Moves.{Becomes, in-front, behind}
 
 pub all-map {ℓ κ μ} : {A : Type ℓ} {P : A → Type κ} {Q : A → Type μ} → ((x : A) → P x → Q x) → {xs : List A} → All P xs → All Q xs
 all-map f none = none

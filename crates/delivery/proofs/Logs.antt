@@ -14,10 +14,11 @@ use Rattle.inside.specs.Inside.{insideOf}
 use Rattle.line.specs.Line.{sentOf, takenOf, senderNibble}
 use Rattle.line.specs.declared.Lines.{Lines}
 use Rattle.turn.specs.declared.Event.{Event}
+use Rattle.delivery.proofs.Moves.{Becomes, in-front, behind}
 use Rattle.delivery.specs.Following.{Whole, followingAll, following}
 use Rattle.delivery.specs.Lists.{All, none, also}
 use Rattle.delivery.specs.Log.{Act, sent, heard, told, Deed, Mark, begins, acts, does, asks, submitted, stationDeeds, unitsMarks, stageMarks, begunBy, endedBy, hostMarks, Capture, cut, cutAll, actIn, actsIn, deedIn, deedsIn, deedsBy, Due, dueBy, dueAll}
-use Rattle.delivery.specs.World.{Becomes, in-front, behind, Different, another}
+use Rattle.delivery.specs.World.{Different, another}
 
 -- One after the other.
 pub acts-append : (a b : List Mark) → actsIn (a ++ b) ≡ actsIn a ++ actsIn b

@@ -16,9 +16,10 @@ use Rattle.phase.specs.declared.Progress.the-variants.{Answered}
 use Rattle.serial.specs.declared.Reply.{Reply}
 use Rattle.delivery.specs.Calls.{inFrame}
 use Rattle.delivery.specs.Lists.{All}
+use Rattle.delivery.proofs.Moves.{Becomes}
 use Rattle.delivery.proofs.Promised.{Moment}
 use Rattle.delivery.proofs.Stages.{addressed, isAnswered, InFrame, Goes, On}
-use Rattle.delivery.specs.World.{World, Busy, levels, Becomes}
+use Rattle.delivery.specs.World.{World, Busy, levels}
 use Rattle.delivery.specs.Run.{QuietStart, Run, start, a-round, a-call}
 
 -- Behind a round the unit with this code has taken the last nibble, with x inside it: in this round, or, as was known before, in an

@@ -32,8 +32,9 @@ use Rattle.ring.specs.Ring.{live, isMarked, ringOf, withMark}
 use Rattle.ring.specs.declared.Ring.{Ring}
 use Rattle.whole.specs.Back.{takenAt, storedAt}
 use Rattle.whole.specs.Whole.{bytesFor, Sent}
+use Rattle.delivery.proofs.Moves.{foundAfter}
 use Rattle.delivery.proofs.Stages.{Hushed, not-its-own, by-the-rule, addressed, answerBytes, AtRest, Codes, Framed, Fresh, InFrame, On, Part, Sends, Sits, Sound, Talk, talks, begins, ended, hears, is-free, is-resting, rests, runs, sends, submitted, waits, world}
-use Rattle.delivery.specs.Calls.{Call, host, submits, acknowledges, lends, lendsUnit, calledAt, called, bufferAt, isKept, inFrame, foundAfter}
+use Rattle.delivery.specs.Calls.{Call, host, submits, acknowledges, lends, lendsUnit, calledAt, called, bufferAt, isKept, inFrame}
 use Rattle.delivery.proofs.Promised.{Moment, Promised}
 use Rattle.delivery.specs.Lists.{All, none, also, One}
 use Rattle.delivery.specs.World.{World, Different, nobody, another}

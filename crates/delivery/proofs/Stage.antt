@@ -33,7 +33,7 @@ use Rattle.whole.proofs.Whole.{length-bytes}
 use Rattle.delivery.proofs.Stages.{isAnswered, Part, Sends, Sound, s-kept, s-next, s-placed}
 use Rattle.delivery.specs.Lists.{All}
 use Rattle.delivery.proofs.Promised.{Moment, Promised}
-use Rattle.delivery.specs.World.{Becomes}
+use Rattle.delivery.proofs.Moves.{Becomes}
 use Rattle.delivery.proofs.Lines.{hsk-kept, bav-kept, hsk-high, hsk-own, nibble-kept}
 use Rattle.delivery.proofs.Lists.{all-map, all-zip, all-step, all-becomes}
 use Rattle.delivery.proofs.Part.{Stepped, low-step, Shows, part-high, part-free, part-rests, part-sent, part-over, Turned}

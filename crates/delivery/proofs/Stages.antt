@@ -36,11 +36,11 @@ use Rattle.ring.specs.declared.Ring.{Ring}
 use Rattle.serial.specs.declared.Reply.{Reply}
 use Rattle.whole.specs.Back.{responseFor, takenAt, storedAt, lengthOf, received}
 use Rattle.whole.specs.Whole.{bytesFor, Sent}
-use Rattle.delivery.specs.Ends.{Nearer}
+use Rattle.delivery.proofs.Moves.{Becomes, Nearer}
 use Rattle.delivery.proofs.Taking.{Fits, Heard}
 use Rattle.delivery.specs.Lists.{All, One, Has}
 use Rattle.delivery.proofs.Promised.{Moment, Promised}
-use Rattle.delivery.specs.World.{World, Busy, levels, round, Becomes, Different}
+use Rattle.delivery.specs.World.{World, Busy, levels, round, Different}
 
 -- A unit whose lent memory is long enough, and whose inside fits its kind.
 pub record Sound (st : Station) : Type 0 where

@@ -40,9 +40,10 @@ use Rattle.whole.specs.Whole.{bytesFor}
 use Rattle.whole.proofs.Whole.{length-bytes}
 use Rattle.delivery.specs.Lists.{All, Has, here, there}
 use Rattle.delivery.specs.Log.{Act, sent, heard, Deed, settled, spoke, Mark, acts, deedsBy, unitsMarks, stageMarks, roundMarks, Capture, actsIn, deedsIn}
+use Rattle.delivery.proofs.Moves.{Becomes}
 use Rattle.delivery.proofs.Promised.{Moment, Promised}
 use Rattle.delivery.proofs.Stages.{Fresh, idles, selects, Sound, Sends, s-next, s-placed, s-kept, Part, InFrame, sends, isResponding, spoke, Framed, world}
-use Rattle.delivery.specs.World.{World, Busy, levels, round, Becomes, Different}
+use Rattle.delivery.specs.World.{World, Busy, levels, round, Different}
 use Rattle.delivery.proofs.Deeds.{has-settled, twice-as-many, nibblesFor, answerFor, Stands, Did, one-more, part-did, fresh-did}
 use Rattle.delivery.proofs.EveryRound.{in-frame-nibble, in-frame-low, in-frame-different}
 use Rattle.delivery.proofs.Frame.{control, own-kept}

@@ -35,8 +35,9 @@ use Rattle.serial.specs.declared.Reply.{Reply}
 use Rattle.unit.specs.Unit.{pullsHsk, pullsNibble}
 use Rattle.whole.specs.Back.{takenAt, storedAt, lengthOf, received}
 use Rattle.whole.proofs.Back.{response-completes, not-over-before, data-received}
+use Rattle.delivery.proofs.Moves.{Falls}
 use Rattle.delivery.proofs.Stages.{addressed, Quiet, Talk, answerBytes, answerData, talks}
-use Rattle.delivery.specs.Ends.{place, phaseLeft, Falls}
+use Rattle.delivery.specs.Ends.{place, phaseLeft}
 use Rattle.delivery.proofs.Taking.{Fits, f-next, f-placed, f-holds, f-waits, Sees}
 use Rattle.delivery.proofs.Promised.{Moment, Promised}
 use Rattle.delivery.proofs.Ends.{falls}

@@ -96,14 +96,6 @@ called w (lendsUnit i buffer) = record {
   response = w .response;
 }
 
--- The response buffer that a frame has found, behind a call in mid-frame: that of a service frame, which stores nothing, may be another.
-abbrev pub foundAfter : World → Call → List ℕ → List ℕ
-foundAfter w (host i call) found = found
-foundAfter w (submits k d response r b) found = found
-foundAfter w (acknowledges code h) found = found
-foundAfter w (lends d response) found = cond (isKept (w .controller .stage)) found response
-foundAfter w (lendsUnit i buffer) found = found
-
 -- A row of calls, the first one first.
 abbrev pub calledAll : World → List Call → World
 calledAll w [] = w

@@ -1,7 +1,6 @@
 -- Frames end: how many rounds a frame still takes at most, those aside in which a busy host holds a nibble. A nibble takes four: placed,
 -- taken, let go, counted. `FramesEnd` draws from it when a frame has ended.
-use Prim.Native.Nat.{ℕ, _+_, _-_, _*_, _/_, _<_, _≤_}
-use mathlib.Core.Path.{_≡_}
+use Prim.Native.Nat.{ℕ, _+_, _-_, _*_, _/_}
 use mathlib.Core.Bool.{Bool, true, false, cond, not, _&&_}
 use mathlib.Core.List.{List, [], _∷_}
 use Rattle.bus.specs.Bus.{isOdd}
@@ -17,7 +16,7 @@ use Rattle.phase.specs.declared.Phase.the-variants.{Idle, Selecting, Receiving,
 use Rattle.queue.specs.declared.Queue.{Queue}
 use Rattle.reply.specs.Reply.{lastNibble as lastOf}
 use Rattle.unit.specs.Unit.{pullsHsk}
-use Rattle.delivery.specs.World.{World, Busy, levels, round}
+use Rattle.delivery.specs.World.{World, Busy, levels}
 
 -- For the nibble that is under way, by whether HSK is low.
 abbrev pub place : Sender → Bool → ℕ
@@ -66,10 +65,3 @@ isFree w busy = controllerFree (w .controller .stage) (busy .here) && unitsFree 
 -- A round in which no host is busy. It is free, wherever the parties are.
 abbrev pub quietly : Busy
 quietly = record { here = false; there = 0 }
-
--- What a round of a frame does to the rounds that are left: they never rise, and fall if it is free.
-abbrev pub Falls : Bool → ℕ → ℕ → Type 0
-Falls free now before = (now ≤ before) × (free ≡ true → now < before)
-
-abbrev pub Nearer : World → Busy → Type 0
-Nearer w busy = Falls (isFree w busy) (left (round w busy)) (left w)

@@ -7,7 +7,7 @@ use mathlib.Core.Path.{_≡_}
 use mathlib.Core.List.{List, [], _∷_}
 use lib.ListN.{length}
 use Rattle.delivery.specs.Lists.{All}
-use Rattle.bus.specs.Bus.{levelsWith, unitsAfter, stationStep, isOdd, unitsOf, levelsOf, roundOf, responseOf, memoryAfter}
+use Rattle.bus.specs.Bus.{levelsWith, unitsAfter, isOdd, unitsOf, levelsOf, roundOf, responseOf, memoryAfter}
 use Rattle.bus.specs.declared.Bus.{Bus}
 use Rattle.bus.specs.declared.Station.{Station}
 use Rattle.controller.specs.Calls.{stepping, controllerStepped, bufferAfter}
@@ -58,11 +58,6 @@ TheBus =
     → length (b .units) ≡ 16
     → length memory ≡ 12288
     → worldAfter b busy lent response memory ≡ round (worldOf b lent response memory) (record { here = isOdd (busy / 65536); there = busy })
-
--- In a round with these levels and hosts the unit `st` of a list becomes `after`.
-pub data Becomes (seen : Lines) : ℕ → List Station → Station → Station → Type 0 where
-  in-front : {hosts : ℕ} {st : Station} {ss : List Station} → Becomes seen hosts (st ∷ ss) st (stationStep st seen (isOdd hosts))
-  behind : {hosts : ℕ} {x st after : Station} {ss : List Station} → Becomes seen (hosts / 2) ss st after → Becomes seen hosts (x ∷ ss) st after
 
 -- Different codes.
 pub data Different : List Station → Type 0 where

@@ -13,11 +13,12 @@ use Rattle.controller.specs.Controller.{isIdle}
 use Rattle.controller.specs.declared.Controller.{Controller}
 use Rattle.delivery.specs.Calls.{Call, host, submits as submitsTo, acknowledges as acknowledgesTo, lends, lendsUnit, called, calledAt, inFrame, running}
 use Rattle.delivery.specs.Run.{QuietStart, Run, start, a-round, a-call}
+use Rattle.delivery.proofs.Moves.{Becomes, behind, in-front as first-one}
 use Rattle.delivery.proofs.Rounds.{Took, takes-it, took-it, Changed, unchanged, fixed-now, done-now}
 use Rattle.delivery.specs.Lists.{All, none, also, One, this, that, Has, here, there}
 use Rattle.delivery.proofs.Promised.{Moment}
 use Rattle.delivery.proofs.Stages.{On, rests, submitted, ended, runs, InFrame, begins, sends, hears, waits, Goes, on, answered, unanswered, Spoke, spoke, addressed, movedIn, Sound, Sits, Fresh, idles, selects, Talk, talks, isResponding, answerData}
-use Rattle.delivery.specs.World.{World, Busy, levels, round, Becomes, in-front as first-one, behind, Different, another}
+use Rattle.delivery.specs.World.{World, Busy, levels, round, Different, another}
 use Rattle.delivery.proofs.EveryRound.{every-run, every-response, changes, on-different, on-nibble}
 use Rattle.delivery.proofs.Frame.{becomes-all, own-kept, fresh-quiet, part-quiet}
 use Rattle.line.specs.declared.Listener.{Listener}
