@@ -33,7 +33,8 @@ sound-called {call} {st} {after} k s = record {
 }
 
 -- A promise outlasts it, and so does every part of a frame.
-pub part-called : (T : Moment) {c : Command} {d : List ℕ} {i : ℕ} {sender : Sender} {call : HostCall} {st after : Station} → Called call st after → Part (Promised T (st .unit .own) c d) c d i sender st → Part (Promised T (after .unit .own) c d) c d i sender after
+pub part-called : (T : Moment) {c : Command} {d : List ℕ} {i : ℕ} {sender : Sender} {call : HostCall} {st after : Station} → Called call st after
+    → Part (Promised T (st .unit .own) c d) c d i sender st → Part (Promised T (after .unit .own) c d) c d i sender after
 part-called T {c} {d} {i} {sender} {call} {st} {after} k (listens ear t f h a q) =
     listens ear t f (subst (λ (x : Phase). Heard (bytesFor c d) ear (i + t) x (after .buffer)) (sym (k .phase)) (subst (Heard (bytesFor c d) ear (i + t) (st .unit .phase)) (sym (k .buffer)) h))
     (λ l. ap (addressed c) (k .own) ∙ a l) (λ l. k .asking ∙ q l)
@@ -52,12 +53,14 @@ fresh-called k (idles e) = idles (k .phase ∙ e)
 fresh-called k (selects e) = selects (k .phase ∙ e)
 
 -- At one unit of a list.
-pub all-called : {P : Station → Type 0} → ((call : HostCall) (st after : Station) → Called call st after → P st → P after) → (i : ℕ) (call : HostCall) {ss : List Station} → All (λ (st : Station). P st × Sound st) ss → All (λ (st : Station). P st × Sound st) (calledAt i call ss)
+pub all-called : {P : Station → Type 0} → ((call : HostCall) (st after : Station) → Called call st after → P st → P after) → (i : ℕ) (call : HostCall) {ss : List Station}
+    → All (λ (st : Station). P st × Sound st) ss → All (λ (st : Station). P st × Sound st) (calledAt i call ss)
 all-called f i call none = none
 all-called f zero call (also {x = st} p a) = let k = unit-called call st in also (f call st (calledBy call st) k (p .0), sound-called k (p .1)) a
 all-called f (suc i) call (also p a) = also p (all-called f i call a)
 
-pub one-called : {P Q : Station → Type 0} → ((call : HostCall) (st after : Station) → Called call st after → P st → P after) → ((call : HostCall) (st after : Station) → Called call st after → Q st → Q after) → (i : ℕ) (call : HostCall) {ss : List Station}
+pub one-called : {P Q : Station → Type 0} → ((call : HostCall) (st after : Station) → Called call st after → P st → P after)
+    → ((call : HostCall) (st after : Station) → Called call st after → Q st → Q after) → (i : ℕ) (call : HostCall) {ss : List Station}
     → One (λ (st : Station). P st × Sound st) (λ (st : Station). Q st × Sound st) ss → One (λ (st : Station). P st × Sound st) (λ (st : Station). Q st × Sound st) (calledAt i call ss)
 one-called f g zero call (this {x = st} p a) = let k = unit-called call st in this (f call st (calledBy call st) k (p .0), sound-called k (p .1)) a
 one-called f g (suc i) call (this p a) = this p (all-called g i call a)

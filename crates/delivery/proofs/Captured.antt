@@ -122,7 +122,9 @@ module _ {w v : World} (q : QuietStart w) (r : Run w v) (busy : Busy) where
   -- From a rest.
   rest-round : (t : Bool) (ls : List Capture) → inFrame (u .controller .stage) ≡ t → inFrame (c .stage) ≡ false → All (Ended (codesOf (v .units))) ls → Frames (Took (a-round r busy)) u (cutAll ls (roundMarks v busy))
   rest-round false ls t e a =
-      let marks : roundMarks v busy ≡ [] = λ i. nothing-between (every-run w v q r) e (busy .there) i ++ rest-marks (c .timeout) (c .ring) (levels v) (busy .here) (v .lent) (v .response) (eventIn c (levels v) (busy .here) (v .lent)) (u .response) (c .stage) (u .controller .stage) e t i in
+      let marks : roundMarks v busy ≡ [] =
+      λ i. nothing-between (every-run w v q r) e (busy .there) i ++ rest-marks (c .timeout) (c .ring) (levels v) (busy .here) (v .lent) (v .response)
+      (eventIn c (levels v) (busy .here) (v .lent)) (u .response) (c .stage) (u .controller .stage) e t i in
       subst (λ (ms : List Mark). Frames (Took (a-round r busy)) u (cutAll ls ms)) (sym marks) (at-rest t (subst (λ (codes : List ℕ). All (Ended codes) ls) (sym (codes-after (levels v) (busy .there) (v .units))) a))
   rest-round true ls t e a =
       let b = begun-view (every-run w u q (a-round r busy)) (begins-by (c .timeout) (c .ring) (levels v) (busy .here) (v .lent) (v .response) (c .stage) e t) in

@@ -94,7 +94,8 @@ module _ (c : Command) (d : List ℕ) {st st′ : Station} {seen : Lines} {busy 
       by true true x y = unchanged (comes x y .1) (λ now. absurd (true≢false (sym now ∙ ap isAnswered (comes x y .0))))
       by true false x y = done-now a r j sender e (comes x y .0) (comes x y .1)
 
-  pub talk-changes : {T : Moment} {e : Command} {g : List ℕ} {stores : Bool} {found : List ℕ} {ear : Listener} {taken : Response} {quiet : ℕ} {buffer : List ℕ} → addressed c (st .unit .own) ≡ true → Talk T e g stores found ear taken quiet buffer st → Changed c d st st′
+  pub talk-changes : {T : Moment} {e : Command} {g : List ℕ} {stores : Bool} {found : List ℕ} {ear : Listener} {taken : Response} {quiet : ℕ} {buffer : List ℕ}
+      → addressed c (st .unit .own) ≡ true → Talk T e g stores found ear taken quiet buffer st → Changed c d st st′
   talk-changes a (talks r j t sender wait e p fits g b l w q k own) = responds-by r j sender wait (sentOf sender (seen .hsk)) (ltb j (lastNibble (st .unit .serial .input) r)) a e refl refl
 
 module _ (P : Reply → Inside → Type 0) (c : Command) (d : List ℕ) (ok : Sent c d) (i : ℕ) (sender : Sender) (st st′ : Station) (seen : Lines) (busy : Bool) (step : Stepped st seen busy st′) where

@@ -121,13 +121,15 @@ rests-deeds seen next x (h-first room) e = rw e
 rests-deeds seen next x (h-byte j buffer room g h) e = rw e
 rests-deeds seen next x (h-half j buffer room g h) e = rw e
 
-takes-deeds : {bytes : List ℕ} {k : ℕ} {phase : Phase} {buffer : List ℕ} (seen : Lines) (next : Phase) (x : Inside) → Heard bytes Ready k phase buffer → seen .hsk ≡ true → isAnswered next ≡ false → deedsBy phase next x seen ≡ took (seen .nibble) ∷ []
+takes-deeds : {bytes : List ℕ} {k : ℕ} {phase : Phase} {buffer : List ℕ} (seen : Lines) (next : Phase) (x : Inside) → Heard bytes Ready k phase buffer → seen .hsk ≡ true
+    → isAnswered next ≡ false → deedsBy phase next x seen ≡ took (seen .nibble) ∷ []
 takes-deeds seen next x (h-none room) e a = rw e
 takes-deeds seen next x (h-first room) e a = rw e
 takes-deeds seen next x (h-byte j buffer room g h) e a = λ i. cond (e i) (took (seen .nibble) ∷ settled-no next x a i) []
 takes-deeds seen next x (h-half j buffer room g h) e a = λ i. cond (e i) (took (seen .nibble) ∷ settled-no next x a i) []
 
-last-deeds : {bytes : List ℕ} {k : ℕ} {phase : Phase} {buffer : List ℕ} {ear : Listener} {r : Reply} (seen : Lines) (next : Phase) (x : Inside) → Heard bytes Ready k phase buffer → 2 ≤ k → seen .hsk ≡ true → next ≡ Receiving ear (Answered r)
+last-deeds : {bytes : List ℕ} {k : ℕ} {phase : Phase} {buffer : List ℕ} {ear : Listener} {r : Reply} (seen : Lines) (next : Phase) (x : Inside) → Heard bytes Ready k phase buffer
+    → 2 ≤ k → seen .hsk ≡ true → next ≡ Receiving ear (Answered r)
     → deedsBy phase next x seen ≡ took (seen .nibble) ∷ settled x ∷ []
 last-deeds seen next x (h-none room) l e q = absurd (omega arith)
 last-deeds seen next x (h-first room) l e q = absurd (omega arith)
@@ -167,7 +169,8 @@ module _ (c : Command) (d : List ℕ) {st st′ : Station} {seen : Lines} {busy 
       by (selects z) = newly-at z ∙ rw high
 
   -- The last nibble counts as sent, or not yet.
-  replied-by : (t : Bool) (ear : Listener) (r : Reply) → isSilent r ≡ t → isReady (hearOf ear (seen .hsk) busy) ≡ true → st .unit .phase ≡ Receiving ear (Answered r) → Did c d own (st .unit .phase) e → Did c d own (st′ .unit .phase) (e ++ newly)
+  replied-by : (t : Bool) (ear : Listener) (r : Reply) → isSilent r ≡ t → isReady (hearOf ear (seen .hsk) busy) ≡ true → st .unit .phase ≡ Receiving ear (Answered r)
+      → Did c d own (st .unit .phase) e → Did c d own (st′ .unit .phase) (e ++ newly)
   replied-by true ear r s ready z q =
       let k : Stands c d own r 0 e = did-at z q in
       nothing-new {after = SittingOut false} (phase-at z ∙ rw (ready, s)) (newly-at z) (by-rule (k .given) (k .meant) (sym (ap isSilent (k .said)) ∙ s) (k .deeds))

@@ -41,7 +41,8 @@ and-right true b e = e
 and-right false b e = absurd (false≢true e)
 
 -- A free round of every unit: if it holds HSK, its host is not busy.
-pub free-step : {P Q : Station → Type 0} (seen : Lines) → ((st : Station) (busy : Bool) → not (pullsHsk (st .unit .phase) && busy) ≡ true → P st → Q (stationStep st seen busy)) → (hosts : ℕ) {ss : List Station} → unitsFree hosts ss ≡ true → All P ss → All Q (unitsAfter seen hosts ss)
+pub free-step : {P Q : Station → Type 0} (seen : Lines) → ((st : Station) (busy : Bool) → not (pullsHsk (st .unit .phase) && busy) ≡ true → P st → Q (stationStep st seen busy))
+    → (hosts : ℕ) {ss : List Station} → unitsFree hosts ss ≡ true → All P ss → All Q (unitsAfter seen hosts ss)
 free-step seen f hosts e none = none
 free-step seen f hosts e (also {x = st} {xs = ss} p a) =
     also (f st (isOdd hosts) (and-left (not (pullsHsk (st .unit .phase) && isOdd hosts)) (unitsFree (hosts / 2) ss) e) p)
@@ -64,7 +65,8 @@ answered-free true true ear r e = refl
 answered-free true false ear r e = refl
 answered-free false u ear r e = e
 
-pub part-lets-go : {P : Reply → Inside → Type 0} {c : Command} {d : List ℕ} {i m : ℕ} {st st′ : Station} {seen : Lines} {busy : Bool} → Stepped st seen busy st′ → not (pullsHsk (st .unit .phase) && busy) ≡ true → Part P c d i (Kept m) st → pullsHsk (st′ .unit .phase) ≡ false
+pub part-lets-go : {P : Reply → Inside → Type 0} {c : Command} {d : List ℕ} {i m : ℕ} {st st′ : Station} {seen : Lines} {busy : Bool} → Stepped st seen busy st′
+    → not (pullsHsk (st .unit .phase) && busy) ≡ true → Part P c d i (Kept m) st → pullsHsk (st′ .unit .phase) ≡ false
 part-lets-go {c = c} {d = d} {i = i} {st = st} {st′ = st′} {seen = seen} {busy = busy} s free (listens ear t f h a q) = by (heard-waits (st .unit .own) (insideOf st) seen busy h (kept-ear (seen .hsk) f))
   where
     by : Waits (bytesFor c d) (i + t) (hearOf ear (seen .hsk) busy) (st .unit .phase) (st .unit .own) (insideOf st) seen busy (st .buffer) → pullsHsk (st′ .unit .phase) ≡ false

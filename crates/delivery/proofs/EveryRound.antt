@@ -92,7 +92,8 @@ wider-frame {T} {U} g (sends i sender framed d s l a) = sends i sender framed d 
     part st (sits now a e k q) = sits now a e k q
 wider-frame {T} {U} g (hears ear taken quiet framed d l o) = hears ear taken quiet framed d l (one-map (λ st p. (talk st (p .0), p .1)) o)
   where
-    talk : {c : Command} {e : List ℕ} {stores : Bool} {found : List ℕ} {ear : Listener} {taken : Response} {quiet : ℕ} {buffer : List ℕ} (st : Station) → Talk T c e stores found ear taken quiet buffer st → Talk U c e stores found ear taken quiet buffer st
+    talk : {c : Command} {e : List ℕ} {stores : Bool} {found : List ℕ} {ear : Listener} {taken : Response} {quiet : ℕ} {buffer : List ℕ} (st : Station)
+        → Talk T c e stores found ear taken quiet buffer st → Talk U c e stores found ear taken quiet buffer st
     talk st (talks r j t sender wait e p fits h b l w z q own) = talks r j t sender wait e (wider-promise g p) fits h b l w z q own
 wider-frame {T} {U} g (waits quiet framed d a why) = waits quiet framed d a (all-map hush why)
   where
@@ -122,7 +123,8 @@ every-response w v r f found x busy = frame-round (Took (a-round r busy)) f foun
 pub in-frame-nibble : {T : Moment} {f : Frame} {found : List ℕ} {w : World} → InFrame T f found w → levels w .nibble < 16
 in-frame-nibble (begins framed d a) = begin-nibble a
 in-frame-nibble {T} {f} (sends i sender {units = units} {lent = lent} framed d s l a) = sent-nibble T (f .command) (dataOf f lent) (framed .sent) i sender units 0 s a
-in-frame-nibble {T} {f} {found} (hears ear taken quiet {timeout = timeout} {units = units} {lent = lent} {response = response} framed d l o) = heard-nibble T f (dataOf f lent) found timeout (framed .eight) (framed .room) false 0 ear taken quiet response units o
+in-frame-nibble {T} {f} {found} (hears ear taken quiet {timeout = timeout} {units = units} {lent = lent} {response = response} framed d l o) =
+    heard-nibble T f (dataOf f lent) found timeout (framed .eight) (framed .room) false 0 ear taken quiet response units o
 in-frame-nibble (waits quiet {units = units} framed d a why) = subst (λ (x : ℕ). x < 16) (sym (still-nibble Ready 0 units a)) (lit< tt)
 
 in-frame-lent : {T : Moment} {f : Frame} {found : List ℕ} {w : World} → InFrame T f found w → lentAt (w .controller .stage) (length (w .lent)) (length (w .response)) ≡ AsLent
@@ -178,7 +180,8 @@ every-step w v q r busy = ((eventIn (v .controller) (levels v) (busy .here) (v .
         (unitStep (st .unit) (levels v) host (st .buffer) (st .input), e)
 
 -- What a round of a frame makes of its units.
-talk-addressed : {T : Moment} {c : Command} {d : List ℕ} {stores : Bool} {found : List ℕ} {ear : Listener} {taken : Response} {quiet : ℕ} {buffer : List ℕ} (st : Station) → Talk T c d stores found ear taken quiet buffer st → addressed c (st .unit .own) ≡ true
+talk-addressed : {T : Moment} {c : Command} {d : List ℕ} {stores : Bool} {found : List ℕ} {ear : Listener} {taken : Response} {quiet : ℕ} {buffer : List ℕ} (st : Station)
+    → Talk T c d stores found ear taken quiet buffer st → addressed c (st .unit .own) ≡ true
 talk-addressed st (talks r j t sender wait e p fits g b l w c q own) = own
 
 pub in-frame-low : {T : Moment} {f : Frame} {found : List ℕ} {w : World} → InFrame T f found w → levels w .bav ≡ true
@@ -228,7 +231,8 @@ past-answered : {x : Phase} (own : ℕ) (s : Serial) (seen : Lines) (busy : Bool
 past-answered own s seen busy buffer input has-answered e = absurd (true≢false e)
 past-answered own s seen busy buffer input (responds {r = r} {j = j} {sender = sender} {wait = wait}) e = by wait (sentOf sender (seen .hsk)) (ltb j (lastOf (s .input) r)) j (j + 1) j _
   where
-    by : (a b c : Bool) (x y z : ℕ) (k : Sender) → isAnswered (cond a (moves (Responding r x sender false) s) (cond b (cond c (moves (Responding r y Next false) s) (moves (SittingOut false) (finished s r))) (moves (Responding r z k false) s)) .phase) ≡ false
+    by : (a b c : Bool) (x y z : ℕ) (k : Sender)
+        → isAnswered (cond a (moves (Responding r x sender false) s) (cond b (cond c (moves (Responding r y Next false) s) (moves (SittingOut false) (finished s r))) (moves (Responding r z k false) s)) .phase) ≡ false
     by true b c x y z k = refl
     by false true true x y z k = refl
     by false true false x y z k = refl

@@ -97,7 +97,9 @@ control-buffer c seen host lent response n e = let a : ltb 15 (seen .nibble) ≡
 pub own-kept : (st : Station) (seen : Lines) (busy : Bool) → stationStep st seen busy .unit .own ≡ st .unit .own
 own-kept st seen busy = by (ltb 15 (seen .nibble)) (isShort (kindOf (st .unit .own)) (length (st .buffer))) (seen .bav)
   where
-    by : (a b c : Bool) → unitAfter (cond a (refused 5) (cond b (refused 11) (gives (cond c (lowStep (st .unit) (seen .hsk) (phaseStep (st .unit .phase) (st .unit .own) (st .unit .serial) seen busy (st .buffer) (st .input))) (highStep (st .unit) (seen .hsk)))))) (st .unit) .own ≡ st .unit .own
+    by : (a b c : Bool) → unitAfter
+        (cond a (refused 5) (cond b (refused 11) (gives (cond c (lowStep (st .unit) (seen .hsk) (phaseStep (st .unit .phase) (st .unit .own) (st .unit .serial) seen busy (st .buffer) (st .input))) (highStep (st .unit) (seen .hsk))))))
+        (st .unit) .own ≡ st .unit .own
     by true b c = refl
     by false true c = refl
     by false false true = refl
@@ -142,19 +144,24 @@ nobody-speaks : {seen : Lines} {hosts : ℕ} {ss : List Station} → All (λ (st
     → (st after : Station) → Becomes seen hosts ss st after → isResponding (st .unit .phase) ≡ true → isResponding (after .unit .phase) ≡ true
 nobody-speaks a st after b e = absurd (true≢false (sym e ∙ becomes-all a b))
 
-pub talk-responds : {T : Moment} {c : Command} {d : List ℕ} {stores : Bool} {found : List ℕ} {ear : Listener} {taken : Response} {quiet : ℕ} {buffer : List ℕ} {st : Station} → Talk T c d stores found ear taken quiet buffer st → isResponding (st .unit .phase) ≡ true
+pub talk-responds : {T : Moment} {c : Command} {d : List ℕ} {stores : Bool} {found : List ℕ} {ear : Listener} {taken : Response} {quiet : ℕ} {buffer : List ℕ} {st : Station}
+    → Talk T c d stores found ear taken quiet buffer st → isResponding (st .unit .phase) ≡ true
 talk-responds (talks r j t sender wait e p fits g b l w z q own) = ap isResponding e
 
 sits-quiet : {st : Station} → Sits st × Sound st → isResponding (st .unit .phase) ≡ false
 sits-quiet p = ap isResponding (p .0 .0)
 
 -- One unit responds before the round and one behind it: it is the same.
-module _ {P : Station → Type 0} (seen : Lines) (responds : (st : Station) → P st → isResponding (st .unit .phase) ≡ true) (rest : (st : Station) (host : Bool) → Sits st × Sound st → Sits (stationStep st seen host) × Sound (stationStep st seen host)) where
-  nobody-new : (hosts : ℕ) {ss : List Station} → All (λ (st : Station). Sits st × Sound st) ss → One P (λ (st : Station). Sits st × Sound st) (unitsAfter seen hosts ss) → ⊥
-  nobody-new hosts (also {x = st} p a) (this {x = after} q b) = true≢false (sym (responds after q) ∙ sits-quiet (rest st (isOdd hosts) p))
-  nobody-new hosts (also p a) (that q o) = nobody-new (hosts / 2) a o
+module _
+    {P : Station → Type 0} (seen : Lines) (responds : (st : Station) → P st → isResponding (st .unit .phase) ≡ true)
+    (rest : (st : Station) (host : Bool) → Sits st × Sound st → Sits (stationStep st seen host) × Sound (stationStep st seen host))
+  where
+    nobody-new : (hosts : ℕ) {ss : List Station} → All (λ (st : Station). Sits st × Sound st) ss → One P (λ (st : Station). Sits st × Sound st) (unitsAfter seen hosts ss) → ⊥
+    nobody-new hosts (also {x = st} p a) (this {x = after} q b) = true≢false (sym (responds after q) ∙ sits-quiet (rest st (isOdd hosts) p))
+    nobody-new hosts (also p a) (that q o) = nobody-new (hosts / 2) a o
 
-still-speaks : {Q P : Station → Type 0} (seen : Lines) (hosts : ℕ) → ((st : Station) → P st → isResponding (st .unit .phase) ≡ true) → ((st : Station) (host : Bool) → Sits st × Sound st → Sits (stationStep st seen host) × Sound (stationStep st seen host)) → {ss : List Station}
+still-speaks : {Q P : Station → Type 0} (seen : Lines) (hosts : ℕ) → ((st : Station) → P st → isResponding (st .unit .phase) ≡ true)
+    → ((st : Station) (host : Bool) → Sits st × Sound st → Sits (stationStep st seen host) × Sound (stationStep st seen host)) → {ss : List Station}
     → One Q (λ (st : Station). Sits st × Sound st) ss → One P (λ (st : Station). Sits st × Sound st) (unitsAfter seen hosts ss)
     → (st after : Station) → Becomes seen hosts ss st after → isResponding (st .unit .phase) ≡ true → isResponding (after .unit .phase) ≡ true
 still-speaks seen hosts responds rest (this p a) (this {x = x} q b) st after in-front e = responds x q
@@ -164,7 +171,8 @@ still-speaks seen hosts responds rest (that {x = x} p o) (this {x = y} q b) st a
 still-speaks seen hosts responds rest (that p o) (that q o′) st after in-front e = absurd (true≢false (sym e ∙ sits-quiet p))
 still-speaks seen hosts responds rest (that p o) (that q o′) st after (behind k) e = still-speaks seen (hosts / 2) responds rest o o′ st after k e
 
-go-on : {T : Moment} {f : Frame} {found : List ℕ} {w v : World} {busy : Busy} → round w busy ≡ v → v .controller .ring ≡ w .controller .ring → InFrame T f found v → Speaking w busy → Falls (isFree w busy) (left v) (left w) → Goes T f found w busy
+go-on : {T : Moment} {f : Frame} {found : List ℕ} {w v : World} {busy : Busy} → round w busy ≡ v → v .controller .ring ≡ w .controller .ring → InFrame T f found v → Speaking w busy
+    → Falls (isFree w busy) (left v) (left w) → Goes T f found w busy
 go-on {T} {f} {found} {w} {busy = busy} eq r y speaks less = on (ap (λ (x : World). x .controller .ring) eq ∙ r) (subst (InFrame T f found) (sym eq) y) speaks (subst (λ (x : World). Falls (isFree w busy) (left x) (left w)) (sym eq) less)
 
 -- What falls in rounds of which less is asked falls in these too.
@@ -182,7 +190,8 @@ pub sits-left : {ss : List Station} (low : Bool) (rest : ℕ) → All (λ (st : 
 sits-left low rest none = refl
 sits-left low rest (also {x = st} {xs = ss} p a) = ap (λ (x : Phase). phaseLeft x (st .unit .serial .input) low (unitsLeft ss low rest)) (p .0 .0) ∙ sits-left low rest a
 
-talk-bound : {T : Moment} {c : Command} {d : List ℕ} {stores : Bool} {found : List ℕ} {ear : Listener} {taken : Response} {quiet : ℕ} {buffer : List ℕ} (st : Station) → Talk T c d stores found ear taken quiet buffer st → talkLeft ear st ≤ 4 * (2 * (3 + c .«buffer_length»)) + 1
+talk-bound : {T : Moment} {c : Command} {d : List ℕ} {stores : Bool} {found : List ℕ} {ear : Listener} {taken : Response} {quiet : ℕ} {buffer : List ℕ} (st : Station)
+    → Talk T c d stores found ear taken quiet buffer st → talkLeft ear st ≤ 4 * (2 * (3 + c .«buffer_length»)) + 1
 talk-bound {c} {ear = ear} st (talks r j t sender wait e p fits g b l w z q own) =
     let last = last-of p in
     let short = answer-fits p .fits in
@@ -253,7 +262,9 @@ module _ (T : Moment) (f : Frame) (found : List ℕ) (timeout : ℕ) (ring : Rin
       (all-step seen (λ st host p.
       let step = low-step st seen host small (p .1 .room) low in
       let ok = sound-low step (p .1) in (
-        listens Ready 0 f-next (subst (λ (x : Phase). Heard (bytesFor c d) Ready 0 x (stationStep st seen host .buffer)) (sym (fresh-selects step high (p .0))) (h-none (roomy (kindOf (stationStep st seen host .unit .own)) (length (stationStep st seen host .buffer)) (ok .room)))) (λ l. absurd (omega arith)) (λ l. absurd (omega arith)),
+        listens Ready 0 f-next
+            (subst (λ (x : Phase). Heard (bytesFor c d) Ready 0 x (stationStep st seen host .buffer)) (sym (fresh-selects step high (p .0))) (h-none (roomy (kindOf (stationStep st seen host .unit .own)) (length (stationStep st seen host .buffer)) (ok .room))))
+            (λ l. absurd (omega arith)) (λ l. absurd (omega arith)),
         ok,
       )) (busy .there) a)) (nobody-speaks (all-map (λ st p. fresh-quiet (p .0)) a)) (falls (begin-less (lastNibble f) (listening f timeout)))
 
@@ -264,93 +275,112 @@ module _ (T : Moment) (f : Frame) (found : List ℕ) (timeout : ℕ) (ring : Rin
   plain-one (that q o) = that q (plain-one o)
 
   -- A round while the command is sent.
-  module _ (i : ℕ) (sender : Sender) (s : Sends (nibbleIn (bytesFor c d) i) sender) (less : i < total) (a : All (λ (st : Station). Part (Promised T (st .unit .own) c d) c d i sender st × Sound st) units) (noted : Noted T (world timeout (Sending f i sender false) ring units lent found) busy) where
-    abbrev w : World
-    w = world timeout (Sending f i sender false) ring units lent found
+  module _
+      (i : ℕ) (sender : Sender) (s : Sends (nibbleIn (bytesFor c d) i) sender) (less : i < total)
+      (a : All (λ (st : Station). Part (Promised T (st .unit .own) c d) c d i sender st × Sound st) units)
+      (noted : Noted T (world timeout (Sending f i sender false) ring units lent found) busy)
+    where
+      abbrev w : World
+      w = world timeout (Sending f i sender false) ring units lent found
 
-    abbrev seen : Lines
-    seen = levelsWith (sending sender) units
+      abbrev seen : Lines
+      seen = levelsWith (sending sender) units
 
-    small : seen .nibble < 16
-    small = sent-nibble T c d (framed .sent) i sender units (busy .there) s a
+      small : seen .nibble < 16
+      small = sent-nibble T c d (framed .sent) i sender units (busy .there) s a
 
-    abbrev whenNot : Stage
-    whenNot = Sending f i (sendOf sender (seen .hsk) (nibbleIn (bytesFor c d) i)) false
+      abbrev whenNot : Stage
+      whenNot = Sending f i (sendOf sender (seen .hsk) (nibbleIn (bytesFor c d) i)) false
 
-    last-is : lastNibble f ≡ total - 1
-    last-is = let l : length (bytesFor c d) ≡ 9 + length d = length-bytes c d in let n = framed .announced in omega arith
+      last-is : lastNibble f ≡ total - 1
+      last-is = let l : length (bytesFor c d) ≡ 9 + length d = length-bytes c d in let n = framed .announced in omega arith
 
-    -- Beside a kept nibble all units let go, if the round is free.
-    all-let-go : (m : ℕ) → sender ≡ Kept m → isFree w busy ≡ true → levelsWith (sending (Kept m)) (unitsAfter seen (busy .there) units) .hsk ≡ false
-    all-let-go m e free =
-        hsk-high (sending (Kept m)) refl
-        (free-step seen (λ st host x p. part-lets-go (low-step st seen host small (p .1 .room) (bav-kept (sending sender) units refl)) x (subst (λ (k : Sender). Part (Promised T (st .unit .own) c d) c d i k st) e (p .0)))
-        (busy .there) (and-right (controllerFree (Sending f i sender false) (busy .here)) (unitsFree (busy .there) units) free) a)
+      -- Beside a kept nibble all units let go, if the round is free.
+      all-let-go : (m : ℕ) → sender ≡ Kept m → isFree w busy ≡ true → levelsWith (sending (Kept m)) (unitsAfter seen (busy .there) units) .hsk ≡ false
+      all-let-go m e free =
+          hsk-high (sending (Kept m)) refl
+          (free-step seen (λ st host x p. part-lets-go (low-step st seen host small (p .1 .room) (bav-kept (sending sender) units refl)) x (subst (λ (k : Sender). Part (Promised T (st .unit .own) c d) c d i k st) e (p .0)))
+          (busy .there) (and-right (controllerFree (Sending f i sender false) (busy .here)) (unitsFree (busy .there) units) free) a)
 
-    send-falls : sentOf sender (seen .hsk) ≡ false
-        → Falls (isFree w busy) (4 * (lastNibble f - i) + place (sendOf sender (seen .hsk) (nibbleIn (bytesFor c d) i)) (levelsWith (sending (sendOf sender (seen .hsk) (nibbleIn (bytesFor c d) i))) (unitsAfter seen (busy .there) units) .hsk) + 0 + listening f timeout)
-        (4 * (lastNibble f - i) + place sender (seen .hsk) + 0 + listening f timeout)
-    send-falls e =
-        let k = sendOf sender (seen .hsk) (nibbleIn (bytesFor c d) i) in
-        let now = levelsWith (sending k) (unitsAfter seen (busy .there) units) .hsk in
-        let less : Falls (isFree w busy) (place k now) (place sender (seen .hsk)) =
-        place-falls (isFree w busy) (seen .hsk) now s e (λ m g free. ap (λ (x : Sender). levelsWith (sending x) (unitsAfter seen (busy .there) units) .hsk) (kept-stays m g e) ∙ all-let-go m g free) in
-        let most = less .0 in
-        (omega arith, λ free. let l = less .1 free in omega arith)
-      where
-        stays-by : (low : Bool) (x : Sender) (m : ℕ) → x ≡ Kept m → sentOf x low ≡ false → sendOf x low (nibbleIn (bytesFor c d) i) ≡ Kept m
-        stays-by true x m g e = ap (λ (y : Sender). sendOf y true (nibbleIn (bytesFor c d) i)) g
-        stays-by false x m g e = absurd (true≢false (sym (ap (λ (y : Sender). sentOf y false) g) ∙ e))
+      send-falls : sentOf sender (seen .hsk) ≡ false
+          → Falls (isFree w busy) (4 * (lastNibble f - i) + place (sendOf sender (seen .hsk) (nibbleIn (bytesFor c d) i)) (levelsWith (sending (sendOf sender (seen .hsk) (nibbleIn (bytesFor c d) i))) (unitsAfter seen (busy .there) units) .hsk) + 0 + listening f timeout)
+          (4 * (lastNibble f - i) + place sender (seen .hsk) + 0 + listening f timeout)
+      send-falls e =
+          let k = sendOf sender (seen .hsk) (nibbleIn (bytesFor c d) i) in
+          let now = levelsWith (sending k) (unitsAfter seen (busy .there) units) .hsk in
+          let less : Falls (isFree w busy) (place k now) (place sender (seen .hsk)) =
+          place-falls (isFree w busy) (seen .hsk) now s e (λ m g free. ap (λ (x : Sender). levelsWith (sending x) (unitsAfter seen (busy .there) units) .hsk) (kept-stays m g e) ∙ all-let-go m g free) in
+          let most = less .0 in
+          (omega arith, λ free. let l = less .1 free in omega arith)
+        where
+          stays-by : (low : Bool) (x : Sender) (m : ℕ) → x ≡ Kept m → sentOf x low ≡ false → sendOf x low (nibbleIn (bytesFor c d) i) ≡ Kept m
+          stays-by true x m g e = ap (λ (y : Sender). sendOf y true (nibbleIn (bytesFor c d) i)) g
+          stays-by false x m g e = absurd (true≢false (sym (ap (λ (y : Sender). sentOf y false) g) ∙ e))
 
-        kept-stays : (m : ℕ) → sender ≡ Kept m → sentOf sender (seen .hsk) ≡ false → sendOf sender (seen .hsk) (nibbleIn (bytesFor c d) i) ≡ Kept m
-        kept-stays m g e = stays-by (seen .hsk) sender m g e
+          kept-stays : (m : ℕ) → sender ≡ Kept m → sentOf sender (seen .hsk) ≡ false → sendOf sender (seen .hsk) (nibbleIn (bytesFor c d) i) ≡ Kept m
+          kept-stays m g e = stays-by (seen .hsk) sender m g e
 
-    send-round : (t u : Bool) → sentOf sender (seen .hsk) ≡ t → ltb i (lastNibble f) ≡ u → Goes T f found w busy
-    send-round false u e g =
-        let m : movedIn w busy ≡ stays whenNot = ap (λ (x : Bool). stays (cond x (nextNibble f i) whenNot)) e in
-        go-on (after (Sending f i sender false) whenNot found found small (framed .fits) refl m refl) refl (sends i (sendOf sender (seen .hsk) (nibbleIn (bytesFor c d) i)) framed (different-kept seen (busy .there) different) (sends-on (seen .hsk) s e) less (units-rest T c d (framed .sent) i sender units (busy .there) s a noted e less)) (nobody-speaks (all-map (λ st p. part-quiet (p .0)) a)) (send-falls e)
-    send-round true true e g =
-        let more : i < lastNibble f = ltb-true i (lastNibble f) g in
-        let l = last-is in
-        let next : i + 1 ≡ suc i = omega arith in
-        let m : movedIn w busy ≡ stays (Sending f (suc i) Next false) =
-        ap (λ (x : Bool). stays (cond x (nextNibble f i) whenNot)) e ∙ ap (λ (x : Bool). stays (cond x (Sending f (i + 1) Next false) (Listening f Ready nothingTaken 0))) g ∙ ap (λ (x : ℕ). stays (Sending f x Next false)) next in
-        go-on (after (Sending f i sender false) (Sending f (suc i) Next false) found found small (framed .fits) refl m refl) refl (sends (suc i) Next framed (different-kept seen (busy .there) different) s-next (omega arith) (units-sent T c d (framed .sent) i sender units (busy .there) s a e (omega arith))) (nobody-speaks (all-map (λ st p. part-quiet (p .0)) a)) (falls (let some = place-some sender (seen .hsk) in omega arith))
-    send-round true false e g =
-        let least : lastNibble f ≤ i = ltb-false i (lastNibble f) g in
-        let l = last-is in
-        let m : movedIn w busy ≡ stays (Listening f Ready nothingTaken 0) =
-        ap (λ (x : Bool). stays (cond x (nextNibble f i) whenNot)) e ∙ ap (λ (x : Bool). stays (cond x (Sending f (i + 1) Next false) (Listening f Ready nothingTaken 0))) g in
-        let d′ = different-kept seen (busy .there) different in
-        let eq = after (Sending f i sender false) (Listening f Ready nothingTaken 0) found found small (framed .fits) refl m refl in
-        turn eq d′ (answering T c d (isSubmitted (f .kind)) found d′ (units-over T c d (framed .sent) i sender units (busy .there) s a e (omega arith)))
-      where
-        turn : round w busy ≡ world timeout (Listening f Ready nothingTaken 0) ring (unitsAfter seen (busy .there) units) lent found → Different (unitsAfter seen (busy .there) units)
-            → Answering T c d (isSubmitted (f .kind)) found (unitsAfter seen (busy .there) units) → Goes T f found w busy
-        turn eq d′ (somebody o) = go-on eq refl (hears Ready nothingTaken 0 framed d′ refl o) (nobody-speaks (all-map (λ st p. part-quiet (p .0)) a)) (falls (one-known (λ (x : ℕ). x < left w) (timeout - 0) (one-bound f (let some = place-some sender (seen .hsk) in omega arith) o)))
-        turn eq d′ (nobody-does b h) = go-on eq refl (waits 0 framed d′ b h) (nobody-speaks (all-map (λ st p. part-quiet (p .0)) a)) (falls (let k = sits-left (levelsWith (hearing Ready) (unitsAfter seen (busy .there) units) .hsk) (timeout - 0) b in omega arith))
+      send-round : (t u : Bool) → sentOf sender (seen .hsk) ≡ t → ltb i (lastNibble f) ≡ u → Goes T f found w busy
+      send-round false u e g =
+          let m : movedIn w busy ≡ stays whenNot = ap (λ (x : Bool). stays (cond x (nextNibble f i) whenNot)) e in
+          go-on (after (Sending f i sender false) whenNot found found small (framed .fits) refl m refl) refl
+          (sends i (sendOf sender (seen .hsk) (nibbleIn (bytesFor c d) i)) framed (different-kept seen (busy .there) different) (sends-on (seen .hsk) s e) less (units-rest T c d (framed .sent) i sender units (busy .there) s a noted e less))
+          (nobody-speaks (all-map (λ st p. part-quiet (p .0)) a)) (send-falls e)
+      send-round true true e g =
+          let more : i < lastNibble f = ltb-true i (lastNibble f) g in
+          let l = last-is in
+          let next : i + 1 ≡ suc i = omega arith in
+          let m : movedIn w busy ≡ stays (Sending f (suc i) Next false) =
+          ap (λ (x : Bool). stays (cond x (nextNibble f i) whenNot)) e ∙ ap (λ (x : Bool). stays (cond x (Sending f (i + 1) Next false) (Listening f Ready nothingTaken 0))) g ∙ ap (λ (x : ℕ). stays (Sending f x Next false)) next in
+          go-on (after (Sending f i sender false) (Sending f (suc i) Next false) found found small (framed .fits) refl m refl) refl
+          (sends (suc i) Next framed (different-kept seen (busy .there) different) s-next (omega arith) (units-sent T c d (framed .sent) i sender units (busy .there) s a e (omega arith)))
+          (nobody-speaks (all-map (λ st p. part-quiet (p .0)) a)) (falls (let some = place-some sender (seen .hsk) in omega arith))
+      send-round true false e g =
+          let least : lastNibble f ≤ i = ltb-false i (lastNibble f) g in
+          let l = last-is in
+          let m : movedIn w busy ≡ stays (Listening f Ready nothingTaken 0) =
+          ap (λ (x : Bool). stays (cond x (nextNibble f i) whenNot)) e ∙ ap (λ (x : Bool). stays (cond x (Sending f (i + 1) Next false) (Listening f Ready nothingTaken 0))) g in
+          let d′ = different-kept seen (busy .there) different in
+          let eq = after (Sending f i sender false) (Listening f Ready nothingTaken 0) found found small (framed .fits) refl m refl in
+          turn eq d′ (answering T c d (isSubmitted (f .kind)) found d′ (units-over T c d (framed .sent) i sender units (busy .there) s a e (omega arith)))
+        where
+          turn : round w busy ≡ world timeout (Listening f Ready nothingTaken 0) ring (unitsAfter seen (busy .there) units) lent found → Different (unitsAfter seen (busy .there) units)
+              → Answering T c d (isSubmitted (f .kind)) found (unitsAfter seen (busy .there) units) → Goes T f found w busy
+          turn eq d′ (somebody o) =
+              go-on eq refl (hears Ready nothingTaken 0 framed d′ refl o) (nobody-speaks (all-map (λ st p. part-quiet (p .0)) a))
+              (falls (one-known (λ (x : ℕ). x < left w) (timeout - 0) (one-bound f (let some = place-some sender (seen .hsk) in omega arith) o)))
+          turn eq d′ (nobody-does b h) =
+              go-on eq refl (waits 0 framed d′ b h) (nobody-speaks (all-map (λ st p. part-quiet (p .0)) a))
+              (falls (let k = sits-left (levelsWith (hearing Ready) (unitsAfter seen (busy .there) units) .hsk) (timeout - 0) b in omega arith))
 
   -- A round while one unit responds.
-  module _ (ear : Listener) (taken : Response) (quiet : ℕ) (response : List ℕ) (long : length response ≡ length found) (o : One (λ (st : Station). Talk T c d (isSubmitted (f .kind)) found ear taken quiet response st × Sound st) (λ (st : Station). Sits st × Sound st) units) where
-    abbrev v : World
-    v = world timeout (Listening f ear taken quiet) ring units lent response
+  module _
+      (ear : Listener) (taken : Response) (quiet : ℕ) (response : List ℕ) (long : length response ≡ length found)
+      (o : One (λ (st : Station). Talk T c d (isSubmitted (f .kind)) found ear taken quiet response st × Sound st) (λ (st : Station). Sits st × Sound st) units)
+    where
+      abbrev v : World
+      v = world timeout (Listening f ear taken quiet) ring units lent response
 
-    as-lent : lentTo f (length lent) (length response) ≡ AsLent
-    as-lent = ap (λ (x : ℕ). lentTo f (length lent) x) long ∙ framed .fits
+      as-lent : lentTo f (length lent) (length response) ≡ AsLent
+      as-lent = ap (λ (x : ℕ). lentTo f (length lent) x) long ∙ framed .fits
 
-    heard-small : levels v .nibble < 16
-    heard-small = heard-nibble T f d found timeout (framed .eight) (framed .room) (busy .here) (busy .there) ear taken quiet response units o
+      heard-small : levels v .nibble < 16
+      heard-small = heard-nibble T f d found timeout (framed .eight) (framed .room) (busy .here) (busy .there) ear taken quiet response units o
 
-    hear-by : Heard′ T f d found (movedIn v busy) (listeningBuffer f ear taken (levels v) response) (not (listenerHsk ear && busy .here)) (unitsLeft units (levels v .hsk) (timeout - quiet)) units (unitsAfter (levels v) (busy .there) units) → Goes T f found v busy
-    hear-by (goes-on ear′ taken′ quiet′ e o′) =
-        go-on (after (Listening f ear taken quiet) (Listening f ear′ taken′ quiet′) response (listeningBuffer f ear taken (levels v) response) heard-small as-lent refl e refl) refl (hears ear′ taken′ quiet′ framed (different-kept (levels v) (busy .there) different) (heard-length f ear taken (levels v) response ∙ long) (plain-one o′)) (still-speaks (levels v) (busy .there) (λ st p. talk-responds (p .0)) (λ st host p. sits-step (levels v) (bav-kept (hearing ear) units refl) heard-small st host p) o (plain-one o′)) (falls-by (and-left (controllerFree (Listening f ear taken quiet) (busy .here)) (unitsFree (busy .there) units)) (one-known (λ (x : ℕ). Falls (not (listenerHsk ear && busy .here)) x (left v)) (timeout - quiet′) o′))
-    hear-by (comes-to-its-end o′) =
-        let b : round v busy .response ≡ listeningBuffer f ear taken (levels v) response = control-buffer (v .controller) (levels v) (busy .here) lent response heard-small as-lent in
-        answered (control (v .controller) (levels v) (busy .here) lent response heard-small as-lent refl) (different-kept (levels v) (busy .there) different)
-        (subst (λ (x : List ℕ). One (λ (st : Station). Spoke T f d found (movedIn v busy) x units st × Sound st) (λ (st : Station). Sits st × Sound st) (unitsAfter (levels v) (busy .there) units)) (sym b) o′)
+      hear-by : Heard′ T f d found (movedIn v busy) (listeningBuffer f ear taken (levels v) response) (not (listenerHsk ear && busy .here)) (unitsLeft units (levels v .hsk) (timeout - quiet)) units (unitsAfter (levels v) (busy .there) units)
+          → Goes T f found v busy
+      hear-by (goes-on ear′ taken′ quiet′ e o′) =
+          go-on (after (Listening f ear taken quiet) (Listening f ear′ taken′ quiet′) response (listeningBuffer f ear taken (levels v) response) heard-small as-lent refl e refl) refl
+          (hears ear′ taken′ quiet′ framed (different-kept (levels v) (busy .there) different) (heard-length f ear taken (levels v) response ∙ long) (plain-one o′))
+          (still-speaks (levels v) (busy .there) (λ st p. talk-responds (p .0)) (λ st host p. sits-step (levels v) (bav-kept (hearing ear) units refl) heard-small st host p) o (plain-one o′))
+          (falls-by (and-left (controllerFree (Listening f ear taken quiet) (busy .here)) (unitsFree (busy .there) units)) (one-known (λ (x : ℕ). Falls (not (listenerHsk ear && busy .here)) x (left v)) (timeout - quiet′) o′))
+      hear-by (comes-to-its-end o′) =
+          let b : round v busy .response ≡ listeningBuffer f ear taken (levels v) response = control-buffer (v .controller) (levels v) (busy .here) lent response heard-small as-lent in
+          answered (control (v .controller) (levels v) (busy .here) lent response heard-small as-lent refl) (different-kept (levels v) (busy .there) different)
+          (subst (λ (x : List ℕ). One (λ (st : Station). Spoke T f d found (movedIn v busy) x units st × Sound st) (λ (st : Station). Sits st × Sound st) (unitsAfter (levels v) (busy .there) units)) (sym b) o′)
 
-    hear-round : Goes T f found v busy
-    hear-round = hear-by (units-heard T f d found timeout (framed .eight) (framed .room) (busy .here) (busy .there) ear taken quiet response units o)
+      hear-round : Goes T f found v busy
+      hear-round = hear-by (units-heard T f d found timeout (framed .eight) (framed .room) (busy .here) (busy .there) ear taken quiet response units o)
 
   -- A round while nobody responds.
   module _ (quiet : ℕ) (a : All (λ (st : Station). Sits st × Sound st) units) (why : All (Hushed T c d) units) where
@@ -372,10 +402,13 @@ module _ (T : Moment) (f : Frame) (found : List ℕ) (timeout : ℕ) (ring : Rin
     wait-round : (t : Bool) → leb timeout (quiet + 1) ≡ t → Goes T f found u busy
     wait-round true e =
         unanswered (control (u .controller) (levels u) (busy .here) lent found silent-small (framed .fits) refl) (waited-on ∙ ap (λ (x : Bool). cond (x || false) (over f nothingTaken) (stays (Listening f Ready nothingTaken (quiet + 1)))) e)
-        (control-buffer (u .controller) (levels u) (busy .here) lent found silent-small (framed .fits) ∙ same-buffer) (different-kept (levels u) (busy .there) different) (units-sit Ready (busy .there) units a) (hushed-kept (levels u) (busy .there) why) (all-map (λ st p. p .0) a)
+        (control-buffer (u .controller) (levels u) (busy .here) lent found silent-small (framed .fits) ∙ same-buffer) (different-kept (levels u) (busy .there) different)
+        (units-sit Ready (busy .there) units a) (hushed-kept (levels u) (busy .there) why) (all-map (λ st p. p .0) a)
     wait-round false e =
         let m : movedIn u busy ≡ stays (Listening f Ready nothingTaken (quiet + 1)) = waited-on ∙ ap (λ (x : Bool). cond (x || false) (over f nothingTaken) (stays (Listening f Ready nothingTaken (quiet + 1)))) e in
-        go-on (after (Listening f Ready nothingTaken quiet) (Listening f Ready nothingTaken (quiet + 1)) found found silent-small (framed .fits) refl m same-buffer) refl (waits (quiet + 1) framed (different-kept (levels u) (busy .there) different) (units-sit Ready (busy .there) units a) (hushed-kept (levels u) (busy .there) why)) (nobody-speaks (all-map (λ st p. ap isResponding (p .0 .0)) a)) (falls
+        go-on (after (Listening f Ready nothingTaken quiet) (Listening f Ready nothingTaken (quiet + 1)) found found silent-small (framed .fits) refl m same-buffer) refl
+        (waits (quiet + 1) framed (different-kept (levels u) (busy .there) different) (units-sit Ready (busy .there) units a) (hushed-kept (levels u) (busy .there) why))
+        (nobody-speaks (all-map (λ st p. ap isResponding (p .0 .0)) a)) (falls
         (let old = sits-left (levels u .hsk) (timeout - quiet) a in
         let new = sits-left (levelsWith (hearing Ready) (unitsAfter (levels u) (busy .there) units) .hsk) (timeout - (quiet + 1)) (units-sit Ready (busy .there) units a) in
         let less : quiet + 1 < timeout = leb-less timeout (quiet + 1) e in

@@ -147,7 +147,8 @@ ends-quietly {f = f} {found = found} {w = w} x (next-free {n = n} go) =
     let z = all-in calls x in
     by calls (z .0) (λ y. ends-quietly y (go (calledAll w calls) (all-run calls start) (all-stay calls start (frame-runs x)) (all-count calls start) quietly (quietly-free (calledAll w calls)))) (next quietly (z .1)))
   where
-    by : (calls : List Call) (then : List ℕ) → (InFrame Any f then (round (calledAll w calls) quietly) → EndsQuietly n (round (calledAll w calls) quietly)) → Next f then (calledAll w calls) quietly → EndsQuietly n (round (calledAll w calls) quietly)
+    by : (calls : List Call) (then : List ℕ) → (InFrame Any f then (round (calledAll w calls) quietly) → EndsQuietly n (round (calledAll w calls) quietly))
+        → Next f then (calledAll w calls) quietly → EndsQuietly n (round (calledAll w calls) quietly)
     by calls then go (leads-on y nearer) = go y
     by calls then go (is-over e) = quiet-ended e
 

@@ -104,7 +104,8 @@ module _ (c : Command) (d : List ℕ) (ok : Sent c d) (own : ℕ) (x : Inside) (
   module _ (j : ℕ) (buffer : List ℕ) (seen-high : seen .nibble ≡ byteAt bytes j / 16 % 16) where
     byte-moved : phaseStep (halfAt j) own s seen busy buffer (x .input) ≡ movedBy j (headAt bytes (suc j)) (byteAt bytes j) buffer
     byte-moved =
-        ap (λ (t : Bool). cond t (movedBy j (withByte (headAt bytes j) j (byteOf j)) (byteOf j) buffer) (moves (Receiving (hearOf Ready (seen .hsk) busy) (Taking (record { header = headAt bytes j; place = j; half = true; low = byteAt bytes j % 16 }))) s)) low
+        ap
+        (λ (t : Bool). cond t (movedBy j (withByte (headAt bytes j) j (byteOf j)) (byteOf j) buffer) (moves (Receiving (hearOf Ready (seen .hsk) busy) (Taking (record { header = headAt bytes j; place = j; half = true; low = byteAt bytes j % 16 }))) s)) low
         ∙ ap (λ (n : ℕ). movedBy j (withByte (headAt bytes j) j n) n buffer) (byte-from j (seen .nibble) seen-high)
         ∙ ap (λ (h : Header). movedBy j h (byteAt bytes j) buffer) (next-header c d j ok)
 
@@ -175,7 +176,8 @@ module _ (c : Command) (d : List ℕ) (ok : Sent c d) (own : ℕ) (x : Inside) (
       })
   heard-takes (h-byte j buffer room g h) q l a =
       let m : phaseStep (Receiving Ready (Taking (partial (headAt bytes j) j))) own s seen busy (bufferAt bytes j buffer) (x .input) ≡ moves (Receiving Holding (Taking (record { header = headAt bytes j; place = j; half = true; low = byteAt bytes j % 16 }))) s =
-      ap (λ (t : Bool). cond t (moves (Receiving Holding (Taking (record { header = headAt bytes j; place = j; half = true; low = seen .nibble }))) s) (moves (Receiving (hearOf Ready (seen .hsk) busy) (Taking (partial (headAt bytes j) j))) s)) low
+      ap
+      (λ (t : Bool). cond t (moves (Receiving Holding (Taking (record { header = headAt bytes j; place = j; half = true; low = seen .nibble }))) s) (moves (Receiving (hearOf Ready (seen .hsk) busy) (Taking (partial (headAt bytes j) j))) s)) low
       ∙ ap (λ (n : ℕ). moves (Receiving Holding (Taking (record { header = headAt bytes j; place = j; half = true; low = n }))) s) (q ∙ low-nibble bytes j) in
       takes-it _ _ (h-half j buffer room g h) (record {
         phase = ap (λ (y : Moved). y .phase) m;

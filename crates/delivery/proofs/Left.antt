@@ -38,7 +38,8 @@ levels-called l zero call (st ∷ ss) = ap (λ (x : Lines). levelsWith (wired l 
 levels-called l (suc i) call (st ∷ ss) = levels-called (wired l (pullsOf (st .unit))) i call ss
 
 -- How long the unit that responds still takes is not either.
-talk-same : {T : Moment} {c : Command} {d : List ℕ} {stores : Bool} {found : List ℕ} {ear : Listener} {taken : Response} {quiet : ℕ} {buffer : List ℕ} {call : HostCall} {st after : Station} (low : Bool) (rest rest′ : ℕ) → Called call st after → Talk T c d stores found ear taken quiet buffer st
+talk-same : {T : Moment} {c : Command} {d : List ℕ} {stores : Bool} {found : List ℕ} {ear : Listener} {taken : Response} {quiet : ℕ} {buffer : List ℕ} {call : HostCall} {st after : Station} (low : Bool) (rest rest′ : ℕ)
+    → Called call st after → Talk T c d stores found ear taken quiet buffer st
     → phaseLeft (after .unit .phase) (after .unit .serial .input) low rest ≡ phaseLeft (st .unit .phase) (st .unit .serial .input) low rest′
 talk-same {T} {st = st} {after = after} low rest rest′ k (talks r j t sender wait e p fits g b l w c q own) =
     let same : lastNibble (after .unit .serial .input) r ≡ lastNibble (st .unit .serial .input) r = last-is (promise-called T k p) ∙ sym (last-is p) in
@@ -46,7 +47,8 @@ talk-same {T} {st = st} {after = after} low rest rest′ k (talks r j t sender w
     ∙ ap (λ (x : ℕ). 4 * (x - j) + place sender low + cond wait 1 0) same
     ∙ sym (ap (λ (x : Phase). phaseLeft x (st .unit .serial .input) low rest′) e)
 
-sits-same : {call : HostCall} {st after : Station} (low : Bool) (rest : ℕ) → Called call st after → Sits st → phaseLeft (after .unit .phase) (after .unit .serial .input) low rest ≡ phaseLeft (st .unit .phase) (st .unit .serial .input) low rest
+sits-same : {call : HostCall} {st after : Station} (low : Bool) (rest : ℕ) → Called call st after → Sits st
+    → phaseLeft (after .unit .phase) (after .unit .serial .input) low rest ≡ phaseLeft (st .unit .phase) (st .unit .serial .input) low rest
 sits-same {st = st} {after = after} low rest k s = ap (λ (x : Phase). phaseLeft x (after .unit .serial .input) low rest) (k .phase ∙ s .0) ∙ sym (ap (λ (x : Phase). phaseLeft x (st .unit .serial .input) low rest) (s .0))
 
 sits-units : (low : Bool) (rest : ℕ) (i : ℕ) (call : HostCall) {ss : List Station} → All (λ (st : Station). Sits st × Sound st) ss → unitsLeft (calledAt i call ss) low rest ≡ unitsLeft ss low rest
@@ -63,7 +65,8 @@ one-units low rest (suc i) call (that {x = st} q o) = ap (phaseLeft (st .unit .p
 
 host-left : {T : Moment} {f : Frame} {found : List ℕ} {w : World} (i : ℕ) (call : HostCall) → InFrame T f found w → left (called w (host i call)) ≡ left w
 host-left {T} {f} {found} {w} i call (begins {timeout = timeout} {units = units} framed d a) = ap (λ (l : Lines). stageLeft (w .controller .stage) timeout units (l .hsk)) (levels-called (framePulls (w .controller .stage)) i call units)
-host-left {T} {f} {found} {w} i call (sends j sender {timeout = timeout} {units = units} framed d s l a) = ap (λ (x : Lines). stageLeft (w .controller .stage) timeout units (x .hsk)) (levels-called (framePulls (w .controller .stage)) i call units)
+host-left {T} {f} {found} {w} i call (sends j sender {timeout = timeout} {units = units} framed d s l a) =
+    ap (λ (x : Lines). stageLeft (w .controller .stage) timeout units (x .hsk)) (levels-called (framePulls (w .controller .stage)) i call units)
 host-left {T} {f} {found} {w} i call (hears ear taken quiet {timeout = timeout} {units = units} framed d l o) =
     ap (λ (x : Lines). unitsLeft (calledAt i call units) (x .hsk) (timeout - quiet)) (levels-called (framePulls (w .controller .stage)) i call units) ∙ one-units (levels w .hsk) (timeout - quiet) i call o
 host-left {T} {f} {found} {w} i call (waits quiet {timeout = timeout} {units = units} framed d a why) =

@@ -68,7 +68,8 @@ fits-nibble h f-placed = h
 fits-nibble h f-holds = h
 fits-nibble h f-waits = h
 
-pub talk-nibble : {T : Moment} {c : Command} {d : List ℕ} {stores : Bool} {found : List ℕ} {ear : Listener} {taken : Response} {quiet : ℕ} {buffer : List ℕ} {st : Station} → Talk T c d stores found ear taken quiet buffer st → pullsNibble (st .unit .phase) < 16
+pub talk-nibble : {T : Moment} {c : Command} {d : List ℕ} {stores : Bool} {found : List ℕ} {ear : Listener} {taken : Response} {quiet : ℕ} {buffer : List ℕ} {st : Station}
+    → Talk T c d stores found ear taken quiet buffer st → pullsNibble (st .unit .phase) < 16
 talk-nibble (talks r j t sender wait e p fits g b l w c q own) = subst (λ (x : ℕ). x < 16) (sym (ap pullsNibble e)) (fits-nibble (nibble-below (answerBytes p) j) fits)
 
 -- A unit that sits out goes on to.
@@ -102,7 +103,9 @@ pub one-known : {T : Moment} {c : Command} {d : List ℕ} {stores : Bool} {found
 one-known {T} {c} {d} {stores} {found} {ear} {taken} {quiet} {buffer} Q rest {ss} o =
     pick (one-left ear (levelsWith (hearing ear) ss .hsk) rest (λ st p k. talk-phase st (p .0 .0 .0) (levelsWith (hearing ear) ss .hsk) (p .1 .0) k) (one-seen (hearing ear) refl (λ st p. talk-nibble (p .0 .0)) o))
   where
-    pick : {s : List Station} {n : ℕ} {X : Station → Type 0} → One (λ (st : Station). (((Talk T c d stores found ear taken quiet buffer st × Q (talkLeft ear st)) × Sound st) × X st) × (n ≡ talkLeft ear st)) (λ (st : Station). Sits st × Sound st) s → Q n
+    pick : {s : List Station} {n : ℕ} {X : Station → Type 0}
+        → One (λ (st : Station). (((Talk T c d stores found ear taken quiet buffer st × Q (talkLeft ear st)) × Sound st) × X st) × (n ≡ talkLeft ear st)) (λ (st : Station). Sits st × Sound st) s
+        → Q n
     pick (this p a) = subst Q (sym (p .1)) (p .0 .0 .0 .1)
     pick (that q o) = pick o
 
@@ -114,52 +117,59 @@ pub data Heard′ (T : Moment) (f : Frame) (d found : List ℕ) (m : Moved) (buf
       → Heard′ T f d found m buffer free most old ss
   comes-to-its-end : One (λ (st : Station). Spoke T f d found m buffer old st × Sound st) (λ (st : Station). Sits st × Sound st) ss → Heard′ T f d found m buffer free most old ss
 
-parted : {T : Moment} {f : Frame} {d found : List ℕ} {m : Moved} {buffer : List ℕ} {free : Bool} {most : ℕ} {old ss : List Station} → One (λ (st : Station). ((before : Station) × (Has before old × Talked T f d found m buffer free most before st)) × Sound st) (λ (st : Station). Sits st × Sound st) ss → Heard′ T f d found m buffer free most old ss
+parted : {T : Moment} {f : Frame} {d found : List ℕ} {m : Moved} {buffer : List ℕ} {free : Bool} {most : ℕ} {old ss : List Station}
+    → One (λ (st : Station). ((before : Station) × (Has before old × Talked T f d found m buffer free most before st)) × Sound st) (λ (st : Station). Sits st × Sound st) ss
+    → Heard′ T f d found m buffer free most old ss
 parted (this ((before, (has, still ear taken quiet e t n)), s) a) = goes-on ear taken quiet e (this ((t, n), s) a)
 parted (this ((before, (has, done r j sender k p e b phase inside q own a)), x) all) = comes-to-its-end (this (spoke r j sender before has k own a p e b inside (phase, q), x) all)
 parted (that q o) = behind q (parted o)
   where
-    behind : {T : Moment} {f : Frame} {d found : List ℕ} {m : Moved} {buffer : List ℕ} {free : Bool} {most : ℕ} {old : List Station} {st : Station} {ss : List Station} → Sits st × Sound st → Heard′ T f d found m buffer free most old ss → Heard′ T f d found m buffer free most old (st ∷ ss)
+    behind : {T : Moment} {f : Frame} {d found : List ℕ} {m : Moved} {buffer : List ℕ} {free : Bool} {most : ℕ} {old : List Station} {st : Station} {ss : List Station}
+        → Sits st × Sound st → Heard′ T f d found m buffer free most old ss → Heard′ T f d found m buffer free most old (st ∷ ss)
     behind q (goes-on ear taken quiet e o) = goes-on ear taken quiet e (that q o)
     behind q (comes-to-its-end o) = comes-to-its-end (that q o)
 
-module _ (T : Moment) (f : Frame) (d found : List ℕ) (timeout : ℕ) (eight : 8 ≤ timeout) (room : f .command .«buffer_length» ≤ length found) (host : Bool) (hosts : ℕ) (ear : Listener) (taken : Response) (quiet : ℕ) (buffer : List ℕ) (ss : List Station) (o : One (λ (st : Station). Talk T (f .command) d (isSubmitted (f .kind)) found ear taken quiet buffer st × Sound st) (λ (st : Station). Sits st × Sound st) ss) where
-  abbrev seen : Lines
-  seen = levelsWith (hearing ear) ss
+module _
+    (T : Moment) (f : Frame) (d found : List ℕ) (timeout : ℕ) (eight : 8 ≤ timeout) (room : f .command .«buffer_length» ≤ length found) (host : Bool) (hosts : ℕ) (ear : Listener)
+    (taken : Response) (quiet : ℕ) (buffer : List ℕ) (ss : List Station)
+    (o : One (λ (st : Station). Talk T (f .command) d (isSubmitted (f .kind)) found ear taken quiet buffer st × Sound st) (λ (st : Station). Sits st × Sound st) ss)
+  where
+    abbrev seen : Lines
+    seen = levelsWith (hearing ear) ss
 
-  known : One (λ (st : Station). (Talk T (f .command) d (isSubmitted (f .kind)) found ear taken quiet buffer st × Sound st) × Seen seen (listenerHsk ear) st) (λ (st : Station). Sits st × Sound st) ss
-  known = one-seen (hearing ear) refl (λ st p. talk-nibble (p .0)) o
+    known : One (λ (st : Station). (Talk T (f .command) d (isSubmitted (f .kind)) found ear taken quiet buffer st × Sound st) × Seen seen (listenerHsk ear) st) (λ (st : Station). Sits st × Sound st) ss
+    known = one-seen (hearing ear) refl (λ st p. talk-nibble (p .0)) o
 
-  bav : seen .bav ≡ true
-  bav = bav-kept (hearing ear) ss refl
+    bav : seen .bav ≡ true
+    bav = bav-kept (hearing ear) ss refl
 
-  small : {s : List Station} → One (λ (st : Station). (Talk T (f .command) d (isSubmitted (f .kind)) found ear taken quiet buffer st × Sound st) × Seen seen (listenerHsk ear) st) (λ (st : Station). Sits st × Sound st) s → seen .nibble < 16
-  small (this p a) = subst (λ (x : ℕ). x < 16) (sym (p .1 .1)) (talk-nibble (p .0 .0))
-  small (that q o) = small o
+    small : {s : List Station} → One (λ (st : Station). (Talk T (f .command) d (isSubmitted (f .kind)) found ear taken quiet buffer st × Sound st) × Seen seen (listenerHsk ear) st) (λ (st : Station). Sits st × Sound st) s → seen .nibble < 16
+    small (this p a) = subst (λ (x : ℕ). x < 16) (sym (p .1 .1)) (talk-nibble (p .0 .0))
+    small (that q o) = small o
 
-  pub heard-nibble : seen .nibble < 16
-  heard-nibble = small known
+    pub heard-nibble : seen .nibble < 16
+    heard-nibble = small known
 
-  abbrev most : ℕ
-  most = unitsLeft ss (seen .hsk) (timeout - quiet)
+    abbrev most : ℕ
+    most = unitsLeft ss (seen .hsk) (timeout - quiet)
 
-  counted : One (λ (st : Station). ((Talk T (f .command) d (isSubmitted (f .kind)) found ear taken quiet buffer st × Sound st) × Seen seen (listenerHsk ear) st) × (most ≡ talkLeft ear st)) (λ (st : Station). Sits st × Sound st) ss
-  counted = one-left ear (seen .hsk) (timeout - quiet) (λ st p k. talk-phase st (p .0 .0) (seen .hsk) (p .1 .0) k) known
+    counted : One (λ (st : Station). ((Talk T (f .command) d (isSubmitted (f .kind)) found ear taken quiet buffer st × Sound st) × Seen seen (listenerHsk ear) st) × (most ≡ talkLeft ear st)) (λ (st : Station). Sits st × Sound st) ss
+    counted = one-left ear (seen .hsk) (timeout - quiet) (λ st p k. talk-phase st (p .0 .0) (seen .hsk) (p .1 .0) k) known
 
-  pub units-heard : Heard′ T f d found (listeningStep f ear taken quiet timeout seen host) (listeningBuffer f ear taken seen buffer) (not (listenerHsk ear && host)) most ss (unitsAfter seen hosts ss)
-  units-heard =
-      parted (one-step seen (λ st busy p.
-      let step = low-step st seen busy heard-nibble (p .0 .0 .0 .1 .room) bav in (
-        (
-          st,
+    pub units-heard : Heard′ T f d found (listeningStep f ear taken quiet timeout seen host) (listeningBuffer f ear taken seen buffer) (not (listenerHsk ear && host)) most ss (unitsAfter seen hosts ss)
+    units-heard =
+        parted (one-step seen (λ st busy p.
+        let step = low-step st seen busy heard-nibble (p .0 .0 .0 .1 .room) bav in (
           (
-            p .1,
-            subst (λ (k : ℕ). Talked T f d found (listeningStep f ear taken quiet timeout seen host) (listeningBuffer f ear taken seen buffer) (not (listenerHsk ear && host)) k st (stationStep st seen busy)) (sym (p .0 .1))
-                (talk-step T f d found timeout eight room st (stationStep st seen busy) seen host busy step ear taken quiet buffer (p .0 .0 .0 .0) (p .0 .0 .1 .0) (p .0 .0 .1 .1)),
+            st,
+            (
+              p .1,
+              subst (λ (k : ℕ). Talked T f d found (listeningStep f ear taken quiet timeout seen host) (listeningBuffer f ear taken seen buffer) (not (listenerHsk ear && host)) k st (stationStep st seen busy)) (sym (p .0 .1))
+                  (talk-step T f d found timeout eight room st (stationStep st seen busy) seen host busy step ear taken quiet buffer (p .0 .0 .0 .0) (p .0 .0 .1 .0) (p .0 .0 .1 .1)),
+            ),
           ),
-        ),
-        sound-low step (p .0 .0 .0 .1),
-      )) (sits-step seen bav heard-nibble) hosts (one-has counted))
+          sound-low step (p .0 .0 .0 .1),
+        )) (sits-step seen bav heard-nibble) hosts (one-has counted))
 
 -- What a round comes to while nobody responds.
 module _ (ear : Listener) (hosts : ℕ) (ss : List Station) (a : All (λ (st : Station). Sits st × Sound st) ss) where

@@ -42,11 +42,13 @@ pub all-step : {P Q : Station → Type 0} (seen : Lines) → ((st : Station) (bu
 all-step seen f hosts none = none
 all-step seen f hosts (also {x = st} p a) = also (f st (isOdd hosts) p) (all-step seen f (hosts / 2) a)
 
-pub all-becomes : {P Q : Station → Type 0} (seen : Lines) (hosts : ℕ) {ss : List Station} → ((st : Station) (busy : Bool) → Becomes seen hosts ss st (stationStep st seen busy) → P st → Q (stationStep st seen busy)) → All P ss → All Q (unitsAfter seen hosts ss)
+pub all-becomes : {P Q : Station → Type 0} (seen : Lines) (hosts : ℕ) {ss : List Station}
+    → ((st : Station) (busy : Bool) → Becomes seen hosts ss st (stationStep st seen busy) → P st → Q (stationStep st seen busy)) → All P ss → All Q (unitsAfter seen hosts ss)
 all-becomes seen hosts f none = none
 all-becomes seen hosts f (also {x = st} p a) = also (f st (isOdd hosts) in-front p) (all-becomes seen (hosts / 2) (λ x busy m q. f x busy (behind m) q) a)
 
-pub one-step : {P Q P′ Q′ : Station → Type 0} (seen : Lines) → ((st : Station) (busy : Bool) → P st → P′ (stationStep st seen busy)) → ((st : Station) (busy : Bool) → Q st → Q′ (stationStep st seen busy)) → (hosts : ℕ) {ss : List Station} → One P Q ss → One P′ Q′ (unitsAfter seen hosts ss)
+pub one-step : {P Q P′ Q′ : Station → Type 0} (seen : Lines) → ((st : Station) (busy : Bool) → P st → P′ (stationStep st seen busy))
+    → ((st : Station) (busy : Bool) → Q st → Q′ (stationStep st seen busy)) → (hosts : ℕ) {ss : List Station} → One P Q ss → One P′ Q′ (unitsAfter seen hosts ss)
 one-step seen f g hosts (this {x = st} p a) = this (f st (isOdd hosts) p) (all-step seen g (hosts / 2) a)
 one-step seen f g hosts (that {x = st} q o) = that (g st (isOdd hosts) q) (one-step seen f g (hosts / 2) o)
 

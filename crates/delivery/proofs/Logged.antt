@@ -78,7 +78,8 @@ pub told-so-far : {l : Capture} {d : List ℕ} {units : List Station} {ear : Lis
 told-so-far (sending-so j k w e was) = absurd (false≢true (ap isSending e))
 told-so-far {l} {d} {units} (listening-so ear taken quiet e tells nobody) = subst (λ (x : Listener). All (TellsAt l d x) units) (sym (ap earIn e)) tells
 
-pub nobody-so-far : {l : Capture} {d : List ℕ} {units : List Station} {ear : Listener} {taken : Response} {quiet : ℕ} → Acted l d (Listening (l .frame) ear taken quiet) units → All Still units → actsIn (l .marks) ≡ map sent (nibblesFor (l .frame .command) d)
+pub nobody-so-far : {l : Capture} {d : List ℕ} {units : List Station} {ear : Listener} {taken : Response} {quiet : ℕ} → Acted l d (Listening (l .frame) ear taken quiet) units
+    → All Still units → actsIn (l .marks) ≡ map sent (nibblesFor (l .frame .command) d)
 nobody-so-far (sending-so j k w e was) = absurd (false≢true (ap isSending e))
 nobody-so-far (listening-so ear taken quiet e tells nobody) = nobody
 
@@ -88,7 +89,8 @@ talk-and-still : {T : Moment} {c : Command} {d : List ℕ} {stores : Bool} {foun
 talk-and-still (this (talks r j t sender wait e p fits g b l w z q own, s) a) (also q′ b′) = true≢false (sym (ap isResponding e) ∙ ap isResponding (q′ .0))
 talk-and-still (that q o) (also q′ b) = talk-and-still o b
 
-spoke-and-still : {T : Moment} {f : Frame} {d found : List ℕ} {m : Moved} {buffer : List ℕ} {old ss : List Station} → One (λ (st : Station). Spoke T f d found m buffer old st × Sound st) (λ (st : Station). Sits st × Sound st) ss → All (λ (st : Station). Sits st × Sound st) old → ⊥
+spoke-and-still : {T : Moment} {f : Frame} {d found : List ℕ} {m : Moved} {buffer : List ℕ} {old ss : List Station}
+    → One (λ (st : Station). Spoke T f d found m buffer old st × Sound st) (λ (st : Station). Sits st × Sound st) ss → All (λ (st : Station). Sits st × Sound st) old → ⊥
 spoke-and-still (this (spoke r j sender before has z own a p e b inside sits, s) all) still = true≢false (sym (ap isResponding z) ∙ ap isResponding (has-all still has .0 .0))
 spoke-and-still (that q o) still = spoke-and-still o still
 
@@ -186,7 +188,8 @@ settles (Receiving ear (Answered r)) x e = here
 settles (Responding r j sender wait) x e = absurd (false≢true e)
 settles (SittingOut last) x e = absurd (false≢true e)
 
-pub answered-deeds : {st st′ : Station} {seen : Lines} {busy : Bool} → Stepped st seen busy st′ → isAnswered (st .unit .phase) ≡ false → isAnswered (st′ .unit .phase) ≡ true → Has (settled (insideOf st)) (deedsBy (st .unit .phase) (st′ .unit .phase) (insideOf st) seen)
+pub answered-deeds : {st st′ : Station} {seen : Lines} {busy : Bool} → Stepped st seen busy st′ → isAnswered (st .unit .phase) ≡ false → isAnswered (st′ .unit .phase) ≡ true
+    → Has (settled (insideOf st)) (deedsBy (st .unit .phase) (st′ .unit .phase) (insideOf st) seen)
 answered-deeds {st} {st′} {seen} {busy} step before after = by (st .unit .phase) refl
   where
     never : {p : Phase} → st .unit .phase ≡ p → isAnswered (phaseStep p (st .unit .own) (st .unit .serial) seen busy (st .buffer) (st .input) .phase) ≡ false → ⊥

@@ -205,67 +205,70 @@ module _ (P : Reply → Inside → Type 0) (c : Command) (d : List ℕ) (i : ℕ
   part-over shows own sent all nine (sits now a e k q) = silent (still-sits e) (not-asking q) (not-mine (same-own a))
 
   -- A nibble that does not count as sent yet.
-  module _ (ok : Sent c d) (fixes : isAnswered (st .unit .phase) ≡ false → isAnswered (st′ .unit .phase) ≡ true → insideOf st′ ≡ takenFor (st .unit .own) (insideOf st) c d → P (replyFor (st .unit .own) (insideOf st) c d) (insideOf st′)) where
-    takes-more : Fits n (sendOf sender (seen .hsk) n) Holding 1 → seen .hsk ≡ true
-        → Takes (bytesFor c d) i (st .unit .phase) (st .unit .own) (insideOf st) seen busy (st .buffer)
-        → (2 ≤ suc i → addressed c (st .unit .own) ≡ true)
-        → Part P c d i (sendOf sender (seen .hsk) n) st′
-    takes-more g low (takes-it after b h r) a =
-        let k : suc i ≡ i + 1 = omega arith in
-        listens Holding 1 g (subst (λ (x : ℕ). Heard (bytesFor c d) Holding x (st′ .unit .phase) (st′ .buffer)) k (moved-heard r h)) (λ l. same-own (a (omega arith))) (λ l. asked-low low)
+  module _
+      (ok : Sent c d)
+      (fixes : isAnswered (st .unit .phase) ≡ false → isAnswered (st′ .unit .phase) ≡ true → insideOf st′ ≡ takenFor (st .unit .own) (insideOf st) c d → P (replyFor (st .unit .own) (insideOf st) c d) (insideOf st′))
+    where
+      takes-more : Fits n (sendOf sender (seen .hsk) n) Holding 1 → seen .hsk ≡ true
+          → Takes (bytesFor c d) i (st .unit .phase) (st .unit .own) (insideOf st) seen busy (st .buffer)
+          → (2 ≤ suc i → addressed c (st .unit .own) ≡ true)
+          → Part P c d i (sendOf sender (seen .hsk) n) st′
+      takes-more g low (takes-it after b h r) a =
+          let k : suc i ≡ i + 1 = omega arith in
+          listens Holding 1 g (subst (λ (x : ℕ). Heard (bytesFor c d) Holding x (st′ .unit .phase) (st′ .buffer)) k (moved-heard r h)) (λ l. same-own (a (omega arith))) (λ l. asked-low low)
 
-    takes-last : Fits n (sendOf sender (seen .hsk) n) Holding 1 → seen .hsk ≡ true → suc i ≡ 2 * length (bytesFor c d) → addressed c (st .unit .own) ≡ true
-        → isAnswered (st .unit .phase) ≡ false
-        → Fixed c d (st .unit .phase) (st .unit .own) (insideOf st) seen busy (st .buffer)
-        → Part P c d i (sendOf sender (seen .hsk) n) st′
-    takes-last g low all a before x =
-        answers Holding (replyFor (st .unit .own) (insideOf st) c d) g all (same-own a) (step .phase ∙ x .phase) (fixes before (ap isAnswered (step .phase ∙ x .phase)) (step .inside ∙ x .inside)) (asked-low low)
+      takes-last : Fits n (sendOf sender (seen .hsk) n) Holding 1 → seen .hsk ≡ true → suc i ≡ 2 * length (bytesFor c d) → addressed c (st .unit .own) ≡ true
+          → isAnswered (st .unit .phase) ≡ false
+          → Fixed c d (st .unit .phase) (st .unit .own) (insideOf st) seen busy (st .buffer)
+          → Part P c d i (sendOf sender (seen .hsk) n) st′
+      takes-last g low all a before x =
+          answers Holding (replyFor (st .unit .own) (insideOf st) c d) g all (same-own a) (step .phase ∙ x .phase) (fixes before (ap isAnswered (step .phase ∙ x .phase)) (step .inside ∙ x .inside)) (asked-low low)
 
-    takes-by : (b t : Bool) → addressed c (st .unit .own) ≡ b → ltb (suc i) (2 * length (bytesFor c d)) ≡ t → i < 2 * length (bytesFor c d)
-        → (2 ≤ i → addressed c (st .unit .own) ≡ true) → Fits n (sendOf sender (seen .hsk) n) Holding 1 → (m : ℕ) → sendOf sender (seen .hsk) n ≡ Kept m → seen .hsk ≡ true → seen .nibble ≡ n
-        → Heard (bytesFor c d) Ready i (st .unit .phase) (st .buffer) → Part P c d i (sendOf sender (seen .hsk) n) st′
-    takes-by true true a l h z g m keeps low q x =
-        takes-more g low (heard-takes c d ok (st .unit .own) (insideOf st) seen busy low x q (ltb-true (suc i) (2 * length (bytesFor c d)) l) (λ e. a)) (λ e. a)
-    takes-by true false a l h z g m keeps low q x =
-        let all : 2 * length (bytesFor c d) ≤ suc i = ltb-false (suc i) (2 * length (bytesFor c d)) l in
-        takes-last g low (omega arith) a (heard-open x) (heard-last c d ok (st .unit .own) (insideOf st) seen busy low x q (omega arith))
-    takes-by false t a l h z g m keeps low q x = other i refl
-      where
-        nine : length (bytesFor c d) ≡ 9 + length d
-        nine = length-bytes c d
+      takes-by : (b t : Bool) → addressed c (st .unit .own) ≡ b → ltb (suc i) (2 * length (bytesFor c d)) ≡ t → i < 2 * length (bytesFor c d)
+          → (2 ≤ i → addressed c (st .unit .own) ≡ true) → Fits n (sendOf sender (seen .hsk) n) Holding 1 → (m : ℕ) → sendOf sender (seen .hsk) n ≡ Kept m → seen .hsk ≡ true → seen .nibble ≡ n
+          → Heard (bytesFor c d) Ready i (st .unit .phase) (st .buffer) → Part P c d i (sendOf sender (seen .hsk) n) st′
+      takes-by true true a l h z g m keeps low q x =
+          takes-more g low (heard-takes c d ok (st .unit .own) (insideOf st) seen busy low x q (ltb-true (suc i) (2 * length (bytesFor c d)) l) (λ e. a)) (λ e. a)
+      takes-by true false a l h z g m keeps low q x =
+          let all : 2 * length (bytesFor c d) ≤ suc i = ltb-false (suc i) (2 * length (bytesFor c d)) l in
+          takes-last g low (omega arith) a (heard-open x) (heard-last c d ok (st .unit .own) (insideOf st) seen busy low x q (omega arith))
+      takes-by false t a l h z g m keeps low q x = other i refl
+        where
+          nine : length (bytesFor c d) ≡ 9 + length d
+          nine = length-bytes c d
 
-        other : (k : ℕ) → k ≡ i → Part P c d i (sendOf sender (seen .hsk) n) st′
-        other zero e =
-            takes-more g low (heard-takes c d ok (st .unit .own) (insideOf st) seen busy low x q (omega arith) (λ e′. absurd (omega arith))) (λ e′. absurd (omega arith))
-        other (suc zero) e =
-            let r = heard-other c d ok (st .unit .own) (insideOf st) seen busy low x (sym e) (q ∙ ap (nibbleIn (bytesFor c d)) (sym e)) a in
-            sits true (same-own a) (step .phase ∙ r .phase) (λ _. (m, keeps)) (asked-low low)
-        other (suc (suc k)) e = absurd (true≢false (sym (z (omega arith)) ∙ a))
+          other : (k : ℕ) → k ≡ i → Part P c d i (sendOf sender (seen .hsk) n) st′
+          other zero e =
+              takes-more g low (heard-takes c d ok (st .unit .own) (insideOf st) seen busy low x q (omega arith) (λ e′. absurd (omega arith))) (λ e′. absurd (omega arith))
+          other (suc zero) e =
+              let r = heard-other c d ok (st .unit .own) (insideOf st) seen busy low x (sym e) (q ∙ ap (nibbleIn (bytesFor c d)) (sym e)) a in
+              sits true (same-own a) (step .phase ∙ r .phase) (λ _. (m, keeps)) (asked-low low)
+          other (suc (suc k)) e = absurd (true≢false (sym (z (omega arith)) ∙ a))
 
-    placed-kept : {k : Sender} {m : ℕ} → Fits m k Holding 1 → k ≡ Kept m
-    placed-kept f-holds = refl
+      placed-kept : {k : Sender} {m : ℕ} → Fits m k Holding 1 → k ≡ Kept m
+      placed-kept f-holds = refl
 
-    pub part-rests : Shows sender seen → (pullsHsk (st .unit .phase) ≡ true → seen .hsk ≡ true) → sentOf sender (seen .hsk) ≡ false → i < 2 * length (bytesFor c d)
-        → Part P c d i sender st → Part P c d i (sendOf sender (seen .hsk) n) st′
-    part-rests shows own sent less (listens ear t f h a q) = rests-by (pair (seen .hsk) (seen .nibble) busy f (sees sender ear seen shows (λ e. own (heard-hsk h ∙ e))))
-      where
-        goes : Fits n (sendOf sender (seen .hsk) n) (hearOf ear (seen .hsk) busy) t
-            → Waits (bytesFor c d) (i + t) (hearOf ear (seen .hsk) busy) (st .unit .phase) (st .unit .own) (insideOf st) seen busy (st .buffer)
-            → Part P c d i (sendOf sender (seen .hsk) n) st′
-        goes g (waits after h′ r) = listens (hearOf ear (seen .hsk) busy) t g (moved-heard r h′) (λ l. same-own (a l)) (λ l. not-asking (q l))
+      pub part-rests : Shows sender seen → (pullsHsk (st .unit .phase) ≡ true → seen .hsk ≡ true) → sentOf sender (seen .hsk) ≡ false → i < 2 * length (bytesFor c d)
+          → Part P c d i sender st → Part P c d i (sendOf sender (seen .hsk) n) st′
+      part-rests shows own sent less (listens ear t f h a q) = rests-by (pair (seen .hsk) (seen .nibble) busy f (sees sender ear seen shows (λ e. own (heard-hsk h ∙ e))))
+        where
+          goes : Fits n (sendOf sender (seen .hsk) n) (hearOf ear (seen .hsk) busy) t
+              → Waits (bytesFor c d) (i + t) (hearOf ear (seen .hsk) busy) (st .unit .phase) (st .unit .own) (insideOf st) seen busy (st .buffer)
+              → Part P c d i (sendOf sender (seen .hsk) n) st′
+          goes g (waits after h′ r) = listens (hearOf ear (seen .hsk) busy) t g (moved-heard r h′) (λ l. same-own (a l)) (λ l. not-asking (q l))
 
-        rests-by : Pair n sender ear t (seen .hsk) (seen .nibble) busy → Part P c d i (sendOf sender (seen .hsk) n) st′
-        rests-by (rests e1 e2 g) = goes g (heard-waits (st .unit .own) (insideOf st) seen busy h e1)
-        rests-by (takes e1 e2 e3 e4 e5 g) =
-            let k : i + t ≡ i = omega arith in
-            takes-by (addressed c (st .unit .own)) (ltb (suc i) (2 * length (bytesFor c d))) refl refl less (λ l. a (omega arith)) g n (placed-kept g) e2 e3
-            (subst (λ (x : ℕ). Heard (bytesFor c d) Ready x (st .unit .phase) (st .buffer)) k (subst (λ (x : Listener). Heard (bytesFor c d) x (i + t) (st .unit .phase) (st .buffer)) e1 h))
-        rests-by (sends e1 e2 e3 e4 e5) = absurd (true≢false (sym e2 ∙ sent))
-    part-rests shows own sent less (answers ear r f l a e k q) = rests-by (pair (seen .hsk) (seen .nibble) busy f (sees sender ear seen shows (λ x. own (ap pullsHsk e ∙ x))))
-      where
-        rests-by : Pair n sender ear 1 (seen .hsk) (seen .nibble) busy → Part P c d i (sendOf sender (seen .hsk) n) st′
-        rests-by (rests e1 e2 g) =
-            answers (hearOf ear (seen .hsk) busy) r g l (same-own a) (phase-is e ∙ rw (fits-one g)) (subst (P r) (sym (inside-is e)) k) (not-asking q)
-        rests-by (takes e1 e2 e3 e4 e5 g) = absurd (omega arith)
-        rests-by (sends e1 e2 e3 e4 e5) = absurd (true≢false (sym e2 ∙ sent))
-    part-rests shows own sent less (sits now a e k q) = sits false (same-own a) (still-sits e) (λ x. absurd (false≢true x)) (not-asking q)
+          rests-by : Pair n sender ear t (seen .hsk) (seen .nibble) busy → Part P c d i (sendOf sender (seen .hsk) n) st′
+          rests-by (rests e1 e2 g) = goes g (heard-waits (st .unit .own) (insideOf st) seen busy h e1)
+          rests-by (takes e1 e2 e3 e4 e5 g) =
+              let k : i + t ≡ i = omega arith in
+              takes-by (addressed c (st .unit .own)) (ltb (suc i) (2 * length (bytesFor c d))) refl refl less (λ l. a (omega arith)) g n (placed-kept g) e2 e3
+              (subst (λ (x : ℕ). Heard (bytesFor c d) Ready x (st .unit .phase) (st .buffer)) k (subst (λ (x : Listener). Heard (bytesFor c d) x (i + t) (st .unit .phase) (st .buffer)) e1 h))
+          rests-by (sends e1 e2 e3 e4 e5) = absurd (true≢false (sym e2 ∙ sent))
+      part-rests shows own sent less (answers ear r f l a e k q) = rests-by (pair (seen .hsk) (seen .nibble) busy f (sees sender ear seen shows (λ x. own (ap pullsHsk e ∙ x))))
+        where
+          rests-by : Pair n sender ear 1 (seen .hsk) (seen .nibble) busy → Part P c d i (sendOf sender (seen .hsk) n) st′
+          rests-by (rests e1 e2 g) =
+              answers (hearOf ear (seen .hsk) busy) r g l (same-own a) (phase-is e ∙ rw (fits-one g)) (subst (P r) (sym (inside-is e)) k) (not-asking q)
+          rests-by (takes e1 e2 e3 e4 e5 g) = absurd (omega arith)
+          rests-by (sends e1 e2 e3 e4 e5) = absurd (true≢false (sym e2 ∙ sent))
+      part-rests shows own sent less (sits now a e k q) = sits false (same-own a) (still-sits e) (λ x. absurd (false≢true x)) (not-asking q)

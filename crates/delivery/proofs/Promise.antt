@@ -54,7 +54,8 @@ carried T {c = c} {d = d} o e p = record {
 }
 
 -- It outlasts a call of the unit's host.
-abbrev pub promise-called : (T : Moment) {c : Command} {d : List ℕ} {r : Reply} {call : HostCall} {st after : Station} → Called call st after → Promised T (st .unit .own) c d r (insideOf st) → Promised T (after .unit .own) c d r (insideOf after)
+abbrev pub promise-called : (T : Moment) {c : Command} {d : List ℕ} {r : Reply} {call : HostCall} {st after : Station} → Called call st after
+    → Promised T (st .unit .own) c d r (insideOf st) → Promised T (after .unit .own) c d r (insideOf after)
 promise-called T {c = c} {d = d} {call = call} {st = st} k p = record {
   given = p .given;
   took = subst (λ (n : ℕ). T n (p .given)) (sym (k .own)) (p .took);

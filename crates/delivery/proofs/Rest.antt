@@ -200,7 +200,8 @@ module _ (T : Moment) (timeout : ℕ) (ring : Ring) (units : List Station) (lent
         subst (On T) (sym eq) (rests is-free eight codes different′ (units-rest-on units a (busy .there)))
     free-round true false b e =
         let f = turnOf (getD (live ring) 0 nobody-there) in
-        let eq : round (world timeout Free ring units lent response) busy ≡ world timeout (begun f) (ringOf (turned (live ring))) unitsNext lent response = next-world Free (begun f) (ringOf (turned (live ring))) (rw (nibble-fine, b, e)) (rw nibble-fine) in
+        let eq : round (world timeout Free ring units lent response) busy ≡ world timeout (begun f) (ringOf (turned (live ring))) unitsNext lent response =
+        next-world Free (begun f) (ringOf (turned (live ring))) (rw (nibble-fine, b, e)) (rw nibble-fine) in
         subst (On T) (sym eq)
         (runs f response (begins (turn-framed (getD (live ring) 0 nobody-there) lent response timeout (all-at 0 codes (lit< tt)) eight) different′ (units-rest-on units a (busy .there))) (codes-turned ring codes))
 
@@ -212,7 +213,8 @@ module _ (T : Moment) (timeout : ℕ) (ring : Ring) (units : List Station) (lent
   -- A submitted command begins its frame.
   submitted-round : (f : Frame) → Framed f lent response timeout → All (λ (st : Station). Fresh st × Sound st) units → On T (round (world timeout (Waiting f) ring units lent response) busy)
   submitted-round f framed a =
-      let eq : round (world timeout (Waiting f) ring units lent response) busy ≡ world timeout (begun f) ring unitsNext lent response = next-world (Waiting f) (begun f) ring (rw (nibble-fine a (framed .eight), framed .fits)) (rw (nibble-fine a (framed .eight), framed .fits)) in
+      let eq : round (world timeout (Waiting f) ring units lent response) busy ≡ world timeout (begun f) ring unitsNext lent response =
+      next-world (Waiting f) (begun f) ring (rw (nibble-fine a (framed .eight), framed .fits)) (rw (nibble-fine a (framed .eight), framed .fits)) in
       subst (On T) (sym eq) (runs f response (begins framed different′ (units-rest-on units a (busy .there))) codes)
 
   -- The first round of a rest: BAV is high, and every unit is idle.
@@ -238,14 +240,16 @@ frame-device (sends i sender framed d s l a) = framed .sent .fields .device
 frame-device (hears ear taken quiet framed d l o) = framed .sent .fields .device
 frame-device (waits quiet framed d a why) = framed .sent .fields .device
 
-pub spoke-moved : {T : Moment} {f : Frame} {d found : List ℕ} {m : Moved} {buffer : List ℕ} {old ss : List Station} → One (λ (st : Station). Spoke T f d found m buffer old st × Sound st) (λ (st : Station). Sits st × Sound st) ss → (r : Response) × (m ≡ over f r)
+pub spoke-moved : {T : Moment} {f : Frame} {d found : List ℕ} {m : Moved} {buffer : List ℕ} {old ss : List Station}
+    → One (λ (st : Station). Spoke T f d found m buffer old st × Sound st) (λ (st : Station). Sits st × Sound st) ss → (r : Response) × (m ≡ over f r)
 spoke-moved (this (spoke r j sender before has k own a p e b inside x, y) all) = (Complete (replyStatus r) (length (answerData p)), e)
 spoke-moved (that q o) = spoke-moved o
 
 spoke-sits : {T : Moment} {f : Frame} {d found : List ℕ} {m : Moved} {buffer : List ℕ} {old : List Station} (st : Station) → Spoke T f d found m buffer old st × Sound st → Sits st × Sound st
 spoke-sits st (spoke r j sender before has k own a p e b inside x, y) = (x, y)
 
-finish : {T : Moment} (f : Frame) (found : List ℕ) (w : World) (busy : Busy) (r : Response) → InFrame T f found w → Codes (w .controller .ring) → Finishes w busy → movedIn w busy ≡ over f r → Different (round w busy .units) → All (λ (st : Station). Sits st × Sound st) (round w busy .units) → On T (round w busy)
+finish : {T : Moment} (f : Frame) (found : List ℕ) (w : World) (busy : Busy) (r : Response) → InFrame T f found w → Codes (w .controller .ring) → Finishes w busy
+    → movedIn w busy ≡ over f r → Different (round w busy .units) → All (λ (st : Station). Sits st × Sound st) (round w busy .units) → On T (round w busy)
 finish {T} f found w busy r x codes fin m d a =
     let c : round w busy .controller ≡ controllerOf (w .controller .timeout) (Resting true) (ringEnded (w .controller .ring) f (statusOf r)) =
     fin ∙ ap (λ (y : Moved). controllerOf (w .controller .timeout) (y .stage) (ringAfter (w .controller .ring) (y .end))) m in
@@ -259,7 +263,8 @@ frame-on f found w busy x codes (answered fin d o) = let m = spoke-moved o in fi
 frame-on f found w busy x codes (unanswered fin m b d a why still) = finish f found w busy nothingTaken x codes fin m d a
 
 -- Every round of a run.
-rest-on : (T : Moment) (timeout : ℕ) (stage : Stage) (ring : Ring) (units : List Station) (lent response : List ℕ) (busy : Busy) → AtRest stage → 8 ≤ timeout → Codes ring → Different units → All (λ (st : Station). Fresh st × Sound st) units → On T (round (world timeout stage ring units lent response) busy)
+rest-on : (T : Moment) (timeout : ℕ) (stage : Stage) (ring : Ring) (units : List Station) (lent response : List ℕ) (busy : Busy) → AtRest stage → 8 ≤ timeout → Codes ring
+    → Different units → All (λ (st : Station). Fresh st × Sound st) units → On T (round (world timeout stage ring units lent response) busy)
 rest-on T timeout stage ring units lent response busy is-free eight codes d a = free-round T timeout ring units lent response busy codes d a eight (levelsWith released units .bav) (eqb (counted ring) 0) refl refl
 rest-on T timeout stage ring units lent response busy is-resting eight codes d a = rest-round T timeout ring units lent response busy codes d a eight
 

@@ -181,34 +181,39 @@ not-idle w k d response r b e =
     λ i. record { controller = kept (s i) (withCommand (w .controller) k (length d)) (w .controller); units = w .units; lent = kept (s i) d (w .lent); response = kept (s i) response (w .response) }
 
 -- A submission to an idle controller.
-module _ (T : Moment) (timeout : ℕ) (ring : Ring) (units : List Station) (lent response : List ℕ) (k : Command) (d buffer : List ℕ) (range : InRange k) (bytes : Below 256 d) (eight : 8 ≤ timeout) (codes : Codes ring) (different : Different units) (a : All (λ (st : Station). Fresh st × Sound st) units) where
-  abbrev w : World
-  w = world timeout Free ring units lent response
+module _
+    (T : Moment) (timeout : ℕ) (ring : Ring) (units : List Station) (lent response : List ℕ) (k : Command) (d buffer : List ℕ) (range : InRange k) (bytes : Below 256 d)
+    (eight : 8 ≤ timeout) (codes : Codes ring) (different : Different units) (a : All (λ (st : Station). Fresh st × Sound st) units)
+  where
+    abbrev w : World
+    w = world timeout Free ring units lent response
 
-  abbrev answer : Answer Done
-  answer = submitting (w .controller) k (length d) (length buffer)
+    abbrev answer : Answer Done
+    answer = submitting (w .controller) k (length d) (length buffer)
 
-  abbrev after : Answer Done → World
-  after s = record { controller = kept s (withCommand (w .controller) k (length d)) (w .controller); units = units; lent = kept s d lent; response = kept s buffer response }
+    abbrev after : Answer Done → World
+    after s = record { controller = kept s (withCommand (w .controller) k (length d)) (w .controller); units = units; lent = kept s d lent; response = kept s buffer response }
 
-  refused-on : (n : ℕ) → answer ≡ refused n → On T (called w (submits k d buffer range bytes))
-  refused-on n e = subst (λ (s : Answer Done). On T (after s)) (sym e) (rests is-free eight codes different a)
+    refused-on : (n : ℕ) → answer ≡ refused n → On T (called w (submits k d buffer range bytes))
+    refused-on n e = subst (λ (s : Answer Done). On T (after s)) (sym e) (rests is-free eight codes different a)
 
-  accepted-on : length d ≤ 65535 → k .«buffer_length» ≤ length buffer → answer ≡ gives done → On T (called w (submits k d buffer range bytes))
-  accepted-on short room e =
-      let same : eqb (length d) (length d) ≡ true = eq-eqb (length d) (length d) refl in
-      let long : ltb (length buffer) (k .«buffer_length») ≡ false = le-ltb (length buffer) (k .«buffer_length») room in
-      subst (λ (s : Answer Done). On T (after s)) (sym e)
-      (submitted (submittedFrame k (length d)) (record { sent = record { fields = range; bytes = bytes; short = short }; announced = refl; room = room; service = λ e. absurd (true≢false e); fits = rw (same, long); eight = eight }) codes different a)
+    accepted-on : length d ≤ 65535 → k .«buffer_length» ≤ length buffer → answer ≡ gives done → On T (called w (submits k d buffer range bytes))
+    accepted-on short room e =
+        let same : eqb (length d) (length d) ≡ true = eq-eqb (length d) (length d) refl in
+        let long : ltb (length buffer) (k .«buffer_length») ≡ false = le-ltb (length buffer) (k .«buffer_length») room in
+        subst (λ (s : Answer Done). On T (after s)) (sym e)
+        (submitted (submittedFrame k (length d))
+        (record { sent = record { fields = range; bytes = bytes; short = short }; announced = refl; room = room; service = λ e. absurd (true≢false e); fits = rw (same, long); eight = eight }) codes different a)
 
-  submit-by : (p q r s : Bool) → ltb 65535 (length d) ≡ p → eqb (k .command) 0x0A ≡ q → isShutOut k ring ≡ r → ltb (length buffer) (k .«buffer_length») ≡ s → On T (called w (submits k d buffer range bytes))
-  submit-by true q r s e f g h = refused-on 2 (rw e)
-  submit-by false true r s e f g h = refused-on 3 (rw (e, f))
-  submit-by false false true s e f g h = refused-on 4 (rw (e, f, g))
-  submit-by false false false true e f g h = refused-on 11 (rw (e, f, g, h))
-  submit-by false false false false e f g h = accepted-on (ltb-false 65535 (length d) e) (ltb-false (length buffer) (k .«buffer_length») h) (rw (e, f, g, h))
+    submit-by : (p q r s : Bool) → ltb 65535 (length d) ≡ p → eqb (k .command) 0x0A ≡ q → isShutOut k ring ≡ r → ltb (length buffer) (k .«buffer_length») ≡ s → On T (called w (submits k d buffer range bytes))
+    submit-by true q r s e f g h = refused-on 2 (rw e)
+    submit-by false true r s e f g h = refused-on 3 (rw (e, f))
+    submit-by false false true s e f g h = refused-on 4 (rw (e, f, g))
+    submit-by false false false true e f g h = refused-on 11 (rw (e, f, g, h))
+    submit-by false false false false e f g h = accepted-on (ltb-false 65535 (length d) e) (ltb-false (length buffer) (k .«buffer_length») h) (rw (e, f, g, h))
 
-rest-submits : (T : Moment) (timeout : ℕ) (stage : Stage) (ring : Ring) (units : List Station) (lent response : List ℕ) (k : Command) (d buffer : List ℕ) (range : InRange k) (bytes : Below 256 d) → AtRest stage → 8 ≤ timeout → Codes ring → Different units → All (λ (st : Station). Fresh st × Sound st) units
+rest-submits : (T : Moment) (timeout : ℕ) (stage : Stage) (ring : Ring) (units : List Station) (lent response : List ℕ) (k : Command) (d buffer : List ℕ) (range : InRange k) (bytes : Below 256 d)
+    → AtRest stage → 8 ≤ timeout → Codes ring → Different units → All (λ (st : Station). Fresh st × Sound st) units
     → On T (called (world timeout stage ring units lent response) (submits k d buffer range bytes))
 rest-submits T timeout stage ring units lent response k d buffer range bytes is-free eight codes different a =
     submit-by T timeout ring units lent response k d buffer range bytes eight codes different a (ltb 65535 (length d)) (eqb (k .command) 0x0A) (isShutOut k ring) (ltb (length buffer) (k .«buffer_length»)) refl refl refl refl
@@ -216,7 +221,8 @@ rest-submits T timeout stage ring units lent response k d buffer range bytes is-
     subst (On T) (sym (not-idle (world timeout (Resting false) ring units lent response) k d buffer range bytes refl)) (rests is-resting eight codes different a)
 
 submit-called : {T : Moment} {w : World} → On T w → (k : Command) (d buffer : List ℕ) (range : InRange k) (bytes : Below 256 d) → On T (called w (submits k d buffer range bytes))
-submit-called {T} (rests {timeout = timeout} {stage = stage} {ring = ring} {units = units} {lent = lent} {response = response} r eight codes different a) k d buffer range bytes = rest-submits T timeout stage ring units lent response k d buffer range bytes r eight codes different a
+submit-called {T} (rests {timeout = timeout} {stage = stage} {ring = ring} {units = units} {lent = lent} {response = response} r eight codes different a) k d buffer range bytes =
+    rest-submits T timeout stage ring units lent response k d buffer range bytes r eight codes different a
 submit-called {T} (submitted f {timeout = timeout} {ring = ring} {units = units} {lent = lent} {response = response} framed codes different a) k d buffer range bytes =
     subst (On T) (sym (not-idle (world timeout (Waiting f) ring units lent response) k d buffer range bytes refl)) (submitted f framed codes different a)
 submit-called {T} (ended {timeout = timeout} {ring = ring} {units = units} {lent = lent} {response = response} eight codes different a) k d buffer range bytes =
@@ -268,7 +274,9 @@ on-called o (lendsUnit i buffer) = lends-unit-on i buffer o
 acknowledge-in : {T : Moment} (t : Bool) {f : Frame} {found : List ℕ} {w : World} (code : ℕ) (h : code < 256) → isMarked code (live (w .controller .ring)) ≡ t → InFrame T f found w → InFrame T f found (called w (acknowledges code h))
 acknowledge-in {T} true {f} {found} {w} code h e x =
     let s : acknowledging (w .controller) code ≡ gives done = rw e in
-    subst (λ (a : Answer Done). InFrame T f found (record { controller = kept a (withoutMark (w .controller) code) (w .controller); units = w .units; lent = w .lent; response = w .response })) (sym s) (frame-ring (ringOf (withMark false code (live (w .controller .ring)))) x)
+    subst
+    (λ (a : Answer Done). InFrame T f found (record { controller = kept a (withoutMark (w .controller) code) (w .controller); units = w .units; lent = w .lent; response = w .response }))
+    (sym s) (frame-ring (ringOf (withMark false code (live (w .controller .ring)))) x)
 acknowledge-in {T} false {f} {found} {w} code h e x =
     let s : acknowledging (w .controller) code ≡ refused 8 = rw e in
     subst (λ (a : Answer Done). InFrame T f found (record { controller = kept a (withoutMark (w .controller) code) (w .controller); units = w .units; lent = w .lent; response = w .response })) (sym s) x

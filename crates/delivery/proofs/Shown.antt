@@ -196,7 +196,8 @@ module _ (l : Capture) where
   sits-hush st e did = subst (λ (x : Phase). Did (l .frame .command) (l .lent) (st .unit .own) x (deedsIn (st .unit .own) (l .marks))) e did
 
   -- Nobody responds.
-  waits-delivered : {ss : List Station} → actsIn (l .marks) ≡ map sent (message l) → All (λ (st : Station). Hush (l .frame .command) (l .lent) (st .unit .own) (deedsIn (st .unit .own) (l .marks))) ss → All (DidAt l (l .lent)) ss → Underway (codesOf ss) l
+  waits-delivered : {ss : List Station} → actsIn (l .marks) ≡ map sent (message l)
+      → All (λ (st : Station). Hush (l .frame .command) (l .lent) (st .unit .own) (deedsIn (st .unit .own) (l .marks))) ss → All (DidAt l (l .lent)) ss → Underway (codesOf ss) l
   waits-delivered was hush did = record {
     answerer = nobody;
     in-order = (endBy l nobody ∷ [], ap (λ (y : List Act). y ++ (endBy l nobody ∷ [])) (sym was));
@@ -271,7 +272,8 @@ module _ (l : Capture) where
 abbrev lentNow : Capture → World → Capture
 lentNow l v = record { frame = l .frame; lent = dataOf (l .frame) (v .lent); found = l .found; marks = l .marks }
 
-by-stage : {T : Moment} (l : Capture) {found : List ℕ} (v : World) → InFrame T (l .frame) found v → All (DidAt l (dataOf (l .frame) (v .lent))) (v .units) → Acted l (dataOf (l .frame) (v .lent)) (v .controller .stage) (v .units) → Underway (codesOf (v .units)) (lentNow l v)
+by-stage : {T : Moment} (l : Capture) {found : List ℕ} (v : World) → InFrame T (l .frame) found v → All (DidAt l (dataOf (l .frame) (v .lent))) (v .units)
+    → Acted l (dataOf (l .frame) (v .lent)) (v .controller .stage) (v .units) → Underway (codesOf (v .units)) (lentNow l v)
 by-stage l v (begins {lent = lent} framed d a) did acted =
     let m = lentNow l v in
     let n = message-long m in

@@ -118,127 +118,131 @@ module _ (T : Moment) (c : Command) (d : List ℕ) {st st′ : Station} {seen : 
   abbrev newly : List Deed
   newly = deedsBy (st .unit .phase) (st′ .unit .phase) (insideOf st) seen
 
-  module _ (r : Reply) (j t : ℕ) (sender : Sender) (wait : Bool) (z : st .unit .phase ≡ Responding r j sender wait) (p : Promised T own c d r (insideOf st)) (fits : Fits (nibbleIn (answerBytes p) j) sender ear t) (l : j < lengthOf (answerData p)) (w : wait ≡ true → sender ≡ Next) (s : Stands c d own r j e) (same : p .given ≡ s .given) (was : HeardOf c d (answerFor c d own (s .given)) (j + count ear) a) where
-    abbrev answer : List ℕ
-    answer = answerFor c d own (s .given)
+  module _
+      (r : Reply) (j t : ℕ) (sender : Sender) (wait : Bool) (z : st .unit .phase ≡ Responding r j sender wait) (p : Promised T own c d r (insideOf st))
+      (fits : Fits (nibbleIn (answerBytes p) j) sender ear t) (l : j < lengthOf (answerData p)) (w : wait ≡ true → sender ≡ Next) (s : Stands c d own r j e)
+      (same : p .given ≡ s .given) (was : HeardOf c d (answerFor c d own (s .given)) (j + count ear) a)
+    where
+      abbrev answer : List ℕ
+      answer = answerFor c d own (s .given)
 
-    bytes-same : nibbles (answerBytes p) ≡ answer
-    bytes-same = λ i. nibbles (responseFor (dataIn (same i) (s .said i)) (replyStatus (s .said i)))
+      bytes-same : nibbles (answerBytes p) ≡ answer
+      bytes-same = λ i. nibbles (responseFor (dataIn (same i) (s .said i)) (replyStatus (s .said i)))
 
-    long : length answer ≡ lengthOf (answerData p)
-    long = sym (ap length bytes-same) ∙ length-answer (answerData p) (replyStatus r)
+      long : length answer ≡ lengthOf (answerData p)
+      long = sym (ap length bytes-same) ∙ length-answer (answerData p) (replyStatus r)
 
-    abbrev n : ℕ
-    n = nibbleIn (answerBytes p) j
+      abbrev n : ℕ
+      n = nibbleIn (answerBytes p) j
 
-    nibble-is : n ≡ nibbleIn (responseFor (dataIn (s .given) (replyFor own (s .given) c d)) (replyStatus (replyFor own (s .given) c d))) j
-    nibble-is = λ i. nibbleIn (responseFor (dataIn (same i) (s .said i)) (replyStatus (s .said i))) j
+      nibble-is : n ≡ nibbleIn (responseFor (dataIn (s .given) (replyFor own (s .given) c d)) (replyStatus (replyFor own (s .given) c d))) j
+      nibble-is = λ i. nibbleIn (responseFor (dataIn (same i) (s .said i)) (replyStatus (s .said i))) j
 
-    abbrev stepped : Moved
-    stepped = respondingStep (st .unit .serial) r j sender wait (seen .hsk) (st .input)
+      abbrev stepped : Moved
+      stepped = respondingStep (st .unit .serial) r j sender wait (seen .hsk) (st .input)
 
-    phase-is : st′ .unit .phase ≡ stepped .phase
-    phase-is = step .phase ∙ ap (λ (x : Phase). phaseStep x own (st .unit .serial) seen busy (st .buffer) (st .input) .phase) z
+      phase-is : st′ .unit .phase ≡ stepped .phase
+      phase-is = step .phase ∙ ap (λ (x : Phase). phaseStep x own (st .unit .serial) seen busy (st .buffer) (st .input) .phase) z
 
-    newly-is : newly ≡ cond (sentOf sender (seen .hsk)) (spoke (senderNibble sender) ∷ doneBy (st′ .unit .phase)) []
-    newly-is = ap (λ (x : Phase). deedsBy x (st′ .unit .phase) (insideOf st) seen) z
+      newly-is : newly ≡ cond (sentOf sender (seen .hsk)) (spoke (senderNibble sender) ∷ doneBy (st′ .unit .phase)) []
+      newly-is = ap (λ (x : Phase). deedsBy x (st′ .unit .phase) (insideOf st) seen) z
 
-    none-said : sentOf sender (seen .hsk) ≡ false → e ++ newly ≡ e
-    none-said q = ap (λ (x : List Deed). e ++ x) (newly-is ∙ rw q) ∙ append-nil e
+      none-said : sentOf sender (seen .hsk) ≡ false → e ++ newly ≡ e
+      none-said q = ap (λ (x : List Deed). e ++ x) (newly-is ∙ rw q) ∙ append-nil e
 
-    none-heard : takenOf ear (seen .hsk) ≡ false → a ++ hearing ear seen ≡ a
-    none-heard q = ap (λ (x : List Act). a ++ x) (rw q) ∙ append-nil a
+      none-heard : takenOf ear (seen .hsk) ≡ false → a ++ hearing ear seen ≡ a
+      none-heard q = ap (λ (x : List Act). a ++ x) (rw q) ∙ append-nil a
 
-    -- Nothing counts as sent in this round: the unit goes on with the same nibble.
-    same-nibble : sentOf sender (seen .hsk) ≡ false → (k : Sender) × (u : Bool) × (st′ .unit .phase ≡ Responding r j k u)
-    same-nibble q = by wait refl
-      where
-        by : (b : Bool) → wait ≡ b → (k : Sender) × (u : Bool) × (st′ .unit .phase ≡ Responding r j k u)
-        by true b = (sender, false, phase-is ∙ rw b)
-        by false b = (sendOf sender (seen .hsk) (nibbleIn (responseBytes (contents (st .input) (st .unit .serial .input)) r) j), false, phase-is ∙ rw (b, q))
+      -- Nothing counts as sent in this round: the unit goes on with the same nibble.
+      same-nibble : sentOf sender (seen .hsk) ≡ false → (k : Sender) × (u : Bool) × (st′ .unit .phase ≡ Responding r j k u)
+      same-nibble q = by wait refl
+        where
+          by : (b : Bool) → wait ≡ b → (k : Sender) × (u : Bool) × (st′ .unit .phase ≡ Responding r j k u)
+          by true b = (sender, false, phase-is ∙ rw b)
+          by false b = (sendOf sender (seen .hsk) (nibbleIn (responseBytes (contents (st .input) (st .unit .serial .input)) r) j), false, phase-is ∙ rw (b, q))
 
-    heard-more : takenOf ear (seen .hsk) ≡ true → seen .nibble ≡ n → count ear ≡ 0 → a ++ hearing ear seen ≡ map sent (nibblesFor c d) ++ map heard (take (suc j) answer)
-    heard-more q nib k0 =
-        let k : j + count ear ≡ j = omega arith in
-        let at : a ≡ map sent (nibblesFor c d) ++ map heard (take j answer) = was ∙ ap (λ (x : ℕ). map sent (nibblesFor c d) ++ map heard (take x answer)) k in
-        let new : hearing ear seen ≡ heard (seen .nibble) ∷ [] = rw q in
-        let ll = long in
-        (λ i. at i ++ new i)
-        ∙ append-assoc (map sent (nibblesFor c d)) (map heard (take j answer)) (heard (seen .nibble) ∷ [])
-        ∙ ap (λ (x : List Act). map sent (nibblesFor c d) ++ x) (one-more heard answer j (seen .nibble) (map heard (take j answer)) (omega arith) (nib ∙ nibble-is) refl)
-
-    -- The nibble counts as sent: one more of the response, or its end.
-    module _ (q : sentOf sender (seen .hsk) ≡ true) (awake : wait ≡ false) (none : takenOf ear (seen .hsk) ≡ false) (ready : hearOf ear (seen .hsk) host ≡ Ready) (one : t ≡ 1) where
-      abbrev spoken : List Deed → List Deed
-      spoken rest = map took (nibblesFor c d) ++ (settled (s .given) ∷ rest)
-
-      said-more : (tail : List Deed) → e ++ (spoke (senderNibble sender) ∷ tail) ≡ spoken (map spoke (take (suc j) answer) ++ tail)
-      said-more tail =
+      heard-more : takenOf ear (seen .hsk) ≡ true → seen .nibble ≡ n → count ear ≡ 0 → a ++ hearing ear seen ≡ map sent (nibblesFor c d) ++ map heard (take (suc j) answer)
+      heard-more q nib k0 =
+          let k : j + count ear ≡ j = omega arith in
+          let at : a ≡ map sent (nibblesFor c d) ++ map heard (take j answer) = was ∙ ap (λ (x : ℕ). map sent (nibblesFor c d) ++ map heard (take x answer)) k in
+          let new : hearing ear seen ≡ heard (seen .nibble) ∷ [] = rw q in
           let ll = long in
-          let grown = one-more spoke answer j (senderNibble sender) (map spoke (take j answer)) (omega arith) (fits-sent fits one ∙ nibble-is) refl in
-          ap (λ (x : List Deed). x ++ (spoke (senderNibble sender) ∷ tail)) (s .deeds)
-          ∙ append-assoc (map took (nibblesFor c d)) (settled (s .given) ∷ map spoke (take j answer)) (spoke (senderNibble sender) ∷ tail)
-          ∙ ap spoken (sym (append-assoc (map spoke (take j answer)) (spoke (senderNibble sender) ∷ []) tail) ∙ ap (λ (x : List Deed). x ++ tail) grown)
+          (λ i. at i ++ new i)
+          ∙ append-assoc (map sent (nibblesFor c d)) (map heard (take j answer)) (heard (seen .nibble) ∷ [])
+          ∙ ap (λ (x : List Act). map sent (nibblesFor c d) ++ x) (one-more heard answer j (seen .nibble) (map heard (take j answer)) (omega arith) (nib ∙ nibble-is) refl)
 
-      heard-so-far : a ≡ map sent (nibblesFor c d) ++ map heard (take (suc j) answer)
-      heard-so-far =
-          let f = fits-count fits in
-          let k : j + count ear ≡ suc j = omega arith in
-          was ∙ ap (λ (x : ℕ). map sent (nibblesFor c d) ++ map heard (take x answer)) k
+      -- The nibble counts as sent: one more of the response, or its end.
+      module _ (q : sentOf sender (seen .hsk) ≡ true) (awake : wait ≡ false) (none : takenOf ear (seen .hsk) ≡ false) (ready : hearOf ear (seen .hsk) host ≡ Ready) (one : t ≡ 1) where
+        abbrev spoken : List Deed → List Deed
+        spoken rest = map took (nibblesFor c d) ++ (settled (s .given) ∷ rest)
 
-      sent-by : (more : Bool) → ltb j (lastNibble (st .unit .serial .input) r) ≡ more → Spoken c d own r (s .given) (st′ .unit .phase) (hearOf ear (seen .hsk) host) (e ++ newly) (a ++ hearing ear seen)
-      sent-by true m =
-          let less : j < lastNibble (st .unit .serial .input) r = ltb-true j (lastNibble (st .unit .serial .input) r) m in
-          let last : lastNibble (st .unit .serial .input) r ≡ lengthOf (answerData p) - 1 = last-is p in
+        said-more : (tail : List Deed) → e ++ (spoke (senderNibble sender) ∷ tail) ≡ spoken (map spoke (take (suc j) answer) ++ tail)
+        said-more tail =
+            let ll = long in
+            let grown = one-more spoke answer j (senderNibble sender) (map spoke (take j answer)) (omega arith) (fits-sent fits one ∙ nibble-is) refl in
+            ap (λ (x : List Deed). x ++ (spoke (senderNibble sender) ∷ tail)) (s .deeds)
+            ∙ append-assoc (map took (nibblesFor c d)) (settled (s .given) ∷ map spoke (take j answer)) (spoke (senderNibble sender) ∷ tail)
+            ∙ ap spoken (sym (append-assoc (map spoke (take j answer)) (spoke (senderNibble sender) ∷ []) tail) ∙ ap (λ (x : List Deed). x ++ tail) grown)
+
+        heard-so-far : a ≡ map sent (nibblesFor c d) ++ map heard (take (suc j) answer)
+        heard-so-far =
+            let f = fits-count fits in
+            let k : j + count ear ≡ suc j = omega arith in
+            was ∙ ap (λ (x : ℕ). map sent (nibblesFor c d) ++ map heard (take x answer)) k
+
+        sent-by : (more : Bool) → ltb j (lastNibble (st .unit .serial .input) r) ≡ more → Spoken c d own r (s .given) (st′ .unit .phase) (hearOf ear (seen .hsk) host) (e ++ newly) (a ++ hearing ear seen)
+        sent-by true m =
+            let less : j < lastNibble (st .unit .serial .input) r = ltb-true j (lastNibble (st .unit .serial .input) r) m in
+            let last : lastNibble (st .unit .serial .input) r ≡ lengthOf (answerData p) - 1 = last-is p in
+            let ll = long in
+            let ph : st′ .unit .phase ≡ Responding r (j + 1) Next false = phase-is ∙ rw (awake, q, m) in
+            let new : newly ≡ spoke (senderNibble sender) ∷ [] = newly-is ∙ (λ i. cond (q i) (spoke (senderNibble sender) ∷ doneBy (ph i)) []) in
+            let k : suc j ≡ j + 1 = omega arith in
+            let zero-count : count (hearOf ear (seen .hsk) host) ≡ 0 = ap count ready in
+            let k′ : suc j ≡ (j + 1) + count (hearOf ear (seen .hsk) host) = omega arith in
+            goes-on (j + 1) Next false ph (omega arith)
+            (ap (λ (x : List Deed). e ++ x) new ∙ said-more [] ∙ ap spoken (append-nil (map spoke (take (suc j) answer))) ∙ ap (λ (x : ℕ). spoken (map spoke (take x answer))) k)
+            (none-heard none ∙ heard-so-far ∙ ap (λ (x : ℕ). map sent (nibblesFor c d) ++ map heard (take x answer)) k′)
+        sent-by false m =
+            let most : lastNibble (st .unit .serial .input) r ≤ j = ltb-false j (lastNibble (st .unit .serial .input) r) m in
+            let last : lastNibble (st .unit .serial .input) r ≡ lengthOf (answerData p) - 1 = last-is p in
+            let ll = long in
+            let all : take (suc j) answer ≡ answer = take-all (suc j) answer (omega arith) in
+            let ph : st′ .unit .phase ≡ SittingOut false = phase-is ∙ rw (awake, q, m) in
+            let new : newly ≡ spoke (senderNibble sender) ∷ done ∷ [] = newly-is ∙ (λ i. cond (q i) (spoke (senderNibble sender) ∷ doneBy (ph i)) []) in
+            is-done ph
+            (ap (λ (x : List Deed). e ++ x) new ∙ said-more (done ∷ []) ∙ ap (λ (x : List ℕ). spoken (map spoke x ++ (done ∷ []))) all)
+            (none-heard none ∙ heard-so-far ∙ ap (λ (x : List ℕ). map sent (nibblesFor c d) ++ map heard x) all)
+
+      asleep : (b : Bool) → wait ≡ b → sentOf sender (seen .hsk) ≡ true → wait ≡ false
+      asleep true b q = absurd (true≢false (sym q ∙ ap (λ (x : Sender). sentOf x (seen .hsk)) (w b)))
+      asleep false b q = b
+
+      spoken-by : Pair n sender ear t (seen .hsk) (seen .nibble) host → Spoken c d own r (s .given) (st′ .unit .phase) (hearOf ear (seen .hsk) host) (e ++ newly) (a ++ hearing ear seen)
+      spoken-by (rests e1 e2 g) =
+          let k = same-nibble e2 in
           let ll = long in
-          let ph : st′ .unit .phase ≡ Responding r (j + 1) Next false = phase-is ∙ rw (awake, q, m) in
-          let new : newly ≡ spoke (senderNibble sender) ∷ [] = newly-is ∙ (λ i. cond (q i) (spoke (senderNibble sender) ∷ doneBy (ph i)) []) in
-          let k : suc j ≡ j + 1 = omega arith in
-          let zero-count : count (hearOf ear (seen .hsk) host) ≡ 0 = ap count ready in
-          let k′ : suc j ≡ (j + 1) + count (hearOf ear (seen .hsk) host) = omega arith in
-          goes-on (j + 1) Next false ph (omega arith)
-          (ap (λ (x : List Deed). e ++ x) new ∙ said-more [] ∙ ap spoken (append-nil (map spoke (take (suc j) answer))) ∙ ap (λ (x : ℕ). spoken (map spoke (take x answer))) k)
-          (none-heard none ∙ heard-so-far ∙ ap (λ (x : ℕ). map sent (nibblesFor c d) ++ map heard (take x answer)) k′)
-      sent-by false m =
-          let most : lastNibble (st .unit .serial .input) r ≤ j = ltb-false j (lastNibble (st .unit .serial .input) r) m in
-          let last : lastNibble (st .unit .serial .input) r ≡ lengthOf (answerData p) - 1 = last-is p in
+          let old = fits-count fits in
+          let new = fits-count g in
+          let same-count : j + count ear ≡ j + count (hearOf ear (seen .hsk) host) = omega arith in
+          let t1 : t ≤ 1 = fits-most fits in
+          goes-on j (k .0) (k .1) (k .2) (omega arith) (none-said e2 ∙ s .deeds) (none-heard e1 ∙ was ∙ ap (λ (x : ℕ). map sent (nibblesFor c d) ++ map heard (take x answer)) same-count)
+        where
+          fits-most : {n t : ℕ} {sender : Sender} {ear : Listener} → Fits n sender ear t → t ≤ 1
+          fits-most f-next = omega arith
+          fits-most f-placed = omega arith
+          fits-most f-holds = omega arith
+          fits-most f-waits = omega arith
+      spoken-by (takes e1 e2 e3 e4 e5 g) =
+          let k = same-nibble e5 in
           let ll = long in
-          let all : take (suc j) answer ≡ answer = take-all (suc j) answer (omega arith) in
-          let ph : st′ .unit .phase ≡ SittingOut false = phase-is ∙ rw (awake, q, m) in
-          let new : newly ≡ spoke (senderNibble sender) ∷ done ∷ [] = newly-is ∙ (λ i. cond (q i) (spoke (senderNibble sender) ∷ doneBy (ph i)) []) in
-          is-done ph
-          (ap (λ (x : List Deed). e ++ x) new ∙ said-more (done ∷ []) ∙ ap (λ (x : List ℕ). spoken (map spoke x ++ (done ∷ []))) all)
-          (none-heard none ∙ heard-so-far ∙ ap (λ (x : List ℕ). map sent (nibblesFor c d) ++ map heard x) all)
-
-    asleep : (b : Bool) → wait ≡ b → sentOf sender (seen .hsk) ≡ true → wait ≡ false
-    asleep true b q = absurd (true≢false (sym q ∙ ap (λ (x : Sender). sentOf x (seen .hsk)) (w b)))
-    asleep false b q = b
-
-    spoken-by : Pair n sender ear t (seen .hsk) (seen .nibble) host → Spoken c d own r (s .given) (st′ .unit .phase) (hearOf ear (seen .hsk) host) (e ++ newly) (a ++ hearing ear seen)
-    spoken-by (rests e1 e2 g) =
-        let k = same-nibble e2 in
-        let ll = long in
-        let old = fits-count fits in
-        let new = fits-count g in
-        let same-count : j + count ear ≡ j + count (hearOf ear (seen .hsk) host) = omega arith in
-        let t1 : t ≤ 1 = fits-most fits in
-        goes-on j (k .0) (k .1) (k .2) (omega arith) (none-said e2 ∙ s .deeds) (none-heard e1 ∙ was ∙ ap (λ (x : ℕ). map sent (nibblesFor c d) ++ map heard (take x answer)) same-count)
-      where
-        fits-most : {n t : ℕ} {sender : Sender} {ear : Listener} → Fits n sender ear t → t ≤ 1
-        fits-most f-next = omega arith
-        fits-most f-placed = omega arith
-        fits-most f-holds = omega arith
-        fits-most f-waits = omega arith
-    spoken-by (takes e1 e2 e3 e4 e5 g) =
-        let k = same-nibble e5 in
-        let ll = long in
-        let old = fits-count fits in
-        let gone : takenOf ear (seen .hsk) ≡ true = ap (λ (x : Listener). takenOf x (seen .hsk)) e1 ∙ e2 in
-        let held : hearOf ear (seen .hsk) host ≡ Holding = ap (λ (x : Listener). hearOf x (seen .hsk) host) e1 ∙ ap (λ (x : Bool). hearOf Ready x host) e2 in
-        let new : count (hearOf ear (seen .hsk) host) ≡ 1 = ap count held in
-        let k′ : suc j ≡ j + count (hearOf ear (seen .hsk) host) = omega arith in
-        goes-on j (k .0) (k .1) (k .2) (omega arith) (none-said e5 ∙ s .deeds) (heard-more gone e3 (omega arith) ∙ ap (λ (x : ℕ). map sent (nibblesFor c d) ++ map heard (take x answer)) k′)
-    spoken-by (sends e1 e2 e3 e4 e5) = sent-by e2 (asleep wait refl e2) e1 e4 e5 (ltb j (lastNibble (st .unit .serial .input) r)) refl
+          let old = fits-count fits in
+          let gone : takenOf ear (seen .hsk) ≡ true = ap (λ (x : Listener). takenOf x (seen .hsk)) e1 ∙ e2 in
+          let held : hearOf ear (seen .hsk) host ≡ Holding = ap (λ (x : Listener). hearOf x (seen .hsk) host) e1 ∙ ap (λ (x : Bool). hearOf Ready x host) e2 in
+          let new : count (hearOf ear (seen .hsk) host) ≡ 1 = ap count held in
+          let k′ : suc j ≡ j + count (hearOf ear (seen .hsk) host) = omega arith in
+          goes-on j (k .0) (k .1) (k .2) (omega arith) (none-said e5 ∙ s .deeds) (heard-more gone e3 (omega arith) ∙ ap (λ (x : ℕ). map sent (nibblesFor c d) ++ map heard (take x answer)) k′)
+      spoken-by (sends e1 e2 e3 e4 e5) = sent-by e2 (asleep wait refl e2) e1 e4 e5 (ltb j (lastNibble (st .unit .serial .input) r)) refl
 
   -- The round of a unit that responds.
   pub talk-spoken : {stores : Bool} {found : List ℕ} {taken : Response} {quiet : ℕ} {buffer : List ℕ} → Talk T c d stores found ear taken quiet buffer st

@@ -53,7 +53,8 @@ put-length n place x b = cond-length (isStored n place) (set b (place - 9) x) b 
 taking-length : (ear : Listener) (p : Partial) (seen : Lines) (b : List ℕ) → length (takingBuffer ear p seen b) ≡ length b
 taking-length ear p seen b =
     cond-length (takenOf ear (seen .hsk)) (cond (p .half) (byteBuffer p (byteFrom (p .low) (seen .nibble)) b) b) b (length b)
-    (cond-length (p .half) (byteBuffer p (byteFrom (p .low) (seen .nibble)) b) b (length b) (put-length (withByte (p .header) (p .place) (byteFrom (p .low) (seen .nibble)) .«data_length») (p .place) (byteFrom (p .low) (seen .nibble)) b) refl) refl
+    (cond-length (p .half) (byteBuffer p (byteFrom (p .low) (seen .nibble)) b) b (length b)
+    (put-length (withByte (p .header) (p .place) (byteFrom (p .low) (seen .nibble)) .«data_length») (p .place) (byteFrom (p .low) (seen .nibble)) b) refl) refl
 
 phase-length : (x : Phase) (seen : Lines) (b : List ℕ) → length (phaseBuffer x seen b) ≡ length b
 phase-length Idle seen b = refl
@@ -66,7 +67,9 @@ phase-length (SittingOut last) seen b = refl
 pub sound-low : {st st′ : Station} {seen : Lines} {busy : Bool} → Stepped st seen busy st′ → Sound st → Sound st′
 sound-low {st} {st′} {seen} {busy} e s = record {
   room = (λ k. isShort (kindOf (e .own k)) ((ap length (e .buffer) ∙ phase-length (st .unit .phase) seen (st .buffer)) k)) ∙ s .room;
-  fit = subst (λ (own : ℕ). Fit (kindOf own) (insideOf st′)) (sym (e .own)) (subst (Fit (kindOf (st .unit .own))) (sym (e .inside)) (came-fit (st .unit .own) (came (st .unit .phase) (st .unit .own) (insideOf st) seen busy (st .buffer)) (s .fit)));
+  fit =
+      subst (λ (own : ℕ). Fit (kindOf own) (insideOf st′)) (sym (e .own))
+      (subst (Fit (kindOf (st .unit .own))) (sym (e .inside)) (came-fit (st .unit .own) (came (st .unit .phase) (st .unit .own) (insideOf st) seen busy (st .buffer)) (s .fit)));
 }
 
 -- The nibbles of a command.
@@ -88,7 +91,8 @@ sends-on false s-kept e = absurd (true≢false e)
 abbrev pub sending : Sender → Lines
 sending sender = record { bav = true; hsk = senderHsk sender; nibble = senderNibble sender }
 
-pub shows : {P : Station → Reply → Inside → Type 0} {c : Command} {d : List ℕ} {i n : ℕ} (sender : Sender) (ss : List Station) → n < 16 → Sends n sender → All (λ (st : Station). Part (P st) c d i sender st × Sound st) ss → Shows sender (levelsWith (sending sender) ss)
+pub shows : {P : Station → Reply → Inside → Type 0} {c : Command} {d : List ℕ} {i n : ℕ} (sender : Sender) (ss : List Station) → n < 16 → Sends n sender
+    → All (λ (st : Station). Part (P st) c d i sender st × Sound st) ss → Shows sender (levelsWith (sending sender) ss)
 shows Next ss h s a = hsk-high (sending Next) refl (all-map (λ st p. part-high (p .0)) a)
 shows (Placed m) ss h s a = (hsk-kept (sending (Placed m)) ss refl, nibble-kept (sending (Placed m)) (sends-below h s) (all-map (λ st p. part-free (p .0)) a))
 shows (Kept m) ss h s a = tt
@@ -100,49 +104,57 @@ part-own T {c} {d} {i} {sender} {st} e p = subst (λ (own : ℕ). Part (Promised
 turned-own : (T : Moment) {c : Command} {d : List ℕ} {st : Station} {own : ℕ} → st .unit .own ≡ own → Turned (Promised T own c d) c st → Turned (Promised T (st .unit .own) c d) c st
 turned-own T {c} {d} {st} e p = subst (λ (own : ℕ). Turned (Promised T own c d) c st) (sym e) p
 
-module _ (T : Moment) (c : Command) (d : List ℕ) (ok : Sent c d) (i : ℕ) (sender : Sender) (ss : List Station) (hosts : ℕ) (s : Sends (nibbleIn (bytesFor c d) i) sender) (a : All (λ (st : Station). Part (Promised T (st .unit .own) c d) c d i sender st × Sound st) ss) where
-  abbrev seen : Lines
-  seen = levelsWith (sending sender) ss
+module _
+    (T : Moment) (c : Command) (d : List ℕ) (ok : Sent c d) (i : ℕ) (sender : Sender) (ss : List Station) (hosts : ℕ) (s : Sends (nibbleIn (bytesFor c d) i) sender)
+    (a : All (λ (st : Station). Part (Promised T (st .unit .own) c d) c d i sender st × Sound st) ss)
+  where
+    abbrev seen : Lines
+    seen = levelsWith (sending sender) ss
 
-  abbrev n : ℕ
-  n = nibbleIn (bytesFor c d) i
+    abbrev n : ℕ
+    n = nibbleIn (bytesFor c d) i
 
-  sent-bav : seen .bav ≡ true
-  sent-bav = bav-kept (sending sender) ss refl
+    sent-bav : seen .bav ≡ true
+    sent-bav = bav-kept (sending sender) ss refl
 
-  pub sent-nibble : seen .nibble < 16
-  sent-nibble =
-      let b : senderNibble sender < 16 = sends-below (nibble-below (bytesFor c d) i) s in
-      let e : seen .nibble ≡ senderNibble sender = nibble-kept (sending sender) b (all-map (λ st p. part-free (p .0)) a) in
-      subst (λ (x : ℕ). x < 16) (sym e) b
+    pub sent-nibble : seen .nibble < 16
+    sent-nibble =
+        let b : senderNibble sender < 16 = sends-below (nibble-below (bytesFor c d) i) s in
+        let e : seen .nibble ≡ senderNibble sender = nibble-kept (sending sender) b (all-map (λ st p. part-free (p .0)) a) in
+        subst (λ (x : ℕ). x < 16) (sym e) b
 
-  stepped : (st : Station) (busy : Bool) → Sound st → Stepped st seen busy (stationStep st seen busy)
-  stepped st busy x = low-step st seen busy sent-nibble (x .room) sent-bav
+    stepped : (st : Station) (busy : Bool) → Sound st → Stepped st seen busy (stationStep st seen busy)
+    stepped st busy x = low-step st seen busy sent-nibble (x .room) sent-bav
 
-  known : All (λ (st : Station). (Part (Promised T (st .unit .own) c d) c d i sender st × Sound st) × (pullsHsk (st .unit .phase) ≡ true → seen .hsk ≡ true)) ss
-  known = all-zip a (hsk-own (sending sender) ss)
+    known : All (λ (st : Station). (Part (Promised T (st .unit .own) c d) c d i sender st × Sound st) × (pullsHsk (st .unit .phase) ≡ true → seen .hsk ≡ true)) ss
+    known = all-zip a (hsk-own (sending sender) ss)
 
-  pub units-rest : ((st after : Station) → Becomes seen hosts ss st after → isAnswered (st .unit .phase) ≡ false → isAnswered (after .unit .phase) ≡ true → T (st .unit .own) (insideOf st)) → sentOf sender (seen .hsk) ≡ false → i < 2 * length (bytesFor c d)
-      → All (λ (st : Station). Part (Promised T (st .unit .own) c d) c d i (sendOf sender (seen .hsk) n) st × Sound st) (unitsAfter seen hosts ss)
-  units-rest noted e l =
-      all-becomes seen hosts (λ st busy becomes p. (
-        part-own T (stepped st busy (p .0 .1) .own) (part-rests (Promised T (st .unit .own) c d) c d i sender st (stationStep st seen busy) seen busy (stepped st busy (p .0 .1)) ok (λ before now g. promised (st .unit .own) c d (insideOf st) (insideOf (stationStep st seen busy)) (p .0 .1 .fit) g (noted st (stationStep st seen busy) becomes before now)) (shows sender ss (nibble-below (bytesFor c d) i) s a) (p .1) e l (p .0 .0)),
-        sound-low (stepped st busy (p .0 .1)) (p .0 .1),
-      )) known
+    pub units-rest : ((st after : Station) → Becomes seen hosts ss st after → isAnswered (st .unit .phase) ≡ false → isAnswered (after .unit .phase) ≡ true → T (st .unit .own) (insideOf st))
+        → sentOf sender (seen .hsk) ≡ false → i < 2 * length (bytesFor c d)
+        → All (λ (st : Station). Part (Promised T (st .unit .own) c d) c d i (sendOf sender (seen .hsk) n) st × Sound st) (unitsAfter seen hosts ss)
+    units-rest noted e l =
+        all-becomes seen hosts (λ st busy becomes p. (
+          part-own T (stepped st busy (p .0 .1) .own) (part-rests (Promised T (st .unit .own) c d) c d i sender st (stationStep st seen busy) seen busy (stepped st busy (p .0 .1)) ok
+              (λ before now g. promised (st .unit .own) c d (insideOf st) (insideOf (stationStep st seen busy)) (p .0 .1 .fit) g (noted st (stationStep st seen busy) becomes before now))
+              (shows sender ss (nibble-below (bytesFor c d) i) s a) (p .1) e l (p .0 .0)),
+          sound-low (stepped st busy (p .0 .1)) (p .0 .1),
+        )) known
 
-  pub units-sent : sentOf sender (seen .hsk) ≡ true → suc i < 2 * length (bytesFor c d)
-      → All (λ (st : Station). Part (Promised T (st .unit .own) c d) c d (suc i) Next st × Sound st) (unitsAfter seen hosts ss)
-  units-sent e l =
-      all-step seen (λ st busy p. (
-        part-own T (stepped st busy (p .0 .1) .own) (part-sent (Promised T (st .unit .own) c d) c d i sender st (stationStep st seen busy) seen busy (stepped st busy (p .0 .1)) (shows sender ss (nibble-below (bytesFor c d) i) s a) (p .1) e l (p .0 .0)),
-        sound-low (stepped st busy (p .0 .1)) (p .0 .1),
-      )) hosts known
+    pub units-sent : sentOf sender (seen .hsk) ≡ true → suc i < 2 * length (bytesFor c d)
+        → All (λ (st : Station). Part (Promised T (st .unit .own) c d) c d (suc i) Next st × Sound st) (unitsAfter seen hosts ss)
+    units-sent e l =
+        all-step seen (λ st busy p. (
+          part-own T (stepped st busy (p .0 .1) .own)
+              (part-sent (Promised T (st .unit .own) c d) c d i sender st (stationStep st seen busy) seen busy (stepped st busy (p .0 .1)) (shows sender ss (nibble-below (bytesFor c d) i) s a) (p .1) e l (p .0 .0)),
+          sound-low (stepped st busy (p .0 .1)) (p .0 .1),
+        )) hosts known
 
-  pub units-over : sentOf sender (seen .hsk) ≡ true → suc i ≡ 2 * length (bytesFor c d)
-      → All (λ (st : Station). Turned (Promised T (st .unit .own) c d) c st × Sound st) (unitsAfter seen hosts ss)
-  units-over e l =
-      let nine : length (bytesFor c d) ≡ 9 + length d = length-bytes c d in
-      all-step seen (λ st busy p. (
-        turned-own T (stepped st busy (p .0 .1) .own) (part-over (Promised T (st .unit .own) c d) c d i sender st (stationStep st seen busy) seen busy (stepped st busy (p .0 .1)) (shows sender ss (nibble-below (bytesFor c d) i) s a) (p .1) e l (omega arith) (p .0 .0)),
-        sound-low (stepped st busy (p .0 .1)) (p .0 .1),
-      )) hosts known
+    pub units-over : sentOf sender (seen .hsk) ≡ true → suc i ≡ 2 * length (bytesFor c d)
+        → All (λ (st : Station). Turned (Promised T (st .unit .own) c d) c st × Sound st) (unitsAfter seen hosts ss)
+    units-over e l =
+        let nine : length (bytesFor c d) ≡ 9 + length d = length-bytes c d in
+        all-step seen (λ st busy p. (
+          turned-own T (stepped st busy (p .0 .1) .own)
+              (part-over (Promised T (st .unit .own) c d) c d i sender st (stationStep st seen busy) seen busy (stepped st busy (p .0 .1)) (shows sender ss (nibble-below (bytesFor c d) i) s a) (p .1) e l (omega arith) (p .0 .0)),
+          sound-low (stepped st busy (p .0 .1)) (p .0 .1),
+        )) hosts known

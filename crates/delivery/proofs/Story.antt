@@ -98,7 +98,8 @@ module _ (l : Capture) (v : World) (busy : Busy) (different : Different (v .unit
         deeds-append (st .unit .own) (l .marks) (roundMarks v busy)
         ∙ ap (λ (x : List Deed). deedsIn (st .unit .own) (l .marks) ++ x)
         (deeds-append (st .unit .own) (unitsMarks (levels v) (busy .there) (v .units)) controls
-        ∙ (λ i. (units-deeds different b ∙ (λ k. cond (low k) newly [])) i ++ stage-no-deeds (st .unit .own) (v .controller .stage) (round v busy .controller .stage) (levels v) (eventIn (v .controller) (levels v) (busy .here) (v .lent)) (v .lent) (v .response) (round v busy .response) i)
+        ∙ (λ i. (units-deeds different b ∙ (λ k. cond (low k) newly [])) i ++ stage-no-deeds (st .unit .own) (v .controller .stage) (round v busy .controller .stage) (levels v)
+        (eventIn (v .controller) (levels v) (busy .here) (v .lent)) (v .lent) (v .response) (round v busy .response) i)
         ∙ append-nil newly)
 
     module _ (o : after .unit .own ≡ st .unit .own) (d : List ℕ) where
@@ -186,80 +187,85 @@ module _ {T : Moment} (l : Capture) {found : List ℕ} where
       (fresh-did (l .frame .command) d (step-in x st host (p .0 .1)) (deedsIn (st .unit .own) (l .marks)) high (p .0 .0) (fresh-nothing (l .frame .command) d (st .unit .own) (p .0 .0) (p .1)))) (all-zip a did)
 
   -- A round in which the command is sent.
-  module _ (i : ℕ) (sender : Sender) (timeout : ℕ) (ring : Ring) (units : List Station) (lent : List ℕ) (framed : Framed (l .frame) lent found timeout) (different : Different units) (s : Sends (nibbleIn (bytesFor (l .frame .command) (dataOf (l .frame) lent)) i) sender) (less : i < 2 * length (bytesFor (l .frame .command) (dataOf (l .frame) lent))) (a : All (λ (st : Station). Part (Promised T (st .unit .own) (l .frame .command) (dataOf (l .frame) lent)) (l .frame .command) (dataOf (l .frame) lent) i sender st × Sound st) units) (busy : Busy) where
-    abbrev c : Command
-    c = l .frame .command
+  module _
+      (i : ℕ) (sender : Sender) (timeout : ℕ) (ring : Ring) (units : List Station) (lent : List ℕ) (framed : Framed (l .frame) lent found timeout) (different : Different units)
+      (s : Sends (nibbleIn (bytesFor (l .frame .command) (dataOf (l .frame) lent)) i) sender) (less : i < 2 * length (bytesFor (l .frame .command) (dataOf (l .frame) lent)))
+      (a : All (λ (st : Station). Part (Promised T (st .unit .own) (l .frame .command) (dataOf (l .frame) lent)) (l .frame .command) (dataOf (l .frame) lent) i sender st × Sound st) units)
+      (busy : Busy)
+    where
+      abbrev c : Command
+      c = l .frame .command
 
-    abbrev d : List ℕ
-    d = dataOf (l .frame) lent
+      abbrev d : List ℕ
+      d = dataOf (l .frame) lent
 
-    abbrev v : World
-    v = world timeout (Sending (l .frame) i sender false) ring units lent found
+      abbrev v : World
+      v = world timeout (Sending (l .frame) i sender false) ring units lent found
 
-    x : InFrame T (l .frame) found v
-    x = sends i sender framed different s less a
+      x : InFrame T (l .frame) found v
+      x = sends i sender framed different s less a
 
-    abbrev seen : Lines
-    seen = levels v
+      abbrev seen : Lines
+      seen = levels v
 
-    shown : Shows sender seen
-    shown = shows sender units (nibble-below (bytesFor c d) i) s a
+      shown : Shows sender seen
+      shown = shows sender units (nibble-below (bytesFor c d) i) s a
 
-    pub sends-did : All (DidAt l d) units → All (DidAt (laterOf l v busy) d) (round v busy .units)
-    sends-did did =
-        all-becomes seen (busy .there) (λ st host b p.
-        did-now l v busy different (in-frame-low x) b (own-kept st seen host) d
-        (part-did c d (step-in x st host (p .0 .0 .1)) (deedsIn (st .unit .own) (l .marks)) (Promised T (st .unit .own) c d) (framed .sent) i sender shown (p .1) less (p .0 .0 .0) (p .0 .1)))
-        (all-zip (all-zip a did) (hsk-own (sending sender) units))
-
-    stage-now : round v busy .controller .stage ≡ cond (sentOf sender (seen .hsk)) (nextNibble (l .frame) i) (Sending (l .frame) i (sendOf sender (seen .hsk) (nibbleIn (bytesFor c d) i)) false)
-    stage-now = ap (λ (y : Controller). y .stage) (control (v .controller) seen (busy .here) lent found (in-frame-nibble x) (framed .fits) refl)
-
-    acts-are : actsIn (laterOf l v busy .marks) ≡ actsIn (l .marks) ++ cond (sentOf sender (seen .hsk)) (sent (senderNibble sender) ∷ []) []
-    acts-are = acts-now l v busy different (in-frame-low x) ∙ ap (λ (y : List Act). actsIn (l .marks) ++ y) (sent-acts (sentOf sender (seen .hsk)) (senderNibble sender))
-
-    module _ (was : actsIn (l .marks) ≡ map sent (take i (nibblesFor c d))) where
-      one-sent : sentOf sender (seen .hsk) ≡ true → actsIn (laterOf l v busy .marks) ≡ map sent (take (suc i) (nibblesFor c d))
-      one-sent e =
-          let t = twice-as-many c d in
-          acts-are ∙ ap (λ (b : Bool). actsIn (l .marks) ++ cond b (sent (senderNibble sender) ∷ []) []) e
-          ∙ one-more sent (nibblesFor c d) i (senderNibble sender) (actsIn (l .marks)) (omega arith) (sends-nibble (seen .hsk) s e) was
-
-      last-tells : sentOf sender (seen .hsk) ≡ true → suc i ≡ 2 * length (bytesFor c d) → actsIn (laterOf l v busy .marks) ≡ map sent (nibblesFor c d) → All (TellsAt (laterOf l v busy) d Ready) (round v busy .units)
-      last-tells e all whole =
+      pub sends-did : All (DidAt l d) units → All (DidAt (laterOf l v busy) d) (round v busy .units)
+      sends-did did =
           all-becomes seen (busy .there) (λ st host b p.
-          let nine = length-bytes c d in
-          tells-now l v busy different (in-frame-low x) b (own-kept st seen host) d Ready whole
-          (by st host (deedsIn (st .unit .own) (l .marks) ++ deedsBy (st .unit .phase) (stationStep st seen host .unit .phase) (insideOf st) seen)
-          (part-over (Promised T (st .unit .own) c d) c d i sender st (stationStep st seen host) seen host (step-in x st host (p .0 .1)) shown (p .1) e all (omega arith) (p .0 .0)))) (all-zip a (hsk-own (sending sender) units))
-        where
-          none-yet : (answer : List ℕ) (j : ℕ) → j ≡ 0 → HeardOf c d answer (j + 0) (map sent (nibblesFor c d))
-          none-yet answer j z = sym (ap (λ (k : ℕ). map sent (nibblesFor c d) ++ map heard (take k answer)) (zero-too j z) ∙ append-nil (map sent (nibblesFor c d)))
-            where
-              zero-too : (j : ℕ) → j ≡ 0 → j + 0 ≡ 0
-              zero-too j z = omega arith
+          did-now l v busy different (in-frame-low x) b (own-kept st seen host) d
+          (part-did c d (step-in x st host (p .0 .0 .1)) (deedsIn (st .unit .own) (l .marks)) (Promised T (st .unit .own) c d) (framed .sent) i sender shown (p .1) less (p .0 .0 .0) (p .0 .1)))
+          (all-zip (all-zip a did) (hsk-own (sending sender) units))
 
-          by : (st : Station) (host : Bool) (e : List Deed) → Turned (Promised T (st .unit .own) c d) c (stationStep st seen host) → TellsBy c d Ready (map sent (nibblesFor c d)) (st .unit .own) (stationStep st seen host .unit .phase) e
-          by st host e (speaks r z m phase q k) r′ j k′ answers = none-yet (answerFor c d (st .unit .own) (k′ .given)) j (answers-at phase answers)
-          by st host e (silent phase q k) r′ j k′ answers = absurd (not-answering (ap isResponding phase) answers)
+      stage-now : round v busy .controller .stage ≡ cond (sentOf sender (seen .hsk)) (nextNibble (l .frame) i) (Sending (l .frame) i (sendOf sender (seen .hsk) (nibbleIn (bytesFor c d) i)) false)
+      stage-now = ap (λ (y : Controller). y .stage) (control (v .controller) seen (busy .here) lent found (in-frame-nibble x) (framed .fits) refl)
 
-      acted-by : (t u : Bool) → sentOf sender (seen .hsk) ≡ t → ltb i (lastNibble (l .frame)) ≡ u → Acted (laterOf l v busy) d (round v busy .controller .stage) (round v busy .units)
-      acted-by false u e f =
-          sending-so i (sendOf sender (seen .hsk) (nibbleIn (bytesFor c d) i)) false (stage-now ∙ rw e)
-          (acts-are ∙ ap (λ (b : Bool). actsIn (l .marks) ++ cond b (sent (senderNibble sender) ∷ []) []) e ∙ append-nil (actsIn (l .marks)) ∙ was)
-      acted-by true true e f =
-          let k : suc i ≡ i + 1 = omega arith in
-          sending-so (i + 1) Next false (stage-now ∙ rw (e, f)) (one-sent e ∙ ap (λ (n : ℕ). map sent (take n (nibblesFor c d))) k)
-      acted-by true false e f =
-          let n = length-bytes c d in
-          let m : l .frame .«data_length» ≡ length d = framed .announced in
-          let all : lastNibble (l .frame) ≤ i = ltb-false i (lastNibble (l .frame)) f in
-          let last : suc i ≡ 2 * length (bytesFor c d) = omega arith in
-          let t = twice-as-many c d in
-          let whole : actsIn (laterOf l v busy .marks) ≡ map sent (nibblesFor c d) = one-sent e ∙ ap (map sent) (take-all (suc i) (nibblesFor c d) (omega arith)) in
-          listening-so Ready nothingTaken 0 (stage-now ∙ rw (e, f)) (last-tells e last whole) (λ still. whole)
+      acts-are : actsIn (laterOf l v busy .marks) ≡ actsIn (l .marks) ++ cond (sentOf sender (seen .hsk)) (sent (senderNibble sender) ∷ []) []
+      acts-are = acts-now l v busy different (in-frame-low x) ∙ ap (λ (y : List Act). actsIn (l .marks) ++ y) (sent-acts (sentOf sender (seen .hsk)) (senderNibble sender))
 
-    pub sends-acted : Acted l d (v .controller .stage) units → Acted (laterOf l v busy) d (round v busy .controller .stage) (round v busy .units)
-    sends-acted (sending-so j k w e was) =
-        acted-by (was ∙ ap (λ (n : ℕ). map sent (take n (nibblesFor c d))) (sym (ap placeIn e))) (sentOf sender (seen .hsk)) (ltb i (lastNibble (l .frame))) refl refl
-    sends-acted (listening-so ear taken quiet e tells nobody) = absurd (true≢false (ap isSending e))
+      module _ (was : actsIn (l .marks) ≡ map sent (take i (nibblesFor c d))) where
+        one-sent : sentOf sender (seen .hsk) ≡ true → actsIn (laterOf l v busy .marks) ≡ map sent (take (suc i) (nibblesFor c d))
+        one-sent e =
+            let t = twice-as-many c d in
+            acts-are ∙ ap (λ (b : Bool). actsIn (l .marks) ++ cond b (sent (senderNibble sender) ∷ []) []) e
+            ∙ one-more sent (nibblesFor c d) i (senderNibble sender) (actsIn (l .marks)) (omega arith) (sends-nibble (seen .hsk) s e) was
+
+        last-tells : sentOf sender (seen .hsk) ≡ true → suc i ≡ 2 * length (bytesFor c d) → actsIn (laterOf l v busy .marks) ≡ map sent (nibblesFor c d) → All (TellsAt (laterOf l v busy) d Ready) (round v busy .units)
+        last-tells e all whole =
+            all-becomes seen (busy .there) (λ st host b p.
+            let nine = length-bytes c d in
+            tells-now l v busy different (in-frame-low x) b (own-kept st seen host) d Ready whole
+            (by st host (deedsIn (st .unit .own) (l .marks) ++ deedsBy (st .unit .phase) (stationStep st seen host .unit .phase) (insideOf st) seen)
+            (part-over (Promised T (st .unit .own) c d) c d i sender st (stationStep st seen host) seen host (step-in x st host (p .0 .1)) shown (p .1) e all (omega arith) (p .0 .0)))) (all-zip a (hsk-own (sending sender) units))
+          where
+            none-yet : (answer : List ℕ) (j : ℕ) → j ≡ 0 → HeardOf c d answer (j + 0) (map sent (nibblesFor c d))
+            none-yet answer j z = sym (ap (λ (k : ℕ). map sent (nibblesFor c d) ++ map heard (take k answer)) (zero-too j z) ∙ append-nil (map sent (nibblesFor c d)))
+              where
+                zero-too : (j : ℕ) → j ≡ 0 → j + 0 ≡ 0
+                zero-too j z = omega arith
+
+            by : (st : Station) (host : Bool) (e : List Deed) → Turned (Promised T (st .unit .own) c d) c (stationStep st seen host) → TellsBy c d Ready (map sent (nibblesFor c d)) (st .unit .own) (stationStep st seen host .unit .phase) e
+            by st host e (speaks r z m phase q k) r′ j k′ answers = none-yet (answerFor c d (st .unit .own) (k′ .given)) j (answers-at phase answers)
+            by st host e (silent phase q k) r′ j k′ answers = absurd (not-answering (ap isResponding phase) answers)
+
+        acted-by : (t u : Bool) → sentOf sender (seen .hsk) ≡ t → ltb i (lastNibble (l .frame)) ≡ u → Acted (laterOf l v busy) d (round v busy .controller .stage) (round v busy .units)
+        acted-by false u e f =
+            sending-so i (sendOf sender (seen .hsk) (nibbleIn (bytesFor c d) i)) false (stage-now ∙ rw e)
+            (acts-are ∙ ap (λ (b : Bool). actsIn (l .marks) ++ cond b (sent (senderNibble sender) ∷ []) []) e ∙ append-nil (actsIn (l .marks)) ∙ was)
+        acted-by true true e f =
+            let k : suc i ≡ i + 1 = omega arith in
+            sending-so (i + 1) Next false (stage-now ∙ rw (e, f)) (one-sent e ∙ ap (λ (n : ℕ). map sent (take n (nibblesFor c d))) k)
+        acted-by true false e f =
+            let n = length-bytes c d in
+            let m : l .frame .«data_length» ≡ length d = framed .announced in
+            let all : lastNibble (l .frame) ≤ i = ltb-false i (lastNibble (l .frame)) f in
+            let last : suc i ≡ 2 * length (bytesFor c d) = omega arith in
+            let t = twice-as-many c d in
+            let whole : actsIn (laterOf l v busy .marks) ≡ map sent (nibblesFor c d) = one-sent e ∙ ap (map sent) (take-all (suc i) (nibblesFor c d) (omega arith)) in
+            listening-so Ready nothingTaken 0 (stage-now ∙ rw (e, f)) (last-tells e last whole) (λ still. whole)
+
+      pub sends-acted : Acted l d (v .controller .stage) units → Acted (laterOf l v busy) d (round v busy .controller .stage) (round v busy .units)
+      sends-acted (sending-so j k w e was) =
+          acted-by (was ∙ ap (λ (n : ℕ). map sent (take n (nibblesFor c d))) (sym (ap placeIn e))) (sentOf sender (seen .hsk)) (ltb i (lastNibble (l .frame))) refl refl
+      sends-acted (listening-so ear taken quiet e tells nobody) = absurd (true≢false (ap isSending e))

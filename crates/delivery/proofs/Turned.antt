@@ -55,7 +55,8 @@ joined : {T : Moment} {c : Command} {d : List ℕ} {stores : Bool} {found : List
 joined s h (somebody o) = somebody (that s o)
 joined s h (nobody-does a b) = nobody-does (also s a) (also h b)
 
-pub answering : (T : Moment) (c : Command) (d : List ℕ) (stores : Bool) (found : List ℕ) {ss : List Station} → Different ss → All (λ (st : Station). Turned (Promised T (st .unit .own) c d) c st × Sound st) ss → Answering T c d stores found ss
+pub answering : (T : Moment) (c : Command) (d : List ℕ) (stores : Bool) (found : List ℕ) {ss : List Station} → Different ss
+    → All (λ (st : Station). Turned (Promised T (st .unit .own) c d) c st × Sound st) ss → Answering T c d stores found ss
 answering T c d stores found nobody none = nobody-does none none
 answering T c d stores found (another h hs) (also {x = st} (speaks r z a phase p q, s) ts) =
     somebody (this {x = st} (talks r 0 0 Next true phase p f-next refl refl (omega arith) (λ _. (refl, refl)) (omega arith) q a, s) (others-sit T (st .unit .own) (spoken-code (st .unit .own) p z a) h ts))

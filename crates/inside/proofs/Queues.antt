@@ -311,37 +311,40 @@ request-kept s c d not-ending = record {
     ends e = absurd (true≢false (sym e ∙ not-ending))
 
 -- A kind is lawful whose checks give nothing but these, and that answers a poll as all do.
-module _ (kind : Kind) (checks : (s : Serial) (c : Command) (P : Verdict → Type 0) → Each s c P → (n : ℕ) (d : List ℕ) → P (checksOf kind s c n d)) (polls : (s : Serial) (own : ℕ) → checksOf kind s (pollOf own .command) 0 [] .reply ≡ pollBy (s .enabled) (s .requesting) .reply) where
-  verdicts : (s : Serial) (c : Command) (P : Verdict → Type 0) → Each s c P → (n : ℕ) (d : List ℕ) → P (verdictOf kind s c n d)
-  verdicts s c P each n d =
-      by-test P (eqb (c .command) 0xFE) _ _ (λ _. each .silent) (λ _.
-      by-test P (eqb (c .command) 0xFF) _ _ (λ e. each .resets e) (λ _.
-      by-test P (eqb (c .device) 0) _ _ (λ _. each .silent) (λ _. checks s c P each n d)))
+module _
+    (kind : Kind) (checks : (s : Serial) (c : Command) (P : Verdict → Type 0) → Each s c P → (n : ℕ) (d : List ℕ) → P (checksOf kind s c n d))
+    (polls : (s : Serial) (own : ℕ) → checksOf kind s (pollOf own .command) 0 [] .reply ≡ pollBy (s .enabled) (s .requesting) .reply)
+  where
+    verdicts : (s : Serial) (c : Command) (P : Verdict → Type 0) → Each s c P → (n : ℕ) (d : List ℕ) → P (verdictOf kind s c n d)
+    verdicts s c P each n d =
+        by-test P (eqb (c .command) 0xFE) _ _ (λ _. each .silent) (λ _.
+        by-test P (eqb (c .command) 0xFF) _ _ (λ e. each .resets e) (λ _.
+        by-test P (eqb (c .device) 0) _ _ (λ _. each .silent) (λ _. checks s c P each n d)))
 
-  poll-reply : (x : Inside) (own : ℕ) → (own ≡ 0 → ⊥) → replyOf kind x (pollOf own .command) 0 [] ≡ pollBy (isServed x) (hasRequest x) .reply
-  poll-reply x own nonzero = ap (λ (t : Bool). cond t (says Silent Keeps) (checksOf kind (x .state) (pollOf own .command) 0 []) .reply) (ne-eqb own 0 nonzero) ∙ polls (x .state) own
+    poll-reply : (x : Inside) (own : ℕ) → (own ≡ 0 → ⊥) → replyOf kind x (pollOf own .command) 0 [] ≡ pollBy (isServed x) (hasRequest x) .reply
+    poll-reply x own nonzero = ap (λ (t : Bool). cond t (says Silent Keeps) (checksOf kind (x .state) (pollOf own .command) 0 []) .reply) (ne-eqb own 0 nonzero) ∙ polls (x .state) own
 
-  fit-taken : (x : Inside) (c : Command) (n : ℕ) (d : List ℕ) → QueueFit x → QueueFit (taken kind x c n d)
-  fit-taken x c n d f = (f .0, served-applied (x .state) (verdictOf kind (x .state) c n d .effect) d (f .1))
+    fit-taken : (x : Inside) (c : Command) (n : ℕ) (d : List ℕ) → QueueFit x → QueueFit (taken kind x c n d)
+    fit-taken x c n d f = (f .0, served-applied (x .state) (verdictOf kind (x .state) c n d .effect) d (f .1))
 
-  good : (x : Inside) (c : Command) (n : ℕ) (d : List ℕ) → QueueFit x → Good x c (verdictOf kind (x .state) c n d)
-  good x c n d f = verdicts (x .state) c (Good x c) (good-each x c (f .0 .1)) n d
+    good : (x : Inside) (c : Command) (n : ℕ) (d : List ℕ) → QueueFit x → Good x c (verdictOf kind (x .state) c n d)
+    good x c n d f = verdicts (x .state) c (Good x c) (good-each x c (f .0 .1)) n d
 
-  pub queues-lawful : LawfulBy kind QueueLent QueueFit
-  queues-lawful = record {
-    fit-new = λ x new lent. (lent, λ e. absurd (false≢true (sym (ap (λ (s : Serial). s .requesting) new) ∙ e)));
-    fit-taken = fit-taken;
-    fit-ended = fit-ended;
-    fit-called = fit-called kind;
-    answers = λ x c n d f. good x c n d f .fits;
-    stands = λ x c n d calls f.
-        let y = taken kind x c n d in
-        all-stands kind y (replyOf kind x c n d) calls (fit-taken x c n d f) (good x c n d f .holds d (y .output)) .1 .0 ∙ good x c n d f .stands d (y .output);
-    zero-silent = zero-silent kind;
-    zero-keeps = zero-keeps kind;
-    polled = λ x own f nonzero. ap replyStatus (poll-reply x own nonzero) ∙ poll-status (isServed x && hasRequest x);
-    speaks = λ x own f nonzero. ap isSilent (poll-reply x own nonzero) ∙ poll-speaks (isServed x && hasRequest x);
-    clears-poll = λ x c n d. verdicts (x .state) c (λ (v : Verdict). clears (v .reply) ≡ true → eqb (c .command) 0x0A ≡ true) (only-a-poll (x .state) c) n d;
-    served = λ x f. f .1;
-    request-taken = λ x c n d e. verdicts (x .state) c (λ (v : Verdict). applied (x .state) (v .effect) d .requesting ≡ x .state .requesting) (request-kept (x .state) c d e) n d;
-  }
+    pub queues-lawful : LawfulBy kind QueueLent QueueFit
+    queues-lawful = record {
+      fit-new = λ x new lent. (lent, λ e. absurd (false≢true (sym (ap (λ (s : Serial). s .requesting) new) ∙ e)));
+      fit-taken = fit-taken;
+      fit-ended = fit-ended;
+      fit-called = fit-called kind;
+      answers = λ x c n d f. good x c n d f .fits;
+      stands = λ x c n d calls f.
+          let y = taken kind x c n d in
+          all-stands kind y (replyOf kind x c n d) calls (fit-taken x c n d f) (good x c n d f .holds d (y .output)) .1 .0 ∙ good x c n d f .stands d (y .output);
+      zero-silent = zero-silent kind;
+      zero-keeps = zero-keeps kind;
+      polled = λ x own f nonzero. ap replyStatus (poll-reply x own nonzero) ∙ poll-status (isServed x && hasRequest x);
+      speaks = λ x own f nonzero. ap isSilent (poll-reply x own nonzero) ∙ poll-speaks (isServed x && hasRequest x);
+      clears-poll = λ x c n d. verdicts (x .state) c (λ (v : Verdict). clears (v .reply) ≡ true → eqb (c .command) 0x0A ≡ true) (only-a-poll (x .state) c) n d;
+      served = λ x f. f .1;
+      request-taken = λ x c n d e. verdicts (x .state) c (λ (v : Verdict). applied (x .state) (v .effect) d .requesting ≡ x .state .requesting) (request-kept (x .state) c d e) n d;
+    }

@@ -140,7 +140,8 @@ after-calls v (call ∷ calls) {st} h some =
     )
 
 -- A unit that pulls BAV is seen.
-begins-now : (w v : World) (st : Station) → QuietStart w → Run w v → Has st (v .units) → levels v .bav ≡ true → isIdle (v .controller .stage) ≡ true → 0 < counted (v .controller .ring) → (busy : Busy) → begins (v .controller) (moveOf v busy) ≡ true
+begins-now : (w v : World) (st : Station) → QuietStart w → Run w v → Has st (v .units) → levels v .bav ≡ true → isIdle (v .controller .stage) ≡ true
+    → 0 < counted (v .controller .ring) → (busy : Busy) → begins (v .controller) (moveOf v busy) ≡ true
 begins-now w v st q r has low idle some busy =
     let n : levels v .nibble < 16 = on-nibble (every-run w v q r) in
     starts (v .controller) (levels v) (busy .here) (v .lent) (v .response) idle (le-ltb 15 (levels v .nibble) (omega arith)) low some .0
@@ -159,7 +160,8 @@ begin-by (suc n) w v st q r has request idle some h =
     by true low go = in-this (begins-now w v st q r has low idle some)
     by false high go = in-a-later (λ busy calls idle′. next busy calls idle′ (st .unit .asking) refl (leb (st .unit .retry) (quietAfter (st .unit))) refl)
       where
-        next : (busy : Busy) (calls : List Call) → isIdle (calledAll (round v busy) calls .controller .stage) ≡ true → (a : Bool) → st .unit .asking ≡ a → (t : Bool) → leb (st .unit .retry) (quietAfter (st .unit)) ≡ t → BeginsWithin n (calledAll (round v busy) calls)
+        next : (busy : Busy) (calls : List Call) → isIdle (calledAll (round v busy) calls .controller .stage) ≡ true → (a : Bool) → st .unit .asking ≡ a → (t : Bool)
+            → leb (st .unit .retry) (quietAfter (st .unit)) ≡ t → BeginsWithin n (calledAll (round v busy) calls)
         next busy calls idle′ true e t z = absurd (true≢false (sym (asking-low (framePulls (v .controller .stage)) has e) ∙ high))
         next busy calls idle′ false e t z = step t z
           where

@@ -78,7 +78,8 @@ further r (a-round more busy) = a-round (further r more) busy
 further r (a-call more call) = a-call (further r more) call
 
 -- Outside frames nothing inside a unit changes.
-same-by : (st : Station) (seen : Lines) (busy : Bool) {x : Phase} → seen .nibble < 16 → Sound st → st .unit .phase ≡ x → ((own : ℕ) (y : Inside) (buffer : List ℕ) → insideAfter x own y seen busy buffer ≡ y) → insideOf (stationStep st seen busy) ≡ insideOf st
+same-by : (st : Station) (seen : Lines) (busy : Bool) {x : Phase} → seen .nibble < 16 → Sound st → st .unit .phase ≡ x
+    → ((own : ℕ) (y : Inside) (buffer : List ℕ) → insideAfter x own y seen busy buffer ≡ y) → insideOf (stationStep st seen busy) ≡ insideOf st
 same-by st seen busy n s e f = by (seen .bav) refl
   where
     by : (t : Bool) → seen .bav ≡ t → insideOf (stationStep st seen busy) ≡ insideOf st
@@ -140,7 +141,8 @@ one-talks (this p a) (behind b) e = absurd (true≢false (sym e ∙ ap isRespond
 one-talks (that q o) first-one e = absurd (true≢false (sym e ∙ ap isResponding (q .0 .0)))
 one-talks (that q o) (behind b) e = one-talks o b e
 
-frame-talks : {T : Moment} {f : Frame} {found : List ℕ} {w : World} {seen : Lines} {hosts : ℕ} {st new : Station} → InFrame T f found w → Becomes seen hosts (w .units) st new → isResponding (st .unit .phase) ≡ true → Talking T (f .command) (dataOf f (w .lent)) st
+frame-talks : {T : Moment} {f : Frame} {found : List ℕ} {w : World} {seen : Lines} {hosts : ℕ} {st new : Station} → InFrame T f found w → Becomes seen hosts (w .units) st new
+    → isResponding (st .unit .phase) ≡ true → Talking T (f .command) (dataOf f (w .lent)) st
 frame-talks (begins framed d a) b e = absurd (true≢false (sym e ∙ fresh-quiet (becomes-all a b .0)))
 frame-talks (sends i sender framed d s l a) b e = absurd (true≢false (sym e ∙ part-quiet (becomes-all a b .0)))
 frame-talks (hears ear taken quiet framed d l o) b e = one-talks o b e
@@ -235,11 +237,13 @@ module _ (w x : World) (own : ℕ) (q : QuietStart w) (r : Run w x) (busy : Busy
     both-hosts = all-map (λ st p. either (λ (host : Bool). Changed (f .command) (dataOf f (x .lent)) st (stationStep st (levels x) host)) (p .0) (p .1)) (all-zip (changes (Took r) f found x i true) (changes (Took r) f found x i false))
 
     -- Unless its answer 00 has gone out in this round.
-    kept-by : ((st new : Station) → Becomes (levels x) (busy .there) (x .units) st new → (p : Reply) (j : ℕ) (sender : Sender) → st .unit .own ≡ own → st .unit .phase ≡ Responding p j sender false → new .unit .phase ≡ SittingOut false → clears p ≡ true → ⊥) → HoldsOn
+    kept-by : ((st new : Station) → Becomes (levels x) (busy .there) (x .units) st new → (p : Reply) (j : ℕ) (sender : Sender) → st .unit .own ≡ own → st .unit .phase ≡ Responding p j sender false → new .unit .phase ≡ SittingOut false → clears p ≡ true → ⊥)
+        → HoldsOn
     kept-by never =
         still (all-becomes (levels x) (busy .there) (λ st host b p e.
         let mine : st .unit .own ≡ own = sym (own-kept st (levels x) host) ∙ e in
-        request-kept own f (dataOf f (x .lent)) st (stationStep st (levels x) host) safe mine (p .0 mine) (λ reply j sender phase new polled. never st (stationStep st (levels x) host) b reply j sender mine phase new polled) (p .1 host)) (all-zip requests both-hosts))
+        request-kept own f (dataOf f (x .lent)) st (stationStep st (levels x) host) safe mine (p .0 mine)
+        (λ reply j sender phase new polled. never st (stationStep st (levels x) host) b reply j sender mine phase new polled) (p .1 host)) (all-zip requests both-hosts))
 
     shape : Shape f
     shape =
@@ -248,7 +252,8 @@ module _ (w x : World) (own : ℕ) (q : QuietStart w) (r : Run w x) (busy : Busy
         subst Shapes (frame-held i) all
 
     -- The round in which its answer 00 has gone out hands its code over.
-    answered-now : Arrived f x busy → (st new : Station) → Becomes (levels x) (busy .there) (x .units) st new → (p : Reply) (j : ℕ) (sender : Sender) → st .unit .own ≡ own → st .unit .phase ≡ Responding p j sender false → clears p ≡ true → toldIn x busy ≡ Handed own
+    answered-now : Arrived f x busy → (st new : Station) → Becomes (levels x) (busy .there) (x .units) st new → (p : Reply) (j : ℕ) (sender : Sender) → st .unit .own ≡ own
+        → st .unit .phase ≡ Responding p j sender false → clears p ≡ true → toldIn x busy ≡ Handed own
     answered-now came st new b p j sender mine phase polled = by (frame-talks i b (ap isResponding phase))
       where
         by : Talking (Took r) (f .command) (dataOf f (x .lent)) st → toldIn x busy ≡ Handed own
@@ -392,7 +397,8 @@ module _ (w v : World) (own : ℕ) (q : QuietStart w) (r : Run w v) where
     counts : counted (a-round more busy) ≡ counted more + services c (m ∷ [])
     counts = services-then more (m ∷ [])
 
-    waits-round : HasCode own (x .units) → All (Requests own) (x .units) → Found own (live (c .ring)) → Ok own false c → ahead own c + counted more ≤ k → isHanded own (toldIn x busy) ≡ false → All (Requests own) (round x busy .units) → Stand (a-round more busy)
+    waits-round : HasCode own (x .units) → All (Requests own) (x .units) → Found own (live (c .ring)) → Ok own false c → ahead own c + counted more ≤ k
+        → isHanded own (toldIn x busy) ≡ false → All (Requests own) (round x busy .units) → Stand (a-round more busy)
     waits-round has requests found ok sum quiet next = by (placed own c m found (spares own (running (c .stage)) calm))
       where
         there′ : HasCode own (round x busy .units)
@@ -409,7 +415,8 @@ module _ (w v : World) (own : ℕ) (q : QuietStart w) (r : Run w v) where
             let run : running (after c m .stage) ≡ pollOf own ∷ [] = ap (λ (y : Controller). running (y .stage)) e ∙ ap (λ (y : Entry). turnOf y ∷ []) front in
             polled-now there′ next run (asked more busy requests (λ i. absurd (false≢true (sym (idle-rests (c .stage) (isBegun (running (after c m .stage))) b) ∙ i))))
 
-    polled-round : HasCode own (x .units) → All (Requests own) (x .units) → running (c .stage) ≡ pollOf own ∷ [] → ((y : Inside) → Took (further r more) own y → hasRequest y ≡ true) → All (Requests own) (round x busy .units) → Stand (a-round more busy)
+    polled-round : HasCode own (x .units) → All (Requests own) (x .units) → running (c .stage) ≡ pollOf own ∷ []
+        → ((y : Inside) → Took (further r more) own y → hasRequest y ≡ true) → All (Requests own) (round x busy .units) → Stand (a-round more busy)
     polled-round has requests run old next = by (runs-it (pollOf own) (every-run w x q (further r more)) run)
       where
         nonzero′ : own ≡ 0 → ⊥
@@ -449,8 +456,10 @@ module _ (w v : World) (own : ℕ) (q : QuietStart w) (r : Run w v) where
         by (still next) = polled-round has requests run old next
 
   -- A call.
-  move-stand : {x u : World} (more : Run v x) (m : Move) (next : Run v u) → u .controller ≡ after (x .controller) m → u .units ≡ x .units → counted next ≡ counted more + services (x .controller) (m ∷ []) → beginsIn (x .controller) m ≡ false → eventOf (x .controller) m ≡ Nothing
-      → Harmless own (running (x .controller .stage)) → HasCode own (x .units) → All (Requests own) (x .units) → Found own (live (x .controller .ring)) → Ok own false (x .controller) → ahead own (x .controller) + counted more ≤ k → Stand next
+  move-stand : {x u : World} (more : Run v x) (m : Move) (next : Run v u) → u .controller ≡ after (x .controller) m → u .units ≡ x .units
+      → counted next ≡ counted more + services (x .controller) (m ∷ []) → beginsIn (x .controller) m ≡ false → eventOf (x .controller) m ≡ Nothing
+      → Harmless own (running (x .controller .stage)) → HasCode own (x .units) → All (Requests own) (x .units) → Found own (live (x .controller .ring))
+      → Ok own false (x .controller) → ahead own (x .controller) + counted more ≤ k → Stand next
   move-stand {x} {u} more m next same units n none-begun silent calm has requests found ok sum = by (placed own (x .controller) m found (spares own (running (x .controller .stage)) calm))
     where
       by : Placed own (x .controller) m → Stand next

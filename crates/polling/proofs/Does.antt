@@ -65,7 +65,8 @@ Unsettled c m = (own : ℕ) → isMarked own (live (c .ring)) ≡ true → settl
 
 pub data Does (c : Controller) (m : Move) : Type 0 where
   keeps : after c m .ring ≡ c .ring → begins c m ≡ false → eventOf c m ≡ Nothing → Unsettled c m → Onward (c .stage) (after c m .stage) → Does c m
-  accepts : (k : Command) (n : ℕ) → after c m .ring ≡ c .ring → begins c m ≡ false → eventOf c m ≡ Nothing → Unsettled c m → isShutOut k (c .ring) ≡ false → eqb (k .command) 0x0A ≡ false → after c m .stage ≡ Waiting (submittedFrame k n) → running (c .stage) ≡ [] → Does c m
+  accepts : (k : Command) (n : ℕ) → after c m .ring ≡ c .ring → begins c m ≡ false → eventOf c m ≡ Nothing → Unsettled c m → isShutOut k (c .ring) ≡ false
+      → eqb (k .command) 0x0A ≡ false → after c m .stage ≡ Waiting (submittedFrame k n) → running (c .stage) ≡ [] → Does c m
   serves : begins c m ≡ true → eventOf c m ≡ Nothing → Unsettled c m → 0 < counted (c .ring) → SeesLow m → after c m ≡ service c → Does c m
   frame-ends :
       (f : Frame) (status count : ℕ) → running (c .stage) ≡ f ∷ [] → held (c .stage) ≡ f ∷ [] → begins c m ≡ false → eventOf c m ≡ frameEvent f status count
@@ -124,7 +125,8 @@ waited-by : (t : Bool) (f : Frame) (ear : Listener) (response : Response) (quiet
 waited-by true f ear response quiet stage r h = now f (statusOf response) (countOf response) r h refl refl
 waited-by false f ear response quiet stage r h = not-yet refl (same-frame (sym h) (λ g x. sym r ∙ x))
 
-listens-by : (t : Bool) (f : Frame) (ear ear′ : Listener) (response response′ : Response) (timeout quiet : ℕ) (stage : Stage) → running stage ≡ f ∷ [] → held stage ≡ f ∷ [] → Moves stage (cond t (stays (Listening f ear response′ 0)) (waited f ear′ response timeout quiet))
+listens-by : (t : Bool) (f : Frame) (ear ear′ : Listener) (response response′ : Response) (timeout quiet : ℕ) (stage : Stage) → running stage ≡ f ∷ [] → held stage ≡ f ∷ []
+    → Moves stage (cond t (stays (Listening f ear response′ 0)) (waited f ear′ response timeout quiet))
 listens-by true f ear ear′ response response′ timeout quiet stage r h = not-yet refl (same-frame (sym h) (λ g x. sym r ∙ x))
 listens-by false f ear ear′ response response′ timeout quiet stage r h = waited-by (ends ear′ response timeout quiet) f ear′ response quiet stage r h
 
@@ -135,12 +137,14 @@ moves (Waiting f) timeout seen busy d = not-yet refl (same-frame refl (λ g r. a
 moves (Sending f i sender wait) timeout seen busy d =
     not-yet refl (same-frame (sends held (λ j s w. refl) (λ e t q. refl)) (λ g r. sends running (λ j s w. refl) (λ e t q. refl) ∙ r))
   where
-    sends : (frames : Stage → List Frame) → ((j : ℕ) (s : Sender) (w : Bool) → frames (Sending f j s w) ≡ f ∷ []) → ((e : Listener) (t : Response) (q : ℕ) → frames (Listening f e t q) ≡ f ∷ []) → frames (frameStep (Sending f i sender wait) timeout seen busy d .stage) ≡ f ∷ []
+    sends : (frames : Stage → List Frame) → ((j : ℕ) (s : Sender) (w : Bool) → frames (Sending f j s w) ≡ f ∷ [])
+        → ((e : Listener) (t : Response) (q : ℕ) → frames (Listening f e t q) ≡ f ∷ []) → frames (frameStep (Sending f i sender wait) timeout seen busy d .stage) ≡ f ∷ []
     sends frames s l =
         either frames wait (Sending f i sender false) _ (f ∷ []) (s i sender false)
         (either frames (sentOf sender (seen .hsk)) (nextNibble f i) _ (f ∷ []) (either frames (ltb i (lastNibble f)) _ _ (f ∷ []) (s _ _ _) (l _ _ _)) (s _ _ _))
 moves (Listening f ear response quiet) timeout seen busy d =
-    listens-by (takenOf ear (seen .hsk)) f (hearOf ear (seen .hsk) busy) (hearOf ear (seen .hsk) busy) response (takenWith response (seen .nibble) (f .command .«buffer_length»)) timeout (quietAfter quiet (seen .hsk)) (Listening f ear response quiet) refl refl
+    listens-by (takenOf ear (seen .hsk)) f (hearOf ear (seen .hsk) busy) (hearOf ear (seen .hsk) busy) response
+    (takenWith response (seen .nibble) (f .command .«buffer_length»)) timeout (quietAfter quiet (seen .hsk)) (Listening f ear response quiet) refl refl
 
 -- A step that is not refused.
 busy-begins : (stage next : Stage) → isIdle stage ≡ false → (isIdle stage && isBegun (running next)) ≡ false
@@ -193,7 +197,9 @@ module _ (c : Controller) (seen : Lines) (busy : Bool) (lent response : List ℕ
   step-does false i = framed i
 
 refused-does : (c : Controller) (seen : Lines) (busy : Bool) (lent response : List ℕ) (k : ℕ) → stepping c seen busy lent response ≡ refused k → Does c (steps seen busy lent response)
-refused-does c seen busy lent response k e = unchanged c (steps seen busy lent response) (ap (λ (a : Answer Event). kept a (controllerStep c seen busy lent) c) e) (ap told e) (λ own marked. ap (λ (x : Answer Event). isDone (told x) && anyFor own (running (c .stage))) e)
+refused-does c seen busy lent response k e =
+    unchanged c (steps seen busy lent response) (ap (λ (a : Answer Event). kept a (controllerStep c seen busy lent) c) e) (ap told e)
+    (λ own marked. ap (λ (x : Answer Event). isDone (told x) && anyFor own (running (c .stage))) e)
 
 steps-do : (c : Controller) (seen : Lines) (busy : Bool) (lent response : List ℕ) (t : Bool) (l : Lent) → ltb 15 (seen .nibble) ≡ t → lentAt (c .stage) (length lent) (length response) ≡ l → Does c (steps seen busy lent response)
 steps-do c seen busy lent response true l e g = refused-does c seen busy lent response 5 (rw e)
@@ -205,7 +211,8 @@ steps-do c seen busy lent response false Buffer e g = refused-does c seen busy l
 accepted-does : (c : Controller) (k : Command) (n room : ℕ) → submitting c k n room ≡ gives done → isShutOut k (c .ring) ≡ false → eqb (k .command) 0x0A ≡ false → running (c .stage) ≡ [] → Does c (submits k n room)
 accepted-does c k n room e out poll none =
     let a : after c (submits k n room) ≡ withCommand c k n = ap (λ (x : Answer Done). kept x (withCommand c k n) c) e in
-    accepts k n (ap (λ (x : Controller). x .ring) a) (ap (λ (x : Controller). isIdle (c .stage) && isBegun (running (x .stage))) a ∙ and-false (isIdle (c .stage))) refl (λ own marked. refl) out poll (ap (λ (x : Controller). x .stage) a) none
+    accepts k n (ap (λ (x : Controller). x .ring) a) (ap (λ (x : Controller). isIdle (c .stage) && isBegun (running (x .stage))) a ∙ and-false (isIdle (c .stage))) refl
+    (λ own marked. refl) out poll (ap (λ (x : Controller). x .stage) a) none
 
 submit-refused : (c : Controller) (k : Command) (n room j : ℕ) → submitting c k n room ≡ refused j → Does c (submits k n room)
 submit-refused c k n room j e = unchanged c (submits k n room) (ap (λ (x : Answer Done). kept x (withCommand c k n) c) e) refl (λ own marked. refl)

@@ -92,7 +92,8 @@ module _ (own : ℕ) where
   marks-set m [] = refl
   marks-set m (e ∷ es) = by (eqb (e .code) own) refl (marks-set m es)
     where
-      by : (t : Bool) → eqb (e .code) own ≡ t → marksOf own (withMark m own es) ≡ withHead m (marksOf own es) → marksOf own (markAt m (cond t 0 (suc (placeOf own es))) (e ∷ es)) ≡ withHead m (cond t (e .marked ∷ marksOf own es) (marksOf own es))
+      by : (t : Bool) → eqb (e .code) own ≡ t → marksOf own (withMark m own es) ≡ withHead m (marksOf own es)
+          → marksOf own (markAt m (cond t 0 (suc (placeOf own es))) (e ∷ es)) ≡ withHead m (cond t (e .marked ∷ marksOf own es) (marksOf own es))
       by true x g = ap (λ (t : Bool). cond t (m ∷ marksOf own es) (marksOf own es)) x
       by false x g = ap (λ (t : Bool). cond t (e .marked ∷ marksOf own (withMark m own es)) (marksOf own (withMark m own es))) x ∙ g
 
@@ -329,7 +330,9 @@ module _ (own : ℕ) where
       }
       by (accepts k n ring b v u out poll st resting) = record {
         agrees = as-was (same-history p c m v u (ok .agrees)) (entries ring) (ok .agrees);
-        aboard = subst (λ (s : Stage). Aboards (live (after c m .ring)) (held s)) (sym st) (subst (λ (l : List Entry). Aboard l (submittedFrame k n)) (sym (entries ring)) (record { polls = λ x y. absurd (false≢true x); enables = λ x y z w. room k y z w out }));
+        aboard =
+            subst (λ (s : Stage). Aboards (live (after c m .ring)) (held s)) (sym st)
+            (subst (λ (l : List Entry). Aboard l (submittedFrame k n)) (sym (entries ring)) (record { polls = λ x y. absurd (false≢true x); enables = λ x y z w. room k y z w out }));
         full = subst Full (sym ring) (ok .full);
       }
         where
@@ -353,11 +356,14 @@ module _ (own : ℕ) where
               record {
                 agrees = subst (λ (y : Ring). Agrees (pending own p c m) (live y)) (sym ring) (as-was (same-history p c m v u (ok .agrees)) refl (turn-agrees p (c .ring) (ok .agrees)));
                 aboard = subst (λ (s : Stage). Aboards (live (after c m .ring)) (held s)) (sym f)
-                    (subst (λ (y : Ring). Aboard (live y) (turnOf x)) (sym ring) (subst (λ (l : List Entry). Aboard l (turnOf x)) (sym (live-ring (turned (live (c .ring))) (short-turned (c .ring)))) (turn-aboard (live (c .ring)) x xs q (agrees-once (ok .agrees)))));
+                    (subst (λ (y : Ring). Aboard (live y) (turnOf x)) (sym ring)
+                    (subst (λ (l : List Entry). Aboard l (turnOf x)) (sym (live-ring (turned (live (c .ring))) (short-turned (c .ring)))) (turn-aboard (live (c .ring)) x xs q (agrees-once (ok .agrees)))));
                 full = subst Full (sym ring) (full-made (turned (live (c .ring))) (short-turned (c .ring)));
               }
       by (frame-ends f status count r g b v u ring z) = record {
-        agrees = subst (λ (x : Ring). Agrees (pending own p c m) (live x)) (sym ring) (subst (λ (q : Bool). Agrees q (live (ringEnded (c .ring) f status))) (sym history) (ended-by p (c .ring) (f .command) status count (ok .agrees) (f .kind) (eqb status 0x00) refl (under .polls)));
+        agrees =
+            subst (λ (x : Ring). Agrees (pending own p c m) (live x)) (sym ring)
+            (subst (λ (q : Bool). Agrees q (live (ringEnded (c .ring) f status))) (sym history) (ended-by p (c .ring) (f .command) status count (ok .agrees) (f .kind) (eqb status 0x00) refl (under .polls)));
         aboard = subst (Aboards (live (after c m .ring))) (sym z) tt;
         full = subst Full (sym ring) (full-ended (eqb status 0x00) (f .kind));
       }
@@ -379,9 +385,14 @@ module _ (own : ℕ) where
           full-ended true Poll = full-made (withMark true (f .command .device) (live (c .ring))) (short-marked true (f .command .device) (c .ring))
           full-ended true Null = ok .full
       by (clears code x marked b v u ring st) = record {
-        agrees = subst (λ (y : Ring). Agrees (pending own p c m) (live y)) (sym ring) (subst (λ (q : Bool). Agrees q (live (ringOf (withMark false code (live (c .ring)))))) (sym history) (set-by p (c .ring) (ok .agrees) false code (eqb code own) refl there));
-        aboard = subst (λ (y : Ring). Aboards (live y) (held (after c m .stage))) (sym ring) (subst (λ (l : List Entry). Aboards l (held (after c m .stage))) (sym (live-ring (withMark false code (live (c .ring))) (short-marked false code (c .ring))))
-            (subst (λ (s : Stage). Aboards (withMark false code (live (c .ring))) (held s)) (sym st) (aboards-as (live (c .ring)) (withMark false code (live (c .ring))) (held (c .stage)) (some-set false code (live (c .ring)) (eqb code own) refl) (marked-length false code (live (c .ring))) (ok .aboard))));
+        agrees =
+            subst (λ (y : Ring). Agrees (pending own p c m) (live y)) (sym ring)
+            (subst (λ (q : Bool). Agrees q (live (ringOf (withMark false code (live (c .ring)))))) (sym history) (set-by p (c .ring) (ok .agrees) false code (eqb code own) refl there));
+        aboard =
+            subst (λ (y : Ring). Aboards (live y) (held (after c m .stage))) (sym ring)
+            (subst (λ (l : List Entry). Aboards l (held (after c m .stage))) (sym (live-ring (withMark false code (live (c .ring))) (short-marked false code (c .ring))))
+            (subst (λ (s : Stage). Aboards (withMark false code (live (c .ring))) (held s)) (sym st)
+            (aboards-as (live (c .ring)) (withMark false code (live (c .ring))) (held (c .stage)) (some-set false code (live (c .ring)) (eqb code own) refl) (marked-length false code (live (c .ring))) (ok .aboard))));
         full = subst Full (sym ring) (full-made (withMark false code (live (c .ring))) (short-marked false code (c .ring)));
       }
         where
@@ -483,7 +494,9 @@ joins-ring own timeout ms m f count nonzero run (kind, (command, device)) told =
         let new : after (since timeout ms) m .ring ≡ ringOf (joined own l) =
         ring ∙ ap (λ (t : Bool). cond t (ringBy (g .kind) (since timeout ms .ring) (g .command)) (since timeout ms .ring)) (eq-eqb status 0x00 zero-status)
         ∙ ap (λ (k : Kind). ringBy k (since timeout ms .ring) (g .command)) kind-g
-        ∙ ap (λ (t : Bool). cond t (ringOf (joined (g .command .device) l)) (cond (eqb (g .command .command) 0x09 || eqb (g .command .command) 0x01) (ringOf (removed (g .command .device) l)) (since timeout ms .ring))) (eq-eqb (g .command .command) 0x08 command-g)
+        ∙ ap
+        (λ (t : Bool). cond t (ringOf (joined (g .command .device) l)) (cond (eqb (g .command .command) 0x09 || eqb (g .command .command) 0x01) (ringOf (removed (g .command .device) l)) (since timeout ms .ring)))
+        (eq-eqb (g .command .command) 0x08 command-g)
         ∙ ap (λ (k : ℕ). ringOf (joined k l)) device-g in
         ap (λ (x : Ring). isIn own (live x)) new ∙ ap (isIn own) (live-ring (joined own l) (short-joined own (since timeout ms .ring)))
         ∙ joined-in own l nonzero (λ w. under .enables (ap isPoll kind-g) command-g device-g w)

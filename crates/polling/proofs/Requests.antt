@@ -169,7 +169,8 @@ row-test : {own retry row : ℕ} {u : Unit} → Rowed own retry row u → leb (u
 row-test {own} {retry} {row} r = (λ i. leb (r .setting i) (min (r .quiet i + 1) (r .setting i))) ∙ same-test retry row
 
 -- A step that is not refused.
-seen-step : (u : Unit) (seen : Lines) (busy : Bool) (buffer input : List ℕ) → isSeen (u .own) seen buffer ≡ true → moved u (steps seen busy buffer input) ≡ cond (seen .bav) (lowStep u (seen .hsk) (next u seen busy buffer input)) (highStep u (seen .hsk))
+seen-step : (u : Unit) (seen : Lines) (busy : Bool) (buffer input : List ℕ) → isSeen (u .own) seen buffer ≡ true
+    → moved u (steps seen busy buffer input) ≡ cond (seen .bav) (lowStep u (seen .hsk) (next u seen busy buffer input)) (highStep u (seen .hsk))
 seen-step u seen busy buffer input e = by (ltb 15 (seen .nibble)) (isShort (kindOf (u .own)) (length buffer)) e
   where
     stepped : Unit

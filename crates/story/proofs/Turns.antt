@@ -144,7 +144,9 @@ reaches w n status e = record {
   seen = ap (λ (x : Shown). x .seen) e;
   counted = two-on-the-way w n status e;
   spared = are-spared 22 (since 8 before) (front w n ++ rest w n) (ap (λ (x : Shown). x .is-spared) e);
-  enough = enough (since 8 before) (front w n) (rest w n) (ap (λ (x : Shown). x .seen .units-ahead) e) (two-on-the-way w n status e) (ap (λ (c : Controller). services c (rest w n)) (sym (after-append (since 8 []) before (front w n))) ∙ one-then w n status e);
+  enough =
+      enough (since 8 before) (front w n) (rest w n) (ap (λ (x : Shown). x .seen .units-ahead) e) (two-on-the-way w n status e)
+      (ap (λ (c : Controller). services c (rest w n)) (sym (after-append (since 8 []) before (front w n))) ∙ one-then w n status e);
 }
   where
     enough : (c : Controller) (a b : List Move) → ahead 22 c ≡ 2 → services c a ≡ 2 → services (afterAll c a) b ≡ 1 → suc (ahead 22 c) ≤ services c (a ++ b)
@@ -168,7 +170,9 @@ services-on past way turn v k l same x y =
     let parts = services-then on (movesIn turn (after way v)) in
     let one : services (v .controller) (movesOf on []) ≡ k = ap (λ (d : Controller). services d (movesOf on [])) same ∙ x in
     let there : after way v .controller ≡ since 8 (past ++ movesOf on []) = run-moves on [] ∙ ap (λ (d : Controller). afterAll d (movesOf on [])) same ∙ sym (after-append (since 8 []) past (movesOf on [])) in
-    let other : services (after way v .controller) (movesIn turn (after way v)) ≡ l = ap (services (after way v .controller)) (sym (moves-on turn {w = after way v} start)) ∙ ap (λ (d : Controller). services d (movesOf (runOn turn {w = after way v} start) [])) there ∙ y in
+    let other : services (after way v .controller) (movesIn turn (after way v)) ≡ l =
+    ap (services (after way v .controller)) (sym (moves-on turn {w = after way v} start)) ∙ ap
+    (λ (d : Controller). services d (movesOf (runOn turn {w = after way v} start) [])) there ∙ y in
     omega arith
 
 -- With two ahead and three begun there are enough.
