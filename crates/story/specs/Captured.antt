@@ -137,8 +137,8 @@ abbrev pub seen : ℕ → ℕ → List ℕ → List ℕ → List ℕ → Act →
 seen device command taken given asked end = record { device = device; command = command; taken = taken; given = given; asked = asked; ends = end ∷ [] }
 
 -- What the papers say of the eleven frames. A command has 9 bytes and its data, a response 3 and its data, and a byte is two nibbles. A unit
--- that is not addressed takes two, the device code. The read gives the one byte that was queued at its last nibble: the other is fed when 3
--- nibbles of the answer are sent.
+-- that is not addressed takes two, the device code. The read gives the one byte that was queued at its last nibble. How far an answer has
+-- come at a host's call is read off the run: the other byte is fed when 3 nibbles of the answer are sent.
 abbrev pub papers : List Seen
 papers =
     seen 20 0x00 (24 ∷ 2 ∷ 2 ∷ []) (14 ∷ 0 ∷ 0 ∷ []) (14 ∷ []) (told (Ended 0x00 4) (80 ∷ 0 ∷ 0 ∷ 0 ∷ []))
