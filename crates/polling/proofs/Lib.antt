@@ -11,3 +11,4 @@ pub mod HandedOver
 pub mod Demand3
 pub mod Chain
 pub mod Beginning
+pub mod Joined

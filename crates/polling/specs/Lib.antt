@@ -6,3 +6,4 @@ pub mod Demand3
 pub mod Beyond
 pub mod Chain
 pub mod Beginning
+pub mod Joined
