@@ -50,12 +50,14 @@ in-has : (own : ℕ) (l : List Entry) → isIn own l ≡ true → Has own (codes
 in-has own [] i = absurd (false≢true i)
 in-has own (e ∷ es) i = by (eqb (e .code) own) refl i (λ k. in-has own es k)
   where
-    by : (t : Bool) → eqb (e .code) own ≡ t → ltb (cond t 0 (suc (placeOf own es))) (suc (length es)) ≡ true → (isIn own es ≡ true → Has own (codesIn es)) → Has own (e .code ∷ codesIn es)
+    by : (t : Bool) → eqb (e .code) own ≡ t → ltb (cond t 0 (suc (placeOf own es))) (suc (length es)) ≡ true → (isIn own es ≡ true → Has own (codesIn es))
+        → Has own (e .code ∷ codesIn es)
     by true g h next = subst (λ (n : ℕ). Has n (e .code ∷ codesIn es)) (eqb-true (e .code) own g) here
     by false g h next = there (next (sym (leb·suc-suc (suc (placeOf own es)) (length es)) ∙ h))
 
 has-in : (own : ℕ) (l : List Entry) → Has own (codesIn l) → isIn own l ≡ true
-has-in own (e ∷ es) here = ap (λ (t : Bool). ltb (cond t 0 (suc (placeOf own es))) (suc (length es))) (eq-eqb own own refl) ∙ lt-ltb 0 (suc (length es)) (omega arith)
+has-in own (e ∷ es) here =
+    ap (λ (t : Bool). ltb (cond t 0 (suc (placeOf own es))) (suc (length es))) (eq-eqb own own refl) ∙ lt-ltb 0 (suc (length es)) (omega arith)
 has-in own (e ∷ es) (there h) = by (eqb (e .code) own) (has-in own es h)
   where
     by : (t : Bool) → isIn own es ≡ true → ltb (cond t 0 (suc (placeOf own es))) (suc (length es)) ≡ true
@@ -116,7 +118,8 @@ made-back {own} l short h = subst (λ (es : List Entry). Has own (codesIn es)) (
 
 mark-back : {own : ℕ} (marked : Bool) (code : ℕ) (ring : Ring) → InRing own (ringOf (withMark marked code (live ring))) → InRing own ring
 mark-back {own} marked code ring h =
-    subst (Has own) (codes-marked marked (placeOf code (live ring)) (live ring)) (made-back (withMark marked code (live ring)) (short-marked marked code ring) h)
+    subst (Has own) (codes-marked marked (placeOf code (live ring)) (live ring))
+    (made-back (withMark marked code (live ring)) (short-marked marked code ring) h)
 
 end-back : (own : ℕ) (ring : Ring) (f : Frame) (status : ℕ) → InRing own (ringEnded ring f status) → EndCame own ring f status
 end-back own ring f status h = by (eqb status 0x00) (f .kind) refl refl h
@@ -131,7 +134,8 @@ end-back own ring f status h = by (eqb status 0x00) (f .kind) refl refl h
     with-command : (t u : Bool) → eqb (f .command .command) 0x08 ≡ t → f .kind ≡ Submitted → status ≡ 0x00
         → InRing own (cond t (ringOf (joined device (live ring))) (cond u (ringOf (removed device (live ring))) ring)) → EndCame own ring f status
     with-command true u e kind zero-status k =
-        joining kind (eqb-true (f .command .command) 0x08 e) zero-status (join-back device (live ring) (made-back (joined device (live ring)) (short-joined device ring) k))
+        joining kind (eqb-true (f .command .command) 0x08 e) zero-status
+        (join-back device (live ring) (made-back (joined device (live ring)) (short-joined device ring) k))
     with-command false true e kind zero-status k =
         was-before (cut-back (placeOf device (live ring)) (live ring) (made-back (removed device (live ring)) (short-removed device ring) k))
     with-command false false e kind zero-status k = was-before k
@@ -139,7 +143,8 @@ end-back own ring f status h = by (eqb status 0x00) (f .kind) refl refl h
     by : (s : Bool) (k : Kind) → eqb status 0x00 ≡ s → f .kind ≡ k → InRing own (cond s (ringBy k ring (f .command)) ring) → EndCame own ring f status
     by false k e kind i = was-before i
     by true Submitted e kind i =
-        with-command (eqb (f .command .command) 0x08) (eqb (f .command .command) 0x09 || eqb (f .command .command) 0x01) refl kind (eqb-true status 0x00 e) i
+        with-command (eqb (f .command .command) 0x08) (eqb (f .command .command) 0x09 || eqb (f .command .command) 0x01) refl kind
+        (eqb-true status 0x00 e) i
     by true Poll e kind i = was-before (mark-back true device ring i)
     by true Null e kind i = was-before i
 
@@ -171,8 +176,10 @@ joins-only own c m out joined-now = by (does c m)
     by : Does c m → JoinsNow own c m
     by (keeps ring b v u o) = was (behind ring)
     by (accepts k n ring b v u shut poll st resting) = was (behind ring)
-    by (serves b v u some low e) = was (turn-back (live (c .ring)) (made-back (turned (live (c .ring))) (short-turned (c .ring)) (behind (ap (λ (x : Controller). x .ring) e))))
-    by (frame-ends f status count r g b v u ring z) = ends f status count r v (none-runs (after c m .stage) z) (end-back own (c .ring) f status (behind ring))
+    by (serves b v u some low e) =
+        was (turn-back (live (c .ring)) (made-back (turned (live (c .ring))) (short-turned (c .ring)) (behind (ap (λ (x : Controller). x .ring) e))))
+    by (frame-ends f status count r g b v u ring z) =
+        ends f status count r v (none-runs (after c m .stage) z) (end-back own (c .ring) f status (behind ring))
     by (clears code x marked b v u ring st) = was (mark-back false code (c .ring) (behind ring))
 
 -- The log keeps the answer.
@@ -217,7 +224,10 @@ all-mapped : {P : Act → Type 0} (f : ℕ → Act) → ((n : ℕ) → P (f n)) 
 all-mapped f p [] = none
 all-mapped f p (n ∷ ns) = also (p n) (all-mapped f p ns)
 
-told-once : (l : Capture) (a : Answerer) → All (Told (eventTold (l .frame .kind) (l .frame .command .device) (statusBy l a) (length (dataBy l a)))) (actsOf l a)
+abbrev endOf : Capture → Answerer → Event
+endOf l a = eventTold (l .frame .kind) (l .frame .command .device) (statusBy l a) (length (dataBy l a))
+
+told-once : (l : Capture) (a : Answerer) → All (Told (endOf l a)) (actsOf l a)
 told-once l a = all-append (all-mapped sent (λ n. tt) (message l)) (all-append (all-mapped heard (λ n. tt) (heardBy l a)) (also refl none))
 
 acts-has : {a : Act} {ms : List Mark} → Has (acts a) ms → Has a (actsIn ms)
@@ -231,7 +241,8 @@ spoken-by (that q o) = spoken-by o
 -- An enabling that has ended, and was told with 00: its unit has answered so.
 ended-accepted : (own count : ℕ) (buffer codes : List ℕ) (l : Capture) → isEnabling own (l .frame) → (own ≡ 0 → ⊥) → Complete codes l
     → Has (told (Ended 0x00 count) buffer) (actsIn (l .marks)) → Accepted own l
-ended-accepted own count buffer codes l enabling coded k t = by (k .answerer) (k .answers) (eqb-true (statusBy l (k .answerer)) 0x00 (sym (ap isDone ends)))
+ended-accepted own count buffer codes l enabling coded k t =
+    by (k .answerer) (k .answers) (eqb-true (statusBy l (k .answerer)) 0x00 (sym (ap isDone ends)))
   where
     ends : Ended 0x00 count ≡ Ended (statusBy l (k .answerer)) (length (dataBy l (k .answerer)))
     ends =
@@ -264,8 +275,14 @@ runs-frame (Listening f ear taken quiet) = refl
 
 -- A round in which a code joins.
 module _ {w v : World} (q : QuietStart w) (r : Run w v) (busy : Busy) (own : ℕ) (j : JoinsNow own (v .controller) (moveOf v busy)) where
+  abbrev next : World
+  next = round v busy
+
   abbrev marks : List Mark
   marks = roundMarks v busy
+
+  abbrev Delivers : List Capture → Type 0
+  Delivers ls = Delivered (codesOf (next .units)) (inFrame (next .controller .stage)) ls
 
   in-frame : inFrame (v .controller .stage) ≡ true
   in-frame = runs-frame (v .controller .stage) ∙ ap isFrame (j .runs)
@@ -273,30 +290,31 @@ module _ {w v : World} (q : QuietStart w) (r : Run w v) (busy : Busy) (own : ℕ
   same : All Same marks
   same =
       all-map plain-same (all-append (units-plain (levels v) (busy .there) (v .units))
-      (frame-plain (v .controller .stage) (round v busy .controller .stage) (levels v) (toldIn v busy) (v .lent) (v .response) (round v busy .response) in-frame))
+      (frame-plain (v .controller .stage) (next .controller .stage) (levels v) (toldIn v busy) (v .lent) (v .response) (next .response) in-frame))
 
   tells : TellsEnds (outcome v busy) marks → (buffer : List ℕ) × Has (acts (told (Ended 0x00 (j .count)) buffer)) marks
   tells (nothing given) = absurd (false≢true (ap isDone (sym (ap toldBy given) ∙ j .told)))
   tells (of-a-frame e buffer given h) = (buffer, subst (λ (x : Event). Has (acts (told x buffer)) marks) (sym (ap toldBy given) ∙ j .told) h)
 
-  by-frames : {T : Moment} {ls : List Capture} → Frames T v ls → Delivered (codesOf (round v busy .units)) (inFrame (round v busy .controller .stage)) (cutAll ls marks) → Answered own (cutAll ls marks)
+  by-frames : {T : Moment} {ls : List Capture} → Frames T v ls → Delivers (cutAll ls marks) → Answered own (cutAll ls marks)
   by-frames (at-rest e a) k = absurd (true≢false (sym in-frame ∙ e))
   by-frames (in-one {l = l} {ls = ls} s a) k =
       let now : cutAll (l ∷ ls) marks ≡ grown l marks ∷ ls = cut-same l ls same in
-      let over : inFrame (round v busy .controller .stage) ≡ false = runs-frame (round v busy .controller .stage) ∙ ap isFrame (j .over) in
-      let complete : Complete (codesOf (round v busy .units)) (grown l marks) = first-ended over (subst (Delivered (codesOf (round v busy .units)) (inFrame (round v busy .controller .stage))) now k) in
+      let over : inFrame (next .controller .stage) ≡ false = runs-frame (next .controller .stage) ∙ ap isFrame (j .over) in
+      let complete : Complete (codesOf (next .units)) (grown l marks) = first-ended over (subst Delivers now k) in
       let frame : j .frame ≡ l .frame = ap (firstOf (l .frame)) (sym (j .runs) ∙ frame-running (s .frame)) in
       let t = tells (demand-2 w v q r .tells busy) in
       let said : Has (told (Ended 0x00 (j .count)) (t .0)) (actsIn (l .marks ++ marks)) =
       subst (Has (told (Ended 0x00 (j .count)) (t .0))) (sym (acts-append (l .marks) marks)) (has-right (actsIn (l .marks)) (acts-has (t .1))) in
-      subst (Answered own) (sym now)
-      (grown l marks, (here, ended-accepted own (j .count) (t .0) (codesOf (round v busy .units)) (grown l marks) (subst (isEnabling own) frame (j .enabling)) (j .coded) complete said))
+      let enabling : isEnabling own (l .frame) = subst (isEnabling own) frame (j .enabling) in
+      let answer = ended-accepted own (j .count) (t .0) (codesOf (next .units)) (grown l marks) enabling (j .coded) complete said in
+      subst (Answered own) (sym now) (grown l marks, (here, answer))
 
   joins-answered : Answered own (framesOf (log (a-round r busy)))
   joins-answered =
       let cuts = cut-append [] (log r) marks in
       subst (Answered own) (sym cuts)
-      (by-frames (frames-run w v q r) (subst (Delivered (codesOf (round v busy .units)) (inFrame (round v busy .controller .stage))) cuts (demand-2 w (round v busy) q (a-round r busy) .frames)))
+      (by-frames (frames-run w v q r) (subst Delivers cuts (demand-2 w next q (a-round r busy) .frames)))
 
 -- Every run.
 move-keeps : (own : ℕ) (c : Controller) (m : Move) → eventOf c m ≡ Nothing → inRing own (after c m) ≡ true → inRing own c ≡ true
@@ -317,7 +335,8 @@ pub joined-by-answer : JoinedByAnswer
 joined-by-answer w v q start own i = absurd (false≢true (sym (ap (inRing own) (q .is-new)) ∙ i))
 joined-by-answer w _ q (a-round {v = v} r busy) own i = by (inRing own (v .controller)) refl (λ g. joined-by-answer w v q r own g)
   where
-    by : (t : Bool) → inRing own (v .controller) ≡ t → (inRing own (v .controller) ≡ true → Answered own (framesOf (log r))) → Answered own (framesOf (log (a-round r busy)))
+    by : (t : Bool) → inRing own (v .controller) ≡ t → (inRing own (v .controller) ≡ true → Answered own (framesOf (log r)))
+        → Answered own (framesOf (log (a-round r busy)))
     by true g before = log-on (log r) (roundMarks v busy) (before g)
     by false g before = joins-answered q r busy own (joins-only own (v .controller) (moveOf v busy) g i)
 joined-by-answer w _ q (a-call {v = v} r call) own i = log-on (log r) (callMarks v call) (joined-by-answer w v q r own (call-keeps own v call i))
@@ -326,5 +345,7 @@ pub refusers : Refusers
 refusers w v q r own refuses = by (inRing own (v .controller)) refl
   where
     by : (t : Bool) → inRing own (v .controller) ≡ t → t ≡ false
-    by true i = let a = joined-by-answer w v q r own i in absurd (refuses (a .1 .1 .inside) (a .0 .frame .command) (a .0 .lent) (a .1 .1 .enabling .1 .0) (a .1 .1 .accepts))
+    by true i =
+        let a = joined-by-answer w v q r own i in
+        absurd (refuses (a .1 .1 .inside) (a .0 .frame .command) (a .0 .lent) (a .1 .1 .enabling .1 .0) (a .1 .1 .accepts))
     by false i = refl

@@ -1,4 +1,4 @@
--- The ring holds only units that have answered an enabling (08) with 00. So a unit that refuses every enabling is never polled.
+-- The ring holds only units that have answered an enabling (08) with 00. So a unit that refuses every enabling is never in it.
 use Prim.Native.Nat.{ℕ}
 use mathlib.Core.Path.{_≡_}
 use mathlib.Core.Bool.{true, false}
@@ -41,7 +41,8 @@ pub record Accepted (own : ℕ) (l : Capture) : Type 0 where
 
 -- On demand 2's bus a code is in the ring only if the log has such a frame.
 abbrev pub JoinedByAnswer : Type 0
-JoinedByAnswer = (w v : World) → QuietStart w → (r : Run w v) (own : ℕ) → inRing own (v .controller) ≡ true → (l : Capture) × (Has l (framesOf (log r)) × Accepted own l)
+JoinedByAnswer =
+    (w v : World) → QuietStart w → (r : Run w v) (own : ℕ) → inRing own (v .controller) ≡ true → (l : Capture) × (Has l (framesOf (log r)) × Accepted own l)
 
 -- A unit with this code, whatever is inside it, answers no enabling with 00: then its code is never in the ring.
 abbrev pub Refuses : ℕ → Type 0
