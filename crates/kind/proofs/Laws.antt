@@ -1,16 +1,24 @@
 -- The kinds of unit: what follows from the definitions that differ between them.
 use Prim.Native.Nat.{ℕ, _≤_}
 use mathlib.Core.Path.{_≡_, refl}
-use mathlib.Core.Bool.{false}
+use mathlib.Core.Bool.{Bool, true, false, _||_}
 use borrow.Author.Tests.{ltb-false}
-use Rattle.kind.specs.Kinds.{isShort}
+use lib.Dec.{ltb}
+use Rattle.kind.specs.Kinds.{lentTo, isShort}
 use Rattle.kind.specs.declared.Kind.{Kind}
 use Rattle.kind.specs.declared.Kind.the-variants.{Serial}
+
+neither : (a b : Bool) → (a || b) ≡ false → (a ≡ false) × (b ≡ false)
+neither false b e = (refl, e)
+neither true b e = (e, cc)
 
 -- There is one kind, so that a match on it tests nothing.
 pub one-kind : (kind : Kind) → Serial ≡ kind
 one-kind Serial = refl
 
--- Memory that is long enough has room for a command.
-pub roomy : (kind : Kind) (room : ℕ) → isShort kind room ≡ false → 256 ≤ room
-roomy kind room e = ltb-false room 256 e
+-- Memory that is long enough has room for a command, and for what is written to the unit.
+pub roomy : (kind : Kind) (room lent : ℕ) → isShort kind room lent ≡ false → 256 ≤ room
+roomy kind room lent e = ltb-false room 256 (neither (ltb room 256) _ e .0)
+
+pub lent-enough : (kind : Kind) (room lent : ℕ) → isShort kind room lent ≡ false → lentTo kind ≤ lent
+lent-enough kind room lent e = ltb-false lent (lentTo kind) (neither (ltb room 256) _ e .1)

@@ -1,7 +1,7 @@
 -- The kinds of unit: all that differs between them stands here, one line to a kind. A unit's kind follows from its own code, and nothing
 -- else tells units apart.
 use Prim.Native.Nat.{ℕ}
-use mathlib.Core.Bool.{Bool, cond}
+use mathlib.Core.Bool.{Bool, cond, _||_}
 use mathlib.Core.List.{List}
 use lib.Dec.{ltb, eqb}
 use Rattle.device.specs.Classes.{classOf}
@@ -40,6 +40,11 @@ verdictOf kind s c n d =
 abbrev pub isFed : Kind → Opening → Bool
 isFed SerialUnit opening = takesBytes opening
 
--- Whether the memory that a step of such a unit is lent is too short: a command buffer of `room` bytes under 256.
-abbrev pub isShort : Kind → ℕ → Bool
-isShort kind room = ltb room 256
+-- How many bytes a unit is lent for what is written to it: those of a serial unit's output queue.
+abbrev pub lentTo : Kind → ℕ
+lentTo SerialUnit = 256
+
+-- Whether the memory that a step of such a unit is lent is too short: a command buffer of `room` bytes under 256, or `lent` bytes for what
+-- is written to it under what its kind needs.
+abbrev pub isShort : Kind → ℕ → ℕ → Bool
+isShort kind room lent = ltb room 256 || ltb lent (lentTo kind)

@@ -1,6 +1,6 @@
 // The kinds of unit: all that differs between them stands here. A unit's kind follows from its own code.
 ghost use mathlib.Core.Path.{_≡_};
-ghost use Rattle.kind.specs.Kinds.{kindIn, kindOf, checksOf, verdictOf, isFed, isShort};
+ghost use Rattle.kind.specs.Kinds.{kindIn, kindOf, checksOf, verdictOf, isFed, lentTo, isShort};
 use header::Command;
 use serial::Effect;
 use serial::Opening;
@@ -48,11 +48,24 @@ pub fn is_fed(kind: Kind, opening: Opening) -> bool
     }
 }
 
-// Whether the memory that a step of such a unit is lent is too short: a command buffer of `room` bytes.
-pub fn is_short(kind: Kind, room: usize) -> bool
-    ensures { λ r. ⌜ r ≡ isShort kind room ⌝ }
+// How many bytes a unit of a kind is lent for what is written to it.
+pub fn lent_to(kind: Kind) -> usize
+    ensures { λ r. ⌜ r ≡ lentTo kind ⌝ }
 {
-    room < 256
+    match kind {
+        // Its output queue.
+        Kind::Serial => 256,
+    }
+}
+
+// Whether the memory that a step of such a unit is lent is too short: a command buffer of `room` bytes, or `lent` bytes for what is written to it.
+pub fn is_short(kind: Kind, room: usize, lent: usize) -> bool
+    ensures { λ r. ⌜ r ≡ isShort kind room lent ⌝ }
+{
+    if room < 256 {
+        return true;
+    }
+    lent < lent_to(kind)
 }
 
 fn kind_in(class: u8) -> Kind

@@ -89,7 +89,7 @@ pub contents-refused : (bytes : List ℕ) (q : Queue) (bs : List ℕ) → room q
 contents-refused bytes q bs h = simp (tests, h)
 
 -- The ring keeps its length.
-length-stored : (bytes : List ℕ) (at : ℕ) (bs : List ℕ) → length (stored bytes at bs) ≡ length bytes
+pub length-stored : (bytes : List ℕ) (at : ℕ) (bs : List ℕ) → length (stored bytes at bs) ≡ length bytes
 length-stored bytes at [] = refl
 length-stored bytes at (b ∷ bs) = length-stored (set bytes (at % 256) b) (suc at) bs ∙ length-set bytes (at % 256) b
 

@@ -63,8 +63,9 @@ impl Queue {
         self
     }
 
-    // With all of data at the back. Where there is not room for all of it, the queue and its bytes stay as they are.
-    pub fn push_all(self, bytes: &mut [u8; 256], data: &[u8]) -> Queue
+    // With all of data at the back. Where there is not room for all of it, the queue and its bytes stay as they are; where the lent memory is
+    // under 256 bytes, places past its end take nothing.
+    pub fn push_all(self, bytes: &mut [u8], data: &[u8]) -> Queue
         ensures { λ r. ⌜ (r ≡ queueWith self (now («data» .entry))) × (now (bytes .exit) ≡ bytesWith (now (bytes .entry)) self (now («data» .entry))) ⌝ }
     {
         let n = data.len();
@@ -72,7 +73,10 @@ impl Queue {
             let back = self.head as usize + self.len();
             let mut i = 0;
             while i < n {
-                bytes[(back + i) % 256] = data[i];
+                let place = (back + i) % 256;
+                if place < bytes.len() {
+                    bytes[place] = data[i];
+                }
                 i += 1;
             }
             return Queue {

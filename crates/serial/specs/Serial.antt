@@ -46,7 +46,7 @@ applied s Enables d = withService s true
 applied s Disables d = unserved s
 applied s Stores d = withOutput s (queueWith (s .output) d)
 
--- The output queue's bytes afterwards.
+-- The memory for what is written to it, afterwards.
 abbrev pub outputAfter : Serial → Effect → List ℕ → List ℕ → List ℕ
 outputAfter s Keeps d bytes = bytes
 outputAfter s (Opens m accepted) d bytes = bytes

@@ -76,8 +76,8 @@ impl Serial {
         }
     }
 
-    // The state after an effect with this data, whose bytes go into the output queue's.
-    pub fn after(self, e: Effect, data: &[u8], output: &mut [u8; 256]) -> Serial
+    // The state after an effect with this data, whose bytes go into the memory for what is written to it.
+    pub fn after(self, e: Effect, data: &[u8], output: &mut [u8]) -> Serial
         ensures { λ r. ⌜ (r ≡ applied self e (now («data» .entry))) × (now (output .exit) ≡ outputAfter self e (now («data» .entry)) (now (output .entry))) ⌝ }
     {
         match e {
@@ -150,7 +150,7 @@ fn disabled(s: Serial) -> Serial
     t
 }
 
-fn stored(s: Serial, data: &[u8], output: &mut [u8; 256]) -> Serial
+fn stored(s: Serial, data: &[u8], output: &mut [u8]) -> Serial
     ensures { λ r. ⌜ (r ≡ applied s Effect.Stores (now («data» .entry))) × (now (output .exit) ≡ outputAfter s Effect.Stores (now («data» .entry)) (now (output .entry))) ⌝ }
 {
     let q = s.output;

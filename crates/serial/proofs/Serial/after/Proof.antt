@@ -58,10 +58,7 @@ returns-3 c = (
 )
 
 returns-4 : tie.Need-returns-4
-returns-4 c = (
-  simp (c .before .enum-told3 .given .1) (c .new .ensures),
-  simp (c .before .enum-told3 .given .1),
-)
+returns-4 c = search needs
 
 returns-5 : tie.Need-returns-5
 returns-5 c = (
@@ -75,10 +72,13 @@ returns-6 c = (
   simp (c .before .enum-told5 .given .1),
 )
 
+same-length : tie.Need-same-length
+same-length c = search needs
+
 returns-7 : tie.Need-returns-7
 returns-7 c = (
-  simp (c .before .before .enum-told6 .given .1) (c .stored .ensures .0),
-  simp (c .before .before .enum-told6 .given .1) (c .stored .ensures .1),
+  simp (c .before .before .before .before .enum-told6 .given .1) (c .before .before .stored .ensures .0),
+  simp (c .before .before .before .before .enum-told6 .given .1) (c .before .before .stored .ensures .1),
 )
 
 pub after-spec : {M : Type 1} → statement M
@@ -104,4 +104,5 @@ after-spec =
     returns-4
     returns-5
     returns-6
+    same-length
     returns-7)
