@@ -82,7 +82,7 @@ stored own s h buffer output = outputAfter s (verdictOn own s h buffer .effect) 
 abbrev pub isLast : ℕ → ℕ → Bool
 isLast n place = leb (8 + n) place
 
--- A byte is there: what the phase and state, the lent buffer and the output queue's bytes become.
+-- A byte is there: what the phase and state, the lent buffer and the memory for what is written to it become.
 abbrev pub byteStep : ℕ → Serial → Partial → ℕ → List ℕ → Moved
 byteStep own s p b buffer =
     cond (isLast (withByte (p .header) (p .place) b .«data_length») (p .place))
@@ -148,7 +148,7 @@ phaseStep (Receiving ear progress) own s seen busy buffer input = receivingStep 
 phaseStep (Responding reply i sender wait) own s seen busy buffer input = respondingStep s reply i sender wait (seen .hsk) input
 phaseStep (SittingOut last) own s seen busy buffer input = moves (SittingOut false) s
 
--- The lent buffer and the output queue's bytes after it: only receiving changes them.
+-- The lent buffer and the memory for what is written to it, after it: only receiving changes them.
 abbrev pub receivingBuffer : Listener → Progress → Lines → List ℕ → List ℕ
 receivingBuffer ear (Taking p) seen buffer = takingBuffer ear p seen buffer
 receivingBuffer ear (Answered reply) seen buffer = buffer

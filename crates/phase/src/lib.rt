@@ -44,7 +44,7 @@ pub struct Moved {
     pub serial: Serial,
 }
 
-// A round of a unit with this code, while BAV is seen low. Only receiving changes the lent buffer and the output queue's bytes.
+// A round of a unit with this code, while BAV is seen low. Only receiving changes lent memory.
 pub fn step(
     phase: Phase,
     own: u8,
@@ -53,7 +53,7 @@ pub fn step(
     busy: bool,
     buffer: &mut [u8],
     input: &[u8; 256],
-    output: &mut [u8; 256],
+    output: &mut [u8],
 ) -> Moved
     ensures { λ r. ⌜ (r ≡ phaseStep phase own s seen busy (now (buffer .entry)) (now (input .entry))) × ((now (buffer .exit) ≡ phaseBuffer phase seen (now (buffer .entry))) × (now (output .exit) ≡ phaseOutput phase own s seen (now (buffer .entry)) (now (output .entry)))) ⌝ }
 {
@@ -153,7 +153,7 @@ fn receiving(
     seen: Lines,
     busy: bool,
     buffer: &mut [u8],
-    output: &mut [u8; 256],
+    output: &mut [u8],
 ) -> Moved
     ensures { λ r. ⌜ (r ≡ receivingStep own s ear progress seen busy (now (buffer .entry))) × ((now (buffer .exit) ≡ receivingBuffer ear progress seen (now (buffer .entry))) × (now (output .exit) ≡ receivingOutput own s ear progress seen (now (buffer .entry)) (now (output .entry)))) ⌝ }
 {
@@ -171,7 +171,7 @@ fn taking(
     seen: Lines,
     busy: bool,
     buffer: &mut [u8],
-    output: &mut [u8; 256],
+    output: &mut [u8],
 ) -> Moved
     ensures { λ r. ⌜ (r ≡ takingStep own s ear p seen busy (now (buffer .entry))) × ((now (buffer .exit) ≡ takingBuffer ear p seen (now (buffer .entry))) × (now (output .exit) ≡ takingOutput own s ear p seen (now (buffer .entry)) (now (output .entry)))) ⌝ }
 {
@@ -200,14 +200,7 @@ fn taking(
     )
 }
 
-fn take_byte(
-    own: u8,
-    s: Serial,
-    p: Partial,
-    b: u8,
-    buffer: &mut [u8],
-    output: &mut [u8; 256],
-) -> Moved
+fn take_byte(own: u8, s: Serial, p: Partial, b: u8, buffer: &mut [u8], output: &mut [u8]) -> Moved
     ensures { λ r. ⌜ (r ≡ byteStep own s p b (now (buffer .entry))) × ((now (buffer .exit) ≡ byteBuffer p b (now (buffer .entry))) × (now (output .exit) ≡ byteOutput own s p b (now (buffer .entry)) (now (output .entry)))) ⌝ }
 {
     let place = p.place;
@@ -250,7 +243,7 @@ pub fn wide(n: u32) -> usize
 }
 
 // The command is whole: what a unit with this code makes of it goes by its kind.
-pub fn answer(own: u8, s: Serial, header: Header, buffer: &[u8], output: &mut [u8; 256]) -> Moved
+pub fn answer(own: u8, s: Serial, header: Header, buffer: &[u8], output: &mut [u8]) -> Moved
     ensures { λ r. ⌜ (r ≡ answered own s header (now (buffer .entry))) × (now (output .exit) ≡ stored own s header (now (buffer .entry)) (now (output .entry))) ⌝ }
 {
     let c = header.command;

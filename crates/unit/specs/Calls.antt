@@ -12,17 +12,18 @@ use Rattle.unit.specs.declared.Unit.{Unit}
 use Rattle.unit.specs.declared.Stepped.{Stepped}
 use Rattle.unit.specs.declared.Stepped.the-variants.{On, Level, Buffer}
 
--- Stepping: 5 for a nibble level over 15, then 11 for memory that is too short.
-abbrev pub stepping : Unit → Lines → Bool → List ℕ → List ℕ → Answer Unit
-stepping u seen busy buffer input =
-    cond (ltb 15 (seen .nibble)) (refused 5) (cond (isShort (kindOf (u .own)) (length buffer)) (refused 11) (gives (unitStep u seen busy buffer input)))
+-- Stepping: 5 for a nibble level over 15, then 11 for lent memory that is too short, of which only lengths are looked at.
+abbrev pub stepping : Unit → Lines → Bool → List ℕ → List ℕ → List ℕ → Answer Unit
+stepping u seen busy buffer input output =
+    cond (ltb 15 (seen .nibble)) (refused 5)
+    (cond (isShort (kindOf (u .own)) (length buffer) (length output)) (refused 11) (gives (unitStep u seen busy buffer input)))
 
 -- A refusal changes no lent memory.
-abbrev pub bufferAfter : Unit → Lines → Bool → List ℕ → List ℕ → List ℕ
-bufferAfter u seen busy buffer input = kept (stepping u seen busy buffer input) (unitBuffer u seen buffer) buffer
+abbrev pub bufferAfter : Unit → Lines → Bool → List ℕ → List ℕ → List ℕ → List ℕ
+bufferAfter u seen busy buffer input output = kept (stepping u seen busy buffer input output) (unitBuffer u seen buffer) buffer
 
 abbrev pub outputAfter : Unit → Lines → Bool → List ℕ → List ℕ → List ℕ → List ℕ
-outputAfter u seen busy buffer input output = kept (stepping u seen busy buffer input) (unitOutput u seen buffer output) output
+outputAfter u seen busy buffer input output = kept (stepping u seen busy buffer input output) (unitOutput u seen buffer output) output
 
 abbrev pub stepped : Stepped → Answer Unit
 stepped (On u) = gives u

@@ -73,7 +73,7 @@ abbrev pub unitStep : Unit → Lines → Bool → List ℕ → List ℕ → Unit
 unitStep u seen busy buffer input =
     cond (seen .bav) (lowStep u (seen .hsk) (phaseStep (u .phase) (u .own) (u .serial) seen busy buffer input)) (highStep u (seen .hsk))
 
--- The lent command buffer and the output queue's bytes after the round.
+-- The lent command buffer, and the memory for what is written to it, after the round.
 abbrev pub unitBuffer : Unit → Lines → List ℕ → List ℕ
 unitBuffer u seen buffer = cond (seen .bav) (phaseBuffer (u .phase) seen buffer) buffer
 

@@ -26,25 +26,26 @@ pub enum Stepped {
     On(Unit),
     // Refusal 5: nibble level over 15.
     Level,
-    // Refusal 11: the lent command buffer is under 256 bytes.
+    // Refusal 11: lent memory is too short.
     Buffer,
 }
 
-// A round: the levels that it sees, whether its host is busy, the lent command buffer, and the bytes of its two queues.
+// A round: the levels that it sees, whether its host is busy, the lent command buffer, the bytes of its input queue, and the memory for what
+// is written to it.
 pub fn step(
     u: Unit,
     seen: Lines,
     busy: bool,
     buffer: &mut [u8],
     input: &[u8; 256],
-    output: &mut [u8; 256],
+    output: &mut [u8],
 ) -> Stepped
-    ensures { λ r. ⌜ (stepped r ≡ stepping u seen busy (now (buffer .entry)) (now (input .entry))) × ((now (buffer .exit) ≡ bufferAfter u seen busy (now (buffer .entry)) (now (input .entry))) × (now (output .exit) ≡ outputAfter u seen busy (now (buffer .entry)) (now (input .entry)) (now (output .entry)))) ⌝ }
+    ensures { λ r. ⌜ (stepped r ≡ stepping u seen busy (now (buffer .entry)) (now (input .entry)) (now (output .entry))) × ((now (buffer .exit) ≡ bufferAfter u seen busy (now (buffer .entry)) (now (input .entry)) (now (output .entry))) × (now (output .exit) ≡ outputAfter u seen busy (now (buffer .entry)) (now (input .entry)) (now (output .entry)))) ⌝ }
 {
     if 15 < seen.nibble {
         return Stepped::Level;
     }
-    if kind::is_short(kind::kind_of(u.own), buffer.len()) {
+    if kind::is_short(kind::kind_of(u.own), buffer.len(), output.len()) {
         return Stepped::Buffer;
     }
     Stepped::On(round(u, seen, busy, buffer, input, output))
@@ -68,7 +69,7 @@ fn round(
     busy: bool,
     buffer: &mut [u8],
     input: &[u8; 256],
-    output: &mut [u8; 256],
+    output: &mut [u8],
 ) -> Unit
     ensures { λ r. ⌜ (r ≡ unitStep u seen busy (now (buffer .entry)) (now (input .entry))) × ((now (buffer .exit) ≡ unitBuffer u seen (now (buffer .entry))) × (now (output .exit) ≡ unitOutput u seen (now (buffer .entry)) (now (output .entry)))) ⌝ }
 {

@@ -21,13 +21,16 @@ after-requires c κs = search needs
 moves-requires : tie.Need-moves-requires
 moves-requires c κs = search needs
 
+same-length : tie.Need-same-length
+same-length c = search needs
+
 returns : tie.Need-returns
 returns c = (
   cc,
-  simp (← (c .before .before .before .before .before .data-in .ensures), ← (c .before .before .before .before .kind-of .ensures), ← (c .before .before .before .verdict-of .ensures), ← (c .moves .ensures)) (c .before .after .ensures .1),
+  simp (← (c .before .before .before .before .before .before .before .data-in .ensures), ← (c .before .before .before .before .before .before .kind-of .ensures), ← (c .before .before .before .before .before .verdict-of .ensures)) (c .before .before .before .after .ensures .1),
 )
 
 pub answer-spec : {M : Type 1} → statement M
 answer-spec =
     tie.close
-    (tie.spec cast-n data-in-requires kind-of-requires verdict-of-requires after-requires moves-requires returns)
+    (tie.spec cast-n data-in-requires kind-of-requires verdict-of-requires after-requires moves-requires same-length returns)

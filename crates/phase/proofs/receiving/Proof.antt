@@ -21,10 +21,13 @@ moves-requires c κs = search needs
 same-length : tie.Need-same-length
 same-length c = search needs
 
+same-length-2 : tie.Need-same-length-2
+same-length-2 c = search needs
+
 returns : tie.Need-returns
 returns c = (
-  simp (c .before .before .before .before .before .before .progress .given .1) (c .before .before .taking .ensures .0),
-  simp (c .before .before .before .before .before .before .progress .given .1) (c .before .before .taking .ensures .1),
+  simp (c .before .before .before .before .before .before .before .before .progress .given .1) (c .before .before .before .before .taking .ensures .0),
+  simp (c .before .before .before .before .before .before .before .before .progress .given .1) (c .before .before .before .before .taking .ensures .1),
 )
 
 returns-2 : tie.Need-returns-2
@@ -43,5 +46,6 @@ receiving-spec =
     answered-requires
     moves-requires
     same-length
+    same-length-2
     returns
     returns-2)

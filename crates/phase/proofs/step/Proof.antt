@@ -54,10 +54,13 @@ returns-2 c = (
 same-length : tie.Need-same-length
 same-length c = search needs
 
+same-length-2 : tie.Need-same-length-2
+same-length-2 c = search needs
+
 returns-3 : tie.Need-returns-3
 returns-3 c = (
-  simp (c .before .before .before .before .before .before .phase2 .given .1) (c .before .before .receiving .ensures .0),
-  simp (c .before .before .before .before .before .before .phase2 .given .1) (c .before .before .receiving .ensures .1),
+  simp (c .before .before .before .before .before .before .before .before .phase2 .given .1) (c .before .before .before .before .receiving .ensures .0),
+  simp (c .before .before .before .before .before .before .before .before .phase2 .given .1) (c .before .before .before .before .receiving .ensures .1),
 )
 
 returns-4 : tie.Need-returns-4
@@ -91,6 +94,7 @@ step-spec =
     returns
     returns-2
     same-length
+    same-length-2
     returns-3
     returns-4
     returns-5)

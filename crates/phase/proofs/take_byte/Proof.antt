@@ -33,30 +33,33 @@ answer-requires c κs = search needs
 same-length : tie.Need-same-length
 same-length c = search needs
 
+same-length-2 : tie.Need-same-length-2
+same-length-2 c = search needs
+
 -- The header with its new byte, and the lent buffer with it.
-header-is : (c : tie.After-put) → let a = c .before .before .before .before .before .before .args in
+header-is : (c : tie.After-put) → let a = c .before .before .before .before .before .before .before .args in
     c .before .before .with .result ≡ withByte (a .p .header) (a .p .place) (a .b)
 header-is c =
-    let a = c .before .before .before .before .before .before .args in
+    let a = c .before .before .before .before .before .before .before .args in
     c .before .before .with .ensures ∙ ap (λ (k : ℕ). withByte (a .p .header) k (a .b)) (c .before .before .before .wide .ensures)
 
-buffer-is : (c : tie.After-put) → let a = c .before .before .before .before .before .before .args in
+buffer-is : (c : tie.After-put) → let a = c .before .before .before .before .before .before .before .args in
     c .put .last .1 .1 .1 .0 ≡ byteBuffer (a .p) (a .b) (a .buffer .now)
 buffer-is c =
-    let a = c .before .before .before .before .before .before .args in
+    let a = c .before .before .before .before .before .before .before .args in
     c .put .ensures ∙ ap (λ (x : Header). bufferWith (x .«data_length») (a .p .place) (a .b) (a .buffer .now)) (header-is c)
 
 returns : tie.Need-returns
 returns c =
-    let at-test = c .before .before .before in
+    let at-test = c .before .before .before .before .before in
     let at-put = at-test .before .before .before in
-    let a = at-put .before .before .before .before .before .before .args in
+    let a = at-put .before .before .before .before .before .before .before .args in
     let h = at-put .before .before .with .result in
     let l = at-put .put .last .1 .1 .1 .0 in (
-      c .answer .ensures .0 ∙ last-byte (a .own) (a .s) (a .p) (a .b) (a .buffer .now) (a .output .now) h (header-is at-put) l (buffer-is at-put) (at-test .if1 .taken),
+      c .before .before .answer .ensures .0 ∙ last-byte (a .own) (a .s) (a .p) (a .b) (a .buffer .now) (a .output .now) h (header-is at-put) l (buffer-is at-put) (at-test .if1 .taken),
       (
         buffer-is at-put,
-        c .answer .ensures .1 ∙ last-output (a .own) (a .s) (a .p) (a .b) (a .buffer .now) (a .output .now) h (header-is at-put) l (buffer-is at-put) (at-test .if1 .taken),
+        c .before .before .answer .ensures .1 ∙ last-output (a .own) (a .s) (a .p) (a .b) (a .buffer .now) (a .output .now) h (header-is at-put) l (buffer-is at-put) (at-test .if1 .taken),
       ),
     )
 
@@ -69,14 +72,14 @@ whole-bytes-requires c κs = search needs
 moves-requires : tie.Need-moves-requires
 moves-requires c κs = search needs
 
-same-length-2 : tie.Need-same-length-2
-same-length-2 c = search needs
+same-length-3 : tie.Need-same-length-3
+same-length-3 c = search needs
 
 returns-2 : tie.Need-returns-2
 returns-2 c =
     let at-test = c .before .before in
     let at-put = at-test .before .before .before in
-    let a = at-put .before .before .before .before .before .before .args in
+    let a = at-put .before .before .before .before .before .before .before .args in
     let h = at-put .before .before .with .result in (
       c .moves .ensures ∙ ap (λ (x : Partial). moves (Receiving Holding (Taking x)) (a .s)) (c .before .whole-bytes .ensures) ∙ more-bytes (a .own) (a .s) (a .p) (a .b) (a .buffer .now) (a .output .now) h (header-is at-put) (at-test .if1 .left),
       (buffer-is at-put, more-output (a .own) (a .s) (a .p) (a .b) (a .buffer .now) (a .output .now) h (header-is at-put) (at-test .if1 .left)),
@@ -93,9 +96,10 @@ take-byte-spec =
     add-if1
     answer-requires
     same-length
+    same-length-2
     returns
     add-whole-bytes
     whole-bytes-requires
     moves-requires
-    same-length-2
+    same-length-3
     returns-2)

@@ -15,10 +15,13 @@ take-byte-requires c κs = search needs
 same-length : tie.Need-same-length
 same-length c = search needs
 
+same-length-2 : tie.Need-same-length-2
+same-length-2 c = search needs
+
 returns : tie.Need-returns
 returns c = (
-  simp (← (c .before .before .before .before .before .before .before .before .taken .ensures)) (simp (c .before .before .before .before .before .before .before .if1 .taken, c .before .before .before .before .before .before .if2 .taken) (simp (← (c .before .before .before .before .before .byte-of .ensures)) (c .before .before .take-byte .ensures .0))),
-  simp (← (c .before .before .before .before .before .before .before .before .taken .ensures)) (simp (c .before .before .before .before .before .before .before .if1 .taken, c .before .before .before .before .before .before .if2 .taken) (simp (← (c .before .before .before .before .before .byte-of .ensures)) (c .before .before .take-byte .ensures .1))),
+  simp (← (c .before .before .before .before .before .before .before .before .before .before .taken .ensures)) (simp (c .before .before .before .before .before .before .before .before .before .if1 .taken, c .before .before .before .before .before .before .before .before .if2 .taken) (simp (← (c .before .before .before .before .before .before .before .byte-of .ensures)) (c .before .before .before .before .take-byte .ensures .0))),
+  simp (← (c .before .before .before .before .before .before .before .before .before .before .taken .ensures)) (simp (c .before .before .before .before .before .before .before .before .before .if1 .taken, c .before .before .before .before .before .before .before .before .if2 .taken) (simp (← (c .before .before .before .before .before .before .before .byte-of .ensures)) (c .before .before .before .before .take-byte .ensures .1))),
 )
 
 moves-requires : tie.Need-moves-requires
@@ -50,6 +53,7 @@ taking-spec =
     byte-of-requires
     take-byte-requires
     same-length
+    same-length-2
     returns
     moves-requires
     returns-2

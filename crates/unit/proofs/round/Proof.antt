@@ -12,10 +12,13 @@ lowered-requires c κs = search needs
 same-length : tie.Need-same-length
 same-length c = search needs
 
+same-length-2 : tie.Need-same-length-2
+same-length-2 c = search needs
+
 returns : tie.Need-returns
 returns c = (
-  simp (c .before .before .before .before .before .before .if1 .taken) (simp (← (c .before .before .before .step .ensures .0)) (c .lowered .ensures)),
-  simp (← (c .lowered .ensures), c .before .before .before .before .before .before .if1 .taken) (c .before .before .before .step .ensures .1),
+  simp (c .before .before .before .before .before .before .before .before .if1 .taken) (simp (← (c .before .before .before .before .before .step .ensures .0)) (c .lowered .ensures)),
+  simp (← (c .lowered .ensures), c .before .before .before .before .before .before .before .before .if1 .taken) (c .before .before .before .before .before .step .ensures .1),
 )
 
 dropped-requires : tie.Need-dropped-requires
@@ -30,4 +33,4 @@ returns-2 c = (
 pub round-spec : {M : Type 1} → statement M
 round-spec =
     tie.close
-    (tie.spec step-requires lowered-requires same-length returns dropped-requires returns-2)
+    (tie.spec step-requires lowered-requires same-length same-length-2 returns dropped-requires returns-2)

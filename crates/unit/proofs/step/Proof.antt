@@ -28,11 +28,14 @@ round-requires c κs = search needs
 same-length : tie.Need-same-length
 same-length c = search needs
 
+same-length-2 : tie.Need-same-length-2
+same-length-2 c = search needs
+
 returns-3 : tie.Need-returns-3
 returns-3 c = (
-  simp (tests, c .before .before .before .before .before .before .before .before .if1 .left) (simp (← (c .before .before .before .before .before .before .before .kind-of .ensures), ← (c .before .before .before .before .before .before .is-short .ensures)) (simp (tests, c .before .before .before .before .before .if2 .left, c .before .before .round .ensures .0))),
-  simp (tests, c .before .before .before .before .before .before .before .before .if1 .left) (simp (← (c .before .before .before .before .before .before .before .kind-of .ensures), ← (c .before .before .before .before .before .before .is-short .ensures)) (simp (tests, c .before .before .before .before .before .if2 .left) (c .before .before .round .ensures .1))),
+  simp (tests, c .before .before .before .before .before .before .before .before .before .before .if1 .left) (simp (← (c .before .before .before .before .before .before .before .before .before .kind-of .ensures), ← (c .before .before .before .before .before .before .before .before .is-short .ensures)) (simp (tests, c .before .before .before .before .before .before .before .if2 .left, c .before .before .before .before .round .ensures .0))),
+  simp (tests, c .before .before .before .before .before .before .before .before .before .before .if1 .left) (simp (← (c .before .before .before .before .before .before .before .before .before .kind-of .ensures), ← (c .before .before .before .before .before .before .before .before .is-short .ensures)) (simp (tests, c .before .before .before .before .before .before .before .if2 .left) (c .before .before .before .before .round .ensures .1))),
 )
 
 pub step-spec : {M : Type 1} → statement M
-step-spec = tie.close (tie.spec returns kind-of-requires is-short-requires returns-2 round-requires same-length returns-3)
+step-spec = tie.close (tie.spec returns kind-of-requires is-short-requires returns-2 round-requires same-length same-length-2 returns-3)
