@@ -17,7 +17,6 @@ use Rattle.unit.specs.declared.Stepped.{Stepped}
 use Rattle.unit.specs.declared.Unit.{Unit}
 use Rattle.bus.specs.Bus.{unitAfter, stationStep, stationAt, stationsOf, unitsIn, bytesOf, memoryOf, isOdd, levelsLeft, unitsAfter}
 use Rattle.bus.specs.declared.Station.{Station}
-use Rattle.bus.proofs.Memory.{buffer-length, output-length, part-length}
 
 -- One more unit's pulls.
 pub levels-next : (l : Lines) (us : List Unit) (i : ℕ) (d : Unit) → i < length us
@@ -28,12 +27,12 @@ levels-next l us i d h = ap (levelsLeft l) (drop-cons us i d h)
 drop-take : (n k : ℕ) (l : List ℕ) → n ≤ length l → drop n (take (n + k) l) ≡ take k (drop n l)
 drop-take n k l h = ap (drop n) (take-add n k l) ∙ drop-at (take n l) (take k (drop n l)) n (length-take-le n l h)
 
-part-alone : (u : Unit) (m : List ℕ) → 768 ≤ length m → stationAt u (take 768 m) ≡ stationAt u m
+part-alone : (u : Unit) (m : List ℕ) → 2432 ≤ length m → stationAt u (take 2432 m) ≡ stationAt u m
 part-alone u m h = λ k. record {
   unit = u;
-  buffer = take-take 256 768 m (omega arith) k;
-  input = (ap (take 256) (drop-take 256 512 m (omega arith)) ∙ take-take 256 512 (drop 256 m) (omega arith)) k;
-  output = (ap (take 256) (drop-take 512 256 m (omega arith)) ∙ take-take 256 256 (drop 512 m) (omega arith)) k;
+  buffer = take-take 256 2432 m (omega arith) k;
+  input = (ap (take 256) (drop-take 256 2176 m (omega arith)) ∙ take-take 256 2176 (drop 256 m) (omega arith)) k;
+  output = (ap (take 1920) (drop-take 512 1920 m (omega arith)) ∙ take-take 1920 1920 (drop 512 m) (omega arith)) k;
 }
 
 -- What the units from place i on, of n, come to, with their memory from `at` on; and the whole array and the whole memory: those that
@@ -45,105 +44,110 @@ abbrev pub whole-units : Lines → ℕ → ℕ → ℕ → ℕ → List Unit →
 whole-units seen busy n i at us m = take i us ++ (unitsIn (to-step seen busy n i at us m) ++ drop n us)
 
 abbrev pub whole-memory : Lines → ℕ → ℕ → ℕ → ℕ → List Unit → List ℕ → List ℕ
-whole-memory seen busy n i at us m = take at m ++ (memoryOf (to-step seen busy n i at us m) ++ drop (768 * n) m)
+whole-memory seen busy n i at us m = take at m ++ (memoryOf (to-step seen busy n i at us m) ++ drop (2432 * n) m)
 
-module _ (seen : Lines) (busy n i at : ℕ) (us : List Unit) (m : List ℕ) (d : Unit) (below : i < n) (enough : n ≤ length us) (place : at ≡ 768 * i) (room : 768 * n ≤ length m) where
+module _ (seen : Lines) (busy n i at : ℕ) (us : List Unit) (m : List ℕ) (d : Unit) (below : i < n) (enough : n ≤ length us) (place : at ≡ 2432 * i) (room : 2432 * n ≤ length m) where
   -- What the unit at place i becomes.
   abbrev pub next : Station
-  next = stationStep (stationAt (getD us i d) (midOf at (at + 768 - at) m)) seen (isOdd busy)
+  next = stationStep (stationAt (getD us i d) (midOf at (at + 2432 - at) m)) seen (isOdd busy)
 
-  next-steps : to-step seen busy n i at us m ≡ next ∷ to-step seen (busy / 2) n (suc i) (at + 768) us m
+  next-steps : to-step seen busy n i at us m ≡ next ∷ to-step seen (busy / 2) n (suc i) (at + 2432) us m
   next-steps =
       let one : n - i ≡ suc (n - suc i) = omega arith in
-      let k : at + 768 - at ≡ 768 = omega arith in
+      let k : at + 2432 - at ≡ 2432 = omega arith in
       let u = getD us i d in
       let l : length (drop at m) ≡ length m - at = length-drop at m in
-      let its : stationAt u (drop at m) ≡ stationAt u (midOf at (at + 768 - at) m) =
+      let its : stationAt u (drop at m) ≡ stationAt u (midOf at (at + 2432 - at) m) =
       sym (ap (λ (j : ℕ). stationAt u (take j (drop at m))) k ∙ part-alone u (drop at m) (omega arith)) in
       ap (λ (j : ℕ). unitsAfter seen busy (stationsOf (take j (drop i us)) (drop at m))) one
       ∙ ap (λ (r : List Unit). unitsAfter seen busy (stationsOf (take (suc (n - suc i)) r) (drop at m))) (drop-cons us i d (omega arith))
-      ∙ ap₂ (λ (s : Station) (r : List ℕ). stationStep s seen (isOdd busy) ∷ unitsAfter seen (busy / 2) (stationsOf (take (n - suc i) (drop (suc i) us)) r)) its (drop-drop 768 at m)
+      ∙ ap₂ (λ (s : Station) (r : List ℕ). stationStep s seen (isOdd busy) ∷ unitsAfter seen (busy / 2) (stationsOf (take (n - suc i) (drop (suc i) us)) r)) its (drop-drop 2432 at m)
 
   -- With it in its place, and its bytes in theirs, those behind it are left.
-  module _ (v : Unit) (ys : List ℕ) (its : v ≡ next .unit) (bytes : ys ≡ bytesOf next) (full : length ys ≡ length (midOf at (at + 768 - at) m)) where
+  module _ (v : Unit) (ys : List ℕ) (its : v ≡ next .unit) (bytes : ys ≡ bytesOf next) (full : length ys ≡ length (midOf at (at + 2432 - at) m)) where
     abbrev units′ : List Unit
     units′ = set us i v
 
     abbrev memory′ : List ℕ
-    memory′ = putMid at (at + 768 - at) m ys
+    memory′ = putMid at (at + 2432 - at) m ys
 
-    long : length ys ≡ 768
-    long = full ∙ mid-len at (at + 768) m (omega arith) ∙ omega arith
+    long : length ys ≡ 2432
+    long = full ∙ mid-len at (at + 2432) m (omega arith) ∙ omega arith
 
-    behind : (j : ℕ) → at + 768 ≤ j → drop j memory′ ≡ drop j m
+    behind : (j : ℕ) → at + 2432 ≤ j → drop j memory′ ≡ drop j m
     behind j h =
-        let at-j : at + 768 + (j - (at + 768)) ≡ j = omega arith in
-        let rest = drop-put at (at + 768) m ys (omega arith) (omega arith) (long ∙ omega arith) in
-        ap (λ (x : ℕ). drop x memory′) (sym at-j) ∙ sym (drop-drop (j - (at + 768)) (at + 768) memory′) ∙ ap (drop (j - (at + 768))) rest ∙ drop-drop (j - (at + 768)) (at + 768) m ∙ ap (λ (x : ℕ). drop x m) at-j
+        let at-j : at + 2432 + (j - (at + 2432)) ≡ j = omega arith in
+        let rest = drop-put at (at + 2432) m ys (omega arith) (omega arith) (long ∙ omega arith) in
+        ap (λ (x : ℕ). drop x memory′) (sym at-j) ∙ sym (drop-drop (j - (at + 2432)) (at + 2432) memory′) ∙ ap (drop (j - (at + 2432))) rest ∙ drop-drop (j - (at + 2432)) (at + 2432) m ∙ ap (λ (x : ℕ). drop x m) at-j
 
-    same-steps : to-step seen (busy / 2) n (suc i) (at + 768) units′ memory′ ≡ to-step seen (busy / 2) n (suc i) (at + 768) us m
-    same-steps = ap₂ (λ (r : List Unit) (x : List ℕ). unitsAfter seen (busy / 2) (stationsOf (take (n - suc i) r) x)) (drop-set-lt (suc i) us i v (omega arith)) (behind (at + 768) (omega arith))
+    same-steps : to-step seen (busy / 2) n (suc i) (at + 2432) units′ memory′ ≡ to-step seen (busy / 2) n (suc i) (at + 2432) us m
+    same-steps = ap₂ (λ (r : List Unit) (x : List ℕ). unitsAfter seen (busy / 2) (stationsOf (take (n - suc i) r) x)) (drop-set-lt (suc i) us i v (omega arith)) (behind (at + 2432) (omega arith))
 
-    pub units-next : whole-units seen busy n i at us m ≡ whole-units seen (busy / 2) n (suc i) (at + 768) units′ memory′
+    pub units-next : whole-units seen busy n i at us m ≡ whole-units seen (busy / 2) n (suc i) (at + 2432) units′ memory′
     units-next =
-        let more = to-step seen (busy / 2) n (suc i) (at + 768) us m in
+        let more = to-step seen (busy / 2) n (suc i) (at + 2432) us m in
         let front : take (suc i) units′ ≡ take i us ++ (v ∷ []) = take-suc-set us i v (omega arith) in
         let unused : drop n units′ ≡ drop n us = drop-set-lt n us i v below in
         ap (λ (ss : List Station). take i us ++ (unitsIn ss ++ drop n us)) next-steps
         ∙ ap (λ (x : Unit). take i us ++ (x ∷ (unitsIn more ++ drop n us))) (sym its)
         ∙ sym (rw (front, unused, same-steps) (append-snoc (take i us) v (unitsIn more ++ drop n us)))
 
-    pub memory-next : whole-memory seen busy n i at us m ≡ whole-memory seen (busy / 2) n (suc i) (at + 768) units′ memory′
+    pub memory-next : whole-memory seen busy n i at us m ≡ whole-memory seen (busy / 2) n (suc i) (at + 2432) units′ memory′
     memory-next =
-        let more = memoryOf (to-step seen (busy / 2) n (suc i) (at + 768) us m) in
-        let rest = drop (768 * n) m in
-        let l : length (take at m ++ ys) ≡ at + 768 = length-append (take at m) ys ∙ ap₂ (λ (a b : ℕ). a + b) (length-take-le at m (omega arith)) long in
-        let front : take (at + 768) memory′ ≡ take at m ++ ys =
-        ap (take (at + 768)) (sym (append-assoc (take at m) ys (drop (at + 768 - at) (drop at m)))) ∙ take-at (take at m ++ ys) (drop (at + 768 - at) (drop at m)) (at + 768) l in
+        let more = memoryOf (to-step seen (busy / 2) n (suc i) (at + 2432) us m) in
+        let rest = drop (2432 * n) m in
+        let l : length (take at m ++ ys) ≡ at + 2432 = length-append (take at m) ys ∙ ap₂ (λ (a b : ℕ). a + b) (length-take-le at m (omega arith)) long in
+        let front : take (at + 2432) memory′ ≡ take at m ++ ys =
+        ap (take (at + 2432)) (sym (append-assoc (take at m) ys (drop (at + 2432 - at) (drop at m)))) ∙ take-at (take at m ++ ys) (drop (at + 2432 - at) (drop at m)) (at + 2432) l in
         ap (λ (ss : List Station). take at m ++ (memoryOf ss ++ rest)) next-steps
         ∙ ap (λ (x : List ℕ). take at m ++ (x ++ more ++ rest)) (sym bytes)
         ∙ ap (λ (x : List ℕ). take at m ++ x) (append-assoc ys more rest)
         ∙ sym (append-assoc (take at m) ys (more ++ rest))
-        ∙ sym (λ k. front k ++ (memoryOf (same-steps k) ++ behind (768 * n) (omega arith) k))
+        ∙ sym (λ k. front k ++ (memoryOf (same-steps k) ++ behind (2432 * n) (omega arith) k))
 
 -- Before the first has stepped, and when all have.
 module _ (seen : Lines) (busy n : ℕ) (us : List Unit) (m : List ℕ) where
   pub units-start : whole-units seen busy n 0 0 us m ≡ unitsIn (unitsAfter seen busy (stationsOf (take n us) m)) ++ drop n us
   units-start = ap (λ (k : ℕ). unitsIn (unitsAfter seen busy (stationsOf (take k us) m)) ++ drop n us) (sub-zero n)
 
-  pub memory-start : whole-memory seen busy n 0 0 us m ≡ memoryOf (unitsAfter seen busy (stationsOf (take n us) m)) ++ drop (768 * n) m
-  memory-start = ap (λ (k : ℕ). memoryOf (unitsAfter seen busy (stationsOf (take k us) m)) ++ drop (768 * n) m) (sub-zero n)
+  pub memory-start : whole-memory seen busy n 0 0 us m ≡ memoryOf (unitsAfter seen busy (stationsOf (take n us) m)) ++ drop (2432 * n) m
+  memory-start = ap (λ (k : ℕ). memoryOf (unitsAfter seen busy (stationsOf (take k us) m)) ++ drop (2432 * n) m) (sub-zero n)
 
   pub units-end : (i at : ℕ) → i ≡ n → us ≡ whole-units seen busy n i at us m
   units-end i at h = let none : n - i ≡ 0 = omega arith in sym (rw (none, h) (take-append-drop n us))
 
-  pub memory-end : (i at : ℕ) → i ≡ n → at ≡ 768 * n → m ≡ whole-memory seen busy n i at us m
-  memory-end i at h e = let none : n - i ≡ 0 = omega arith in sym (rw (none, e) (take-append-drop (768 * n) m))
+  pub memory-end : (i at : ℕ) → i ≡ n → at ≡ 2432 * n → m ≡ whole-memory seen busy n i at us m
+  memory-end i at h e = let none : n - i ≡ 0 = omega arith in sym (rw (none, e) (take-append-drop (2432 * n) m))
 
--- A unit's memory with its command buffer and its output queue put back.
-put-back : (m b o p q : List ℕ) → length m ≡ 768 → length b ≡ 256 → p ≡ b ++ drop 256 m → length o ≡ 256 → q ≡ take 512 p ++ (o ++ drop 768 p)
+-- A unit's memory with what was lent of it put back, and then its command buffer.
+put-back : (m b o p q : List ℕ) → length m ≡ 2432 → p ≡ putMid 512 (length m - 512) m o → q ≡ b ++ drop 256 p
     → q ≡ b ++ (take 256 (drop 256 m) ++ o)
-put-back m b o p q hm hb first ho second =
-    let front : take 512 p ≡ b ++ take 256 (drop 256 m) =
-    ap (take 512) first ∙ ap (λ (k : ℕ). take (k + 256) (b ++ drop 256 m)) (sym hb) ∙ take-append-add b (drop 256 m) 256 in
-    let l : length p ≡ 768 = ap length first ∙ length-append b (drop 256 m) ∙ ap₂ (λ (j k : ℕ). j + k) hb (length-drop 256 m ∙ ap (λ (k : ℕ). k - 256) hm) in
-    let past : length p ≤ 768 = omega arith in
-    second ∙ (λ k. front k ++ (o ++ drop-of-length-le p past k)) ∙ ap (λ (x : List ℕ). (b ++ take 256 (drop 256 m)) ++ x) (append-nil o) ∙ append-assoc b (take 256 (drop 256 m)) o
+put-back m b o p q hm first second =
+    let l : length (drop 512 m) ≡ length m - 512 = length-drop 512 m in
+    let past : length (drop 512 m) ≤ length m - 512 = omega arith in
+    let none : drop (length m - 512) (drop 512 m) ≡ [] = drop-of-length-le (drop 512 m) past in
+    let p-is : p ≡ take 256 m ++ (take 256 (drop 256 m) ++ o) =
+    first
+    ∙ (λ k. take-add 256 256 m k ++ (o ++ none k))
+    ∙ append-assoc (take 256 m) (take 256 (drop 256 m)) (o ++ [])
+    ∙ ap (λ (x : List ℕ). take 256 m ++ (take 256 (drop 256 m) ++ x)) (append-nil o) in
+    second ∙ ap (λ (x : List ℕ). b ++ x) (ap (drop 256) p-is ∙ drop-at (take 256 m) (take 256 (drop 256 m) ++ o) 256 (length-take-le 256 m (omega arith)))
 
--- A unit's round in copies b, i and o of its parts; b′ and o′ are put back, and p and q are its memory then.
-pub round-in-parts : (u : Unit) (seen : Lines) (busy : Bool) (m b i o b′ o′ p q : List ℕ) {r : Unit} → length m ≡ 768
-    → b ≡ take 256 m → i ≡ take 256 (drop 256 m) → o ≡ take 256 (drop 512 m)
-    → r ≡ unitAfter (stepping u seen busy b i) u → b′ ≡ bufferAfter u seen busy b i → o′ ≡ outputAfter u seen busy b i o
-    → p ≡ b′ ++ drop 256 m → q ≡ take 512 p ++ (o′ ++ drop 768 p)
+-- A unit's round in copies b and i of its parts, and in its own memory for what is written to it, which is o′ then; b′ is put back, and p and
+-- q are its memory before and after that.
+pub round-in-parts : (u : Unit) (seen : Lines) (busy : Bool) (m b i b′ o′ p q : List ℕ) {r : Unit} → let o = midOf 512 (length m - 512) m in
+    length m ≡ 2432 → b ≡ take 256 m → i ≡ take 256 (drop 256 m)
+    → r ≡ unitAfter (stepping u seen busy b i o) u → b′ ≡ bufferAfter u seen busy b i o → o′ ≡ outputAfter u seen busy b i o
+    → p ≡ putMid 512 (length m - 512) m o′ → q ≡ b′ ++ drop 256 p
     → (r ≡ stationStep (stationAt u m) seen busy .unit) × (q ≡ bytesOf (stationStep (stationAt u m) seen busy))
-round-in-parts u seen busy m b i o b′ o′ p q hm eb ei eo er eb′ eo′ ep eq =
+round-in-parts u seen busy m b i b′ o′ p q hm eb ei er eb′ eo′ ep eq =
+    let o = midOf 512 (length m - 512) m in
+    let eo : o ≡ take 1920 (drop 512 m) = ap (λ (k : ℕ). take (k - 512) (drop 512 m)) hm in
     let its : _≡_ {A = Station} (record { unit = u; buffer = b; input = i; output = o }) (stationAt u m) = λ k. record { unit = u; buffer = eb k; input = ei k; output = eo k } in
-    let b-256 : length b′ ≡ 256 = ap length eb′ ∙ buffer-length u seen busy b i ∙ part-length 0 m (omega arith) eb in
-    let o-256 : length o′ ≡ 256 = ap length eo′ ∙ output-length u seen busy b i o ∙ part-length 512 m (omega arith) eo in
     let b-is : b′ ≡ stationStep (stationAt u m) seen busy .buffer = eb′ ∙ ap (λ (s : Station). stationStep s seen busy .buffer) its in
     let o-is : o′ ≡ stationStep (stationAt u m) seen busy .output = eo′ ∙ ap (λ (s : Station). stationStep s seen busy .output) its in (
       er ∙ ap (λ (s : Station). stationStep s seen busy .unit) its,
-      put-back m b′ o′ p q hm b-256 ep o-256 eq ∙ (λ k. b-is k ++ (take 256 (drop 256 m) ++ o-is k)),
+      put-back m b′ o′ p q hm ep eq ∙ (λ k. b-is k ++ (take 256 (drop 256 m) ++ o-is k)),
     )
 
 -- The unit of an answer, or the one before a refusal.

@@ -18,7 +18,7 @@ use Rattle.unit.specs.declared.Unit.{Unit}
 use Rattle.bus.specs.declared.Station.{Station}
 use Rattle.bus.specs.declared.Bus.{Bus}
 
--- A unit with the memory that its calls are lent, cleared at first.
+-- A unit with the memory that its calls are lent, cleared at first: its command buffer, and two queues.
 abbrev pub newStation : Unit → Station
 newStation u = record { unit = u; buffer = replicate 256 0; input = replicate 256 0; output = replicate 256 0 }
 
@@ -29,19 +29,20 @@ unitAfter (refused k) before = before
 
 abbrev pub stationStep : Station → Lines → Bool → Station
 stationStep s seen busy = record {
-  unit = unitAfter (stepping (s .unit) seen busy (s .buffer) (s .input)) (s .unit);
-  buffer = bufferAfter (s .unit) seen busy (s .buffer) (s .input);
+  unit = unitAfter (stepping (s .unit) seen busy (s .buffer) (s .input) (s .output)) (s .unit);
+  buffer = bufferAfter (s .unit) seen busy (s .buffer) (s .input) (s .output);
   input = s .input;
   output = outputAfter (s .unit) seen busy (s .buffer) (s .input) (s .output);
 }
 
--- Units with their memory, 768 bytes each in the units' order: command buffer, input queue, output queue.
+-- Units with their memory, 2,432 bytes each in the units' order: command buffer 256, input queue 256, and 1,920 for what is written to it,
+-- of which a serial unit uses the first 256, its output queue.
 abbrev pub stationAt : Unit → List ℕ → Station
-stationAt u memory = record { unit = u; buffer = take 256 memory; input = take 256 (drop 256 memory); output = take 256 (drop 512 memory) }
+stationAt u memory = record { unit = u; buffer = take 256 memory; input = take 256 (drop 256 memory); output = take 1920 (drop 512 memory) }
 
 abbrev pub stationsOf : List Unit → List ℕ → List Station
 stationsOf [] memory = []
-stationsOf (u ∷ us) memory = stationAt u memory ∷ stationsOf us (drop 768 memory)
+stationsOf (u ∷ us) memory = stationAt u memory ∷ stationsOf us (drop 2432 memory)
 
 -- The units alone, and the memory alone.
 abbrev pub unitsIn : List Station → List Unit
@@ -108,4 +109,4 @@ abbrev pub responseOf : Bus → Lines → ℕ → List ℕ → List ℕ → List
 responseOf b seen busy d response = responseAfter (b .controller) seen (isOdd (busy / 65536)) d response
 
 abbrev pub memoryAfter : Bus → Lines → ℕ → List ℕ → List ℕ
-memoryAfter b seen busy memory = memoryOf (stationsAfter b seen busy memory) ++ drop (768 * counted b) memory
+memoryAfter b seen busy memory = memoryOf (stationsAfter b seen busy memory) ++ drop (2432 * counted b) memory

@@ -16,7 +16,12 @@ use serial::Serial;
 use unit::Stepped;
 use unit::Unit;
 
-// A unit with the memory that its calls are lent.
+// The memory of each unit: command buffer 256, input queue 256, and 1,920 bytes for what is written to it; and that of all sixteen.
+pub const EACH: usize = 2432;
+
+pub const MEMORY: usize = 38912;
+
+// A unit that has queues, with the memory that its calls are lent.
 pub struct Station {
     pub unit: Unit,
     pub buffer: [u8; 256],
@@ -100,14 +105,14 @@ impl Bus {
 
     // A round of every party at the levels `seen`: those of `levels` on a bus without faults. Bit i of busy says whether the host of
     // unit i is busy, bit 16 whether the controller's is. The command's data and the response buffer are lent to the controller, and
-    // 768 bytes of the memory to each unit, in the units' order: command buffer, input queue, output queue.
+    // its part of the memory to each unit, in the units' order.
     pub fn round(
         self,
         seen: Lines,
         busy: u32,
         data: &[u8],
         response: &mut [u8],
-        memory: &mut [u8; 12288],
+        memory: &mut [u8; MEMORY],
     ) -> Rounded
         ensures { λ r. ⌜ r .bus ≡ roundOf self seen busy (now («data» .entry)) (now (response .entry)) (now (memory .entry)) ⌝ }
         ensures { λ r. ⌜ stepped (r .outcome) ≡ outcomeOf self seen busy (now («data» .entry)) (now (response .entry)) ⌝ }
@@ -129,12 +134,12 @@ impl Bus {
     }
 }
 
-// A round of the first n units, each in its own 768 bytes.
+// A round of the first n units, each in its own part of the memory.
 fn units_after(units: [Unit; 16], n: usize, seen: Lines, busy: u32, memory: &mut [u8]) -> [Unit; 16]
     requires { ⌜ n ≤ 16 ⌝ }
-    requires { ⌜ length (now memory) ≡ 12288 ⌝ }
+    requires { ⌜ length (now memory) ≡ 38912 ⌝ }
     ensures { λ r. ⌜ r ≡ unitsIn (unitsAfter seen busy (stationsOf (take n units) (now (memory .entry)))) ++ drop n units ⌝ }
-    ensures { λ r. ⌜ now (memory .exit) ≡ memoryOf (unitsAfter seen busy (stationsOf (take n units) (now (memory .entry)))) ++ drop (768 * n) (now (memory .entry)) ⌝ }
+    ensures { λ r. ⌜ now (memory .exit) ≡ memoryOf (unitsAfter seen busy (stationsOf (take n units) (now (memory .entry)))) ++ drop (2432 * n) (now (memory .entry)) ⌝ }
 {
     let mut after = units;
     let mut hosts = busy;
@@ -142,7 +147,7 @@ fn units_after(units: [Unit; 16], n: usize, seen: Lines, busy: u32, memory: &mut
     let mut i = 0;
     while i < n {
         let u = after[i];
-        let end = at + 768;
+        let end = at + EACH;
         after[i] = unit_round(u, seen, hosts % 2 == 1, &mut memory[at..end]);
         hosts = hosts / 2;
         at = end;
@@ -151,18 +156,16 @@ fn units_after(units: [Unit; 16], n: usize, seen: Lines, busy: u32, memory: &mut
     after
 }
 
-// A round of a unit in its 768 bytes.
+// A round of a unit in its part of the memory.
 fn unit_round(u: Unit, seen: Lines, busy: bool, memory: &mut [u8]) -> Unit
-    requires { ⌜ length (now memory) ≡ 768 ⌝ }
+    requires { ⌜ length (now memory) ≡ 2432 ⌝ }
     ensures { λ r. ⌜ r ≡ stationStep (stationAt u (now (memory .entry))) seen busy .unit ⌝ }
     ensures { λ r. ⌜ now (memory .exit) ≡ bytesOf (stationStep (stationAt u (now (memory .entry))) seen busy) ⌝ }
 {
     let mut buffer = copied(memory, 0);
     let input = copied(memory, 256);
-    let mut output = copied(memory, 512);
-    let after = unit_after(u, seen, busy, &mut buffer, &input, &mut output);
+    let after = unit_after(u, seen, busy, &mut buffer, &input, &mut memory[512..]);
     put(&buffer, memory, 0);
-    put(&output, memory, 512);
     after
 }
 
@@ -173,10 +176,10 @@ fn unit_after(
     busy: bool,
     buffer: &mut [u8; 256],
     input: &[u8; 256],
-    output: &mut [u8; 256],
+    output: &mut [u8],
 ) -> Unit
-    ensures { λ r. ⌜ r ≡ unitAfter (stepping u seen busy (now (buffer .entry)) (now (input .entry))) u ⌝ }
-    ensures { λ r. ⌜ now (buffer .exit) ≡ bufferAfter u seen busy (now (buffer .entry)) (now (input .entry)) ⌝ }
+    ensures { λ r. ⌜ r ≡ unitAfter (stepping u seen busy (now (buffer .entry)) (now (input .entry)) (now (output .entry))) u ⌝ }
+    ensures { λ r. ⌜ now (buffer .exit) ≡ bufferAfter u seen busy (now (buffer .entry)) (now (input .entry)) (now (output .entry)) ⌝ }
     ensures { λ r. ⌜ now (output .exit) ≡ outputAfter u seen busy (now (buffer .entry)) (now (input .entry)) (now (output .entry)) ⌝ }
 {
     match unit::step(u, seen, busy, buffer, input, output) {

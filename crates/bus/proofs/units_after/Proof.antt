@@ -14,7 +14,7 @@ use Rattle.bus.proofs.units_after.Tie as tie
 
 abbrev Inv-loop : tie.InvT-loop
 Inv-loop n seen busy memory₀ after₀ hosts₀ at₀ i₀ memory after hosts at i =
-    ((i ≤ n) × ((at ≡ 768 * i) × ((length after ≡ 16) × (length memory ≡ 12288))))
+    ((i ≤ n) × ((at ≡ 2432 * i) × ((length after ≡ 16) × (length memory ≡ 38912))))
     × ((whole-units seen hosts n i at after memory ≡ whole-units seen busy n 0 0 after₀ memory₀)
     × (whole-memory seen hosts n i at after memory ≡ whole-memory seen busy n 0 0 after₀ memory₀))
 
@@ -47,7 +47,7 @@ part-unit-round-end c = omega arith
 unit-round-requires : tie.Need-unit-round-requires Inv-loop μ-loop
 unit-round-requires c κs =
     let at = c .before .before .before .loop .at in
-    mid-len at (at + 768) (c .before .before .before .loop .memory) (omega arith) ∙ omega arith
+    mid-len at (at + 2432) (c .before .before .before .loop .memory) (omega arith) ∙ omega arith
 
 mul-after : tie.Need-mul-after Inv-loop μ-loop
 mul-after c = omega arith
@@ -78,12 +78,12 @@ loop-again c =
     let e = at-call .unit-round .ensures in
     let kept = at-call .unit-round .kept .1 .1 .1 .0 in
     let enough : a .n ≤ length us = omega (arith, at-loop .before .before .pre .0, inv .0 .1 .1 .0) in
-    let room : 768 * a .n ≤ length m = omega (arith, at-loop .before .before .pre .0, inv .0 .1 .1 .1) in
+    let room : 2432 * a .n ≤ length m = omega (arith, at-loop .before .before .pre .0, inv .0 .1 .1 .1) in
     let units = units-next (a .seen) hosts (a .n) i at us m _ test enough (inv .0 .1 .0) room v ys (e .0) (e .1) kept in
     let memory = memory-next (a .seen) hosts (a .n) i at us m _ test enough (inv .0 .1 .0) room v ys (e .0) (e .1) kept in (
       (
         omega (arith, test),
-        (omega (arith, inv .0 .1 .0), (length-set us i v ∙ inv .0 .1 .1 .0, same-len-mid at (at + 768 - at) m ys kept ∙ inv .0 .1 .1 .1)),
+        (omega (arith, inv .0 .1 .0), (length-set us i v ∙ inv .0 .1 .1 .0, same-len-mid at (at + 2432 - at) m ys kept ∙ inv .0 .1 .1 .1)),
       ),
       (rw add-one (sym units ∙ inv .1 .0), rw add-one (sym memory ∙ inv .1 .1)),
     )
@@ -102,7 +102,7 @@ returns c =
     let m = at-loop .loop .memory in
     let hosts = at-loop .loop .hosts in
     let all : i ≡ a .n = omega (arith, inv .0 .0, c .loop-test .left) in
-    let end : at ≡ 768 * a .n = inv .0 .1 .0 ∙ ap (λ (k : ℕ). 768 * k) all in (
+    let end : at ≡ 2432 * a .n = inv .0 .1 .0 ∙ ap (λ (k : ℕ). 2432 * k) all in (
       units-end (a .seen) hosts (a .n) us m i at all ∙ inv .1 .0 ∙ units-start (a .seen) (a .busy) (a .n) (a .units) (a .memory .now),
       memory-end (a .seen) hosts (a .n) us m i at all end ∙ inv .1 .1 ∙ memory-start (a .seen) (a .busy) (a .n) (a .units) (a .memory .now),
     )

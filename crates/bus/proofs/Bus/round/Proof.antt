@@ -28,7 +28,7 @@ returns c =
     let m = a .memory .now in
     let n = c .before .before .up-to-16 .ensures in
     let units = c .units-after .ensures .0 ∙ ap (λ (k : ℕ). unitsIn (unitsAfter (a .seen) (a .busy) (stationsOf (take k us) m)) ++ drop k us) n in
-    let memory = c .units-after .ensures .1 ∙ ap (λ (k : ℕ). memoryOf (unitsAfter (a .seen) (a .busy) (stationsOf (take k us) m)) ++ drop (768 * k) m) n in (
+    let memory = c .units-after .ensures .1 ∙ ap (λ (k : ℕ). memoryOf (unitsAfter (a .seen) (a .busy) (stationsOf (take k us) m)) ++ drop (2432 * k) m) n in (
       λ i. record { controller = at-step .step .ensures .1 .0 i; units = units i; count = a .self .count },
       (at-step .step .ensures .0, (at-step .step .ensures .1 .1, memory)),
     )
