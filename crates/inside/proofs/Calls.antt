@@ -55,6 +55,12 @@ input-length (feeds b h) st = by (feeding (st .unit) b)
 input-length takes st = refl
 input-length raises st = refl
 
+-- No call reaches what was written to it; a byte that is taken stays where it stands.
+pub output-called : (kind : Kind) (call : HostCall) (x : Inside) → called kind call x .output ≡ x .output
+output-called kind (feeds b h) x = refl
+output-called kind takes x = refl
+output-called kind raises x = refl
+
 -- No call ends a request.
 pub request-called : (kind : Kind) (x : Inside) (call : HostCall) → hasRequest x ≡ true → hasRequest (called kind call x) ≡ true
 request-called kind x (feeds b h) r = by (isFed kind (x .state .opening)) (eqb (room (x .state .input)) 0)

@@ -182,7 +182,7 @@ module _ (x : Inside) (b : ℕ) (small : b < 256) (memory : length (x .input) �
   fed-grown : 1 ≤ room q → Grown x (fedWith (gives (withInput (x .state) (queueWith q (b ∷ [])))))
   fed-grown h = record {
     fed = b ∷ [];
-    grown = contents-with (x .input) q (b ∷ []) memory h;
+    grown = contents-with (x .input) q (b ∷ []) (omega (arith, memory)) h;
     count = held-with q (b ∷ []) h;
     memory = length-with (x .input) q (b ∷ []);
     bytes = with-byte (leb 1 (room q)) refl;

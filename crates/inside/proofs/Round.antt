@@ -5,10 +5,12 @@ use mathlib.Core.Path.{_≡_, refl, subst, sym}
 use mathlib.Core.Bool.{Bool, true, false, cond}
 use mathlib.Core.List.{List}
 use lib.Dec.{ltb}
+use lib.ListN.{length}
 use Rattle.field.specs.Field.{byteFrom}
 use Rattle.header.specs.declared.Command.{Command}
 use Rattle.header.specs.declared.Header.{Header}
-use Rattle.kind.specs.Kinds.{kindOf}
+use Rattle.kind.specs.Kinds.{kindOf, verdictOf}
+use Rattle.kind.specs.declared.Kind.{Kind}
 use Rattle.line.specs.Line.{sentOf, takenOf}
 use Rattle.line.specs.declared.Lines.{Lines}
 use Rattle.phase.specs.Phase.{phaseStep, phaseOutput, moves, answered, stored, storedData, byteBuffer, isLast}
@@ -17,6 +19,7 @@ use Rattle.phase.specs.declared.Phase.{Phase}
 use Rattle.phase.specs.declared.Phase.the-variants.{Idle, Selecting, Receiving, Responding, SittingOut}
 use Rattle.phase.specs.declared.Progress.the-variants.{Taking, Answered}
 use Rattle.reply.specs.Reply.{lastNibble}
+use Rattle.serial.proofs.Laws.{length-after}
 use Rattle.serial.specs.Serial.{finished}
 use Rattle.serial.specs.declared.Reply.{Reply}
 use Rattle.inside.specs.Inside.{Inside, withState, taken, responded}
@@ -75,6 +78,10 @@ came (Responding r j sender false) own x seen busy buffer = by (sentOf sender (s
     by true false e f next on = of-its-response r (sends-last r j sender refl e f) refl
     by false more e f next on = as-it-was refl
 came (SittingOut last) own x seen busy buffer = as-it-was refl
+
+-- A command leaves the memory for what is written to the unit as long as it was.
+pub taken-length : (kind : Kind) (x : Inside) (c : Command) (n : ℕ) (d : List ℕ) → length (taken kind x c n d .output) ≡ length (x .output)
+taken-length kind x c n d = length-after (x .state) (verdictOf kind (x .state) c n d .effect) d (x .output)
 
 -- What fits goes on to.
 pub came-fit : {p : Phase} (own : ℕ) {x y : Inside} {seen : Lines} {buffer : List ℕ} → Came p own x seen buffer y → Fit (kindOf own) x → Fit (kindOf own) y

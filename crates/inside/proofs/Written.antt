@@ -77,7 +77,7 @@ module _ (own : ℕ) (x : Inside) (c : Command) (d : List ℕ) where
   abbrev verdict : Verdict
   verdict = verdictOf (kindOf own) (x .state) c (length d) (storedOf d)
 
-  written-by : (v : Verdict) → verdict ≡ v → Write (length d) (room (x .state .output)) v → length (x .output) ≡ 256 → replyStatus (verdict .reply) ≡ 0x00 → outgoing (takenFor own x c d) ≡ outgoing x ++ d
+  written-by : (v : Verdict) → verdict ≡ v → Write (length d) (room (x .state .output)) v → 256 ≤ length (x .output) → replyStatus (verdict .reply) ≡ 0x00 → outgoing (takenFor own x c d) ≡ outgoing x ++ d
   written-by v e (all-stored h) l s =
       let short : length d ≤ 256 = omega arith in
       let whole : storedOf d ≡ d = ap (λ (t : Bool). cond t [] d) (le-ltb 256 (length d) short) in

@@ -16,11 +16,11 @@ use Rattle.inside.specs.Inside.{Inside, taken, replyFor, takenFor}
 abbrev pub outgoing : Inside → List ℕ
 outgoing x = contents (x .output) (x .state .output)
 
--- Of any kind: data for which there is room, where the verdict on a command stores it, in the 256 bytes that the unit is lent for output.
+-- Of any kind: data for which there is room, where the verdict on a command stores it, in the 256 bytes or more that the unit is lent for output.
 abbrev pub StoredBehind : Type 0
 StoredBehind =
     (kind : Kind) (x : Inside) (c : Command) (n : ℕ) (d : List ℕ)
-    → length (x .output) ≡ 256
+    → 256 ≤ length (x .output)
     → verdictOf kind (x .state) c n d .effect ≡ Stores
     → length d ≤ room (x .state .output)
     → outgoing (taken kind x c n d) ≡ outgoing x ++ d
@@ -29,7 +29,7 @@ StoredBehind =
 abbrev pub WrittenBehind : Type 0
 WrittenBehind =
     (own : ℕ) (x : Inside) (c : Command) (d : List ℕ)
-    → length (x .output) ≡ 256
+    → 256 ≤ length (x .output)
     → c .command ≡ 0x04
     → replyStatus (replyFor own x c d) ≡ 0x00
     → outgoing (takenFor own x c d) ≡ outgoing x ++ d

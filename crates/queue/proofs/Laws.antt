@@ -62,19 +62,20 @@ from-snoc : (bytes : List ℕ) (at n : ℕ) → from bytes at (suc n) ≡ from b
 from-snoc bytes at zero = rw add-zero
 from-snoc bytes at (suc n) = rw (add-suc, ← suc-add) (ap (λ (l : List ℕ). getD bytes (at % 256) 0 ∷ l) (from-snoc bytes (suc at) n))
 
-from-stored : (bytes : List ℕ) (at n : ℕ) (bs : List ℕ) → length bytes ≡ 256 → n + length bs ≤ 256 → from (stored bytes (at + n) bs) at (n + length bs) ≡ from bytes at n ++ bs
+from-stored : (bytes : List ℕ) (at n : ℕ) (bs : List ℕ) → 256 ≤ length bytes → n + length bs ≤ 256 → from (stored bytes (at + n) bs) at (n + length bs) ≡ from bytes at n ++ bs
 from-stored bytes at n [] l h = rw (add-zero, append-nil)
 from-stored bytes at n (b ∷ bs) l h =
     let after = set bytes ((at + n) % 256) b in
     let one : from after at (suc n) ≡ from bytes at n ++ (b ∷ []) =
     from-snoc after at n ∙ rw (from-set bytes at n (at + n) b (omega arith) (omega arith), getD-set-same bytes ((at + n) % 256) b 0 (omega arith)) in
+    let same : length after ≡ length bytes = length-set bytes ((at + n) % 256) b in
     let place : suc (at + n) ≡ at + suc n = omega arith in
     let count : n + suc (length bs) ≡ suc n + length bs = omega arith in
     rw (place, count)
-    (from-stored after at (suc n) bs (length-set bytes ((at + n) % 256) b ∙ l) (omega arith) ∙ ap (λ (l : List ℕ). l ++ bs) one ∙ append-assoc (from bytes at n) (b ∷ []) bs)
+    (from-stored after at (suc n) bs (omega (arith, same)) (omega arith) ∙ ap (λ (l : List ℕ). l ++ bs) one ∙ append-assoc (from bytes at n) (b ∷ []) bs)
 
 -- Bytes stand behind what the queue held, if there is room for all of them; one byte is the case of `b ∷ []`.
-pub contents-with : (bytes : List ℕ) (q : Queue) (bs : List ℕ) → length bytes ≡ 256 → length bs ≤ room q → contents (bytesWith bytes q bs) (queueWith q bs) ≡ contents bytes q ++ bs
+pub contents-with : (bytes : List ℕ) (q : Queue) (bs : List ℕ) → 256 ≤ length bytes → length bs ≤ room q → contents (bytesWith bytes q bs) (queueWith q bs) ≡ contents bytes q ++ bs
 contents-with bytes q bs l h =
     rw (held-with q bs h) (simp (tests, h) (from-stored bytes (q .head) (held q) bs l (omega arith)))
 
