@@ -9,9 +9,9 @@ use Rattle.answer.specs.declared.Response.{Response}
 use Rattle.bus.specs.declared.Station.{Station}
 use Rattle.header.specs.declared.Command.{Command}
 use Rattle.inside.specs.Calls.{HostCall, calledBy}
-use Rattle.inside.specs.Inside.{insideOf}
+use Rattle.inside.specs.Inside.{Inside, insideOf}
 use Rattle.inside.specs.Lawful.{Fit}
-use Rattle.inside.proofs.Calls.{Called, unit-called}
+use Rattle.inside.proofs.Calls.{Called, unit-called, output-called}
 use Rattle.inside.proofs.Lawful.{every-lawful}
 use Rattle.kind.specs.Kinds.{kindOf, isShort}
 use Rattle.line.specs.declared.Listener.{Listener}
@@ -28,7 +28,7 @@ use Rattle.delivery.proofs.Promise.{promise-called}
 -- A unit that is sound is so behind a call.
 pub sound-called : {call : HostCall} {st after : Station} → Called call st after → Sound st → Sound after
 sound-called {call} {st} {after} k s = record {
-  room = (λ i. isShort (kindOf (k .own i)) (length (k .buffer i))) ∙ s .room;
+  room = (λ i. isShort (kindOf (k .own i)) (length (k .buffer i)) (length ((ap (λ (x : Inside). x .output) (k .inside) ∙ output-called (kindOf (st .unit .own)) call (insideOf st)) i))) ∙ s .room;
   fit = subst (λ (own : ℕ). Fit (kindOf own) (insideOf after)) (sym (k .own)) (subst (Fit (kindOf (st .unit .own))) (sym (k .inside)) (every-lawful (kindOf (st .unit .own)) .fit-called (insideOf st) call (s .fit)));
 }
 
@@ -69,9 +69,9 @@ one-called f g (suc i) call (that q o) = that q (one-called f g i call o)
 
 -- A unit that is lent another command buffer, where it is long enough.
 pub sound-lent : (buffer : List ℕ) (st : Station) → Sound st → Sound (withBuffer buffer st)
-sound-lent buffer st s = record { room = by (isShort (kindOf (st .unit .own)) (length buffer)) refl; fit = s .fit }
+sound-lent buffer st s = record { room = by (isShort (kindOf (st .unit .own)) (length buffer) (length (st .output))) refl; fit = s .fit }
   where
-    by : (t : Bool) → isShort (kindOf (st .unit .own)) (length buffer) ≡ t → isShort (kindOf (st .unit .own)) (length (cond t (st .buffer) buffer)) ≡ false
+    by : (t : Bool) → isShort (kindOf (st .unit .own)) (length buffer) (length (st .output)) ≡ t → isShort (kindOf (st .unit .own)) (length (cond t (st .buffer) buffer)) (length (st .output)) ≡ false
     by true e = s .room
     by false e = e
 

@@ -67,7 +67,7 @@ new-fresh st n =
     let own : st .unit .own ≡ n .own = ap (λ (u : Unit). u .own) (n .is-new) in
     let fit : Fit (kindOf (n .own)) (insideOf st) = every-lawful (kindOf (n .own)) .fit-new (insideOf st) (ap (λ (u : Unit). u .serial) (n .is-new)) (n .lent) in (
       idles (ap (λ (u : Unit). u .phase) (n .is-new)),
-      record { room = ap (λ (k : ℕ). isShort (kindOf k) (length (st .buffer))) own ∙ n .room; fit = subst (λ (k : ℕ). Fit (kindOf k) (insideOf st)) (sym own) fit },
+      record { room = ap (λ (k : ℕ). isShort (kindOf k) (length (st .buffer)) (length (st .output))) own ∙ n .room; fit = subst (λ (k : ℕ). Fit (kindOf k) (insideOf st)) (sym own) fit },
     )
 
 starts : (T : Moment) (w : World) → QuietStart w → On T w
@@ -174,9 +174,9 @@ every-outcome w v q r busy = rw (level-fine (every-run w v q r), on-lent (every-
 pub every-step : Steps
 every-step w v q r busy = ((eventIn (v .controller) (levels v) (busy .here) (v .lent), every-outcome w v q r busy), all-map unit-step (on-sound (every-run w v q r)))
   where
-    unit-step : (st : Station) → Sound st → (host : Bool) → (u : Unit) × (stepping (st .unit) (levels v) host (st .buffer) (st .input) ≡ gives u)
+    unit-step : (st : Station) → Sound st → (host : Bool) → (u : Unit) × (stepping (st .unit) (levels v) host (st .buffer) (st .input) (st .output) ≡ gives u)
     unit-step st s host =
-        let e : stepping (st .unit) (levels v) host (st .buffer) (st .input) ≡ gives (unitStep (st .unit) (levels v) host (st .buffer) (st .input)) = rw (level-fine (every-run w v q r), s .room) in
+        let e : stepping (st .unit) (levels v) host (st .buffer) (st .input) (st .output) ≡ gives (unitStep (st .unit) (levels v) host (st .buffer) (st .input)) = rw (level-fine (every-run w v q r), s .room) in
         (unitStep (st .unit) (levels v) host (st .buffer) (st .input), e)
 
 -- What a round of a frame makes of its units.

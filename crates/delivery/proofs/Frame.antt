@@ -95,7 +95,7 @@ control-buffer c seen host lent response n e = let a : ltb 15 (seen .nibble) ≡
 
 -- A unit keeps its code.
 pub own-kept : (st : Station) (seen : Lines) (busy : Bool) → stationStep st seen busy .unit .own ≡ st .unit .own
-own-kept st seen busy = by (ltb 15 (seen .nibble)) (isShort (kindOf (st .unit .own)) (length (st .buffer))) (seen .bav)
+own-kept st seen busy = by (ltb 15 (seen .nibble)) (isShort (kindOf (st .unit .own)) (length (st .buffer)) (length (st .output))) (seen .bav)
   where
     by : (a b c : Bool) → unitAfter
         (cond a (refused 5) (cond b (refused 11) (gives (cond c (lowStep (st .unit) (seen .hsk) (phaseStep (st .unit .phase) (st .unit .own) (st .unit .serial) seen busy (st .buffer) (st .input))) (highStep (st .unit) (seen .hsk))))))
@@ -263,7 +263,7 @@ module _ (T : Moment) (f : Frame) (found : List ℕ) (timeout : ℕ) (ring : Rin
       let step = low-step st seen host small (p .1 .room) low in
       let ok = sound-low step (p .1) in (
         listens Ready 0 f-next
-            (subst (λ (x : Phase). Heard (bytesFor c d) Ready 0 x (stationStep st seen host .buffer)) (sym (fresh-selects step high (p .0))) (h-none (roomy (kindOf (stationStep st seen host .unit .own)) (length (stationStep st seen host .buffer)) (ok .room))))
+            (subst (λ (x : Phase). Heard (bytesFor c d) Ready 0 x (stationStep st seen host .buffer)) (sym (fresh-selects step high (p .0))) (h-none (roomy (kindOf (stationStep st seen host .unit .own)) (length (stationStep st seen host .buffer)) (length (stationStep st seen host .output)) (ok .room))))
             (λ l. absurd (omega arith)) (λ l. absurd (omega arith)),
         ok,
       )) (busy .there) a)) (nobody-speaks (all-map (λ st p. fresh-quiet (p .0)) a)) (falls (begin-less (lastNibble f) (listening f timeout)))

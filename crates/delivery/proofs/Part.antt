@@ -41,7 +41,7 @@ pub record Stepped (st : Station) (seen : Lines) (busy : Bool) (after : Station)
   pub buffer : after .buffer ≡ phaseBuffer (st .unit .phase) seen (st .buffer)
   pub inside : insideOf after ≡ insideAfter (st .unit .phase) (st .unit .own) (insideOf st) seen busy (st .buffer)
 
-pub low-step : (st : Station) (seen : Lines) (busy : Bool) → seen .nibble < 16 → isShort (kindOf (st .unit .own)) (length (st .buffer)) ≡ false → seen .bav ≡ true → Stepped st seen busy (stationStep st seen busy)
+pub low-step : (st : Station) (seen : Lines) (busy : Bool) → seen .nibble < 16 → isShort (kindOf (st .unit .own)) (length (st .buffer)) (length (st .output)) ≡ false → seen .bav ≡ true → Stepped st seen busy (stationStep st seen busy)
 low-step st seen busy n room low =
     let a : ltb 15 (seen .nibble) ≡ false = le-ltb 15 (seen .nibble) (omega arith) in
     record { own = rw (a, room, low); asking = rw (a, room, low); phase = rw (a, room, low); buffer = rw (a, room, low); inside = rw (a, room, low) }

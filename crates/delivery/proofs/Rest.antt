@@ -129,7 +129,7 @@ module _ (ring : Ring) (a : Codes ring) where
   codes-ended f status h = codes-cond (eqb status 0x00) (ringBy (f .kind) ring (f .command)) ring (codes-by (f .kind) (f .command) h) a
 
 -- A unit that no frame has reached stays so while HSK is high.
-pub high-step : (st : Station) (seen : Lines) (busy : Bool) → seen .nibble < 16 → isShort (kindOf (st .unit .own)) (length (st .buffer)) ≡ false → seen .bav ≡ false
+pub high-step : (st : Station) (seen : Lines) (busy : Bool) → seen .nibble < 16 → isShort (kindOf (st .unit .own)) (length (st .buffer)) (length (st .output)) ≡ false → seen .bav ≡ false
     → (stationStep st seen busy .unit .phase ≡ Idle) × ((stationStep st seen busy .buffer ≡ st .buffer) × (insideOf (stationStep st seen busy) ≡ insideOf st))
 high-step st seen busy n room high =
     let a : ltb 15 (seen .nibble) ≡ false = le-ltb 15 (seen .nibble) (omega arith) in
@@ -137,7 +137,7 @@ high-step st seen busy n room high =
 
 sound-high : {st after : Station} → after .unit .own ≡ st .unit .own → after .buffer ≡ st .buffer → insideOf after ≡ insideOf st → Sound st → Sound after
 sound-high {st} {after} o b i s = record {
-  room = (λ k. isShort (kindOf (o k)) (length (b k))) ∙ s .room;
+  room = (λ k. isShort (kindOf (o k)) (length (b k)) (length (i k .output))) ∙ s .room;
   fit = subst (λ (own : ℕ). Fit (kindOf own) (insideOf after)) (sym o) (subst (Fit (kindOf (st .unit .own))) (sym i) (s .fit));
 }
 

@@ -1,31 +1,25 @@
 -- A frame round by round: where the controller is, where every unit is, and that each round leads from one such stage to the next.
-use Prim.Native.Nat.{ℕ, suc, _+_, _-_, _*_, _/_, _%_, _<_}
+use Prim.Native.Nat.{ℕ, suc, _+_, _*_, _/_, _%_, _<_}
 use native.Mathlib.Omega.{arith}
 use mathlib.Core.Path.{_≡_, refl, sym, _∙_, ap, subst}
 use mathlib.Core.Bool.{Bool, true, false, cond, true≢false}
 use mathlib.Core.List.{List, []}
 use lib.Dec.{lit<}
-use lib.ListN.{length, getD, set, length-set}
+use lib.ListN.{length, getD}
 use Rattle.bus.specs.Bus.{levelsWith, stationStep, unitsAfter}
 use Rattle.bus.specs.declared.Station.{Station}
-use Rattle.field.specs.Field.{byteFrom}
 use Rattle.field.proofs.Laws.{nibble-at, digits-below}
 use Rattle.header.specs.declared.Command.{Command}
 use Rattle.inside.specs.Inside.{Inside, insideOf, replyFor, takenFor}
 use Rattle.inside.specs.Lawful.{Fit}
 use Rattle.inside.proofs.Round.{came, came-fit}
 use Rattle.kind.specs.Kinds.{kindOf, isShort}
-use Rattle.line.specs.Line.{takenOf, sendOf, sentOf, senderHsk, senderNibble}
+use Rattle.line.specs.Line.{sendOf, sentOf, senderHsk, senderNibble}
 use Rattle.line.specs.declared.Lines.{Lines}
-use Rattle.line.specs.declared.Listener.{Listener}
 use Rattle.line.specs.declared.Sender.{Sender}
 use Rattle.line.specs.declared.Sender.the-variants.{Next, Placed, Kept}
 use Rattle.message.specs.Nibbles.{nibbleIn}
-use Rattle.phase.specs.Phase.{phaseBuffer, takingBuffer, byteBuffer, bufferWith, isStored, withByte}
-use Rattle.phase.specs.declared.Partial.{Partial}
-use Rattle.phase.specs.declared.Progress.the-variants.{Taking, Answered}
-use Rattle.phase.specs.declared.Phase.{Phase}
-use Rattle.phase.specs.declared.Phase.the-variants.{Idle, Selecting, Receiving, Responding, SittingOut}
+use Rattle.phase.proofs.Lengths.{phase-buffer, phase-output}
 use Rattle.serial.specs.declared.Reply.{Reply}
 use Rattle.unit.specs.Unit.{pullsHsk}
 use Rattle.whole.specs.Whole.{bytesFor, Sent}
@@ -47,26 +41,13 @@ pub cond-length : (t : Bool) (a b : List ℕ) (n : ℕ) → length a ≡ n → l
 cond-length true a b n e g = e
 cond-length false a b n e g = g
 
-put-length : (n place x : ℕ) (b : List ℕ) → length (bufferWith n place x b) ≡ length b
-put-length n place x b = cond-length (isStored n place) (set b (place - 9) x) b (length b) (length-set b (place - 9) x) refl
-
-taking-length : (ear : Listener) (p : Partial) (seen : Lines) (b : List ℕ) → length (takingBuffer ear p seen b) ≡ length b
-taking-length ear p seen b =
-    cond-length (takenOf ear (seen .hsk)) (cond (p .half) (byteBuffer p (byteFrom (p .low) (seen .nibble)) b) b) b (length b)
-    (cond-length (p .half) (byteBuffer p (byteFrom (p .low) (seen .nibble)) b) b (length b)
-    (put-length (withByte (p .header) (p .place) (byteFrom (p .low) (seen .nibble)) .«data_length») (p .place) (byteFrom (p .low) (seen .nibble)) b) refl) refl
-
-phase-length : (x : Phase) (seen : Lines) (b : List ℕ) → length (phaseBuffer x seen b) ≡ length b
-phase-length Idle seen b = refl
-phase-length (Selecting ear half low) seen b = refl
-phase-length (Receiving ear (Taking p)) seen b = taking-length ear p seen b
-phase-length (Receiving ear (Answered r)) seen b = refl
-phase-length (Responding reply i sender wait) seen b = refl
-phase-length (SittingOut last) seen b = refl
-
 pub sound-low : {st st′ : Station} {seen : Lines} {busy : Bool} → Stepped st seen busy st′ → Sound st → Sound st′
 sound-low {st} {st′} {seen} {busy} e s = record {
-  room = (λ k. isShort (kindOf (e .own k)) ((ap length (e .buffer) ∙ phase-length (st .unit .phase) seen (st .buffer)) k)) ∙ s .room;
+  room =
+      (λ k.
+      isShort (kindOf (e .own k)) ((ap length (e .buffer) ∙ phase-buffer (st .unit .phase) seen (st .buffer)) k)
+      ((ap (λ (x : Inside). length (x .output)) (e .inside) ∙ phase-output (st .unit .phase) (st .unit .own) (st .unit .serial) seen (st .buffer) (st .output)) k))
+      ∙ s .room;
   fit =
       subst (λ (own : ℕ). Fit (kindOf own) (insideOf st′)) (sym (e .own))
       (subst (Fit (kindOf (st .unit .own))) (sym (e .inside)) (came-fit (st .unit .own) (came (st .unit .phase) (st .unit .own) (insideOf st) seen busy (st .buffer)) (s .fit)));

@@ -44,7 +44,7 @@ use Rattle.delivery.specs.World.{World, Busy, levels, round, Different}
 
 -- A unit whose lent memory is long enough, and whose inside fits its kind.
 pub record Sound (st : Station) : Type 0 where
-  pub room : isShort (kindOf (st .unit .own)) (length (st .buffer)) ≡ false
+  pub room : isShort (kindOf (st .unit .own)) (length (st .buffer)) (length (st .output)) ≡ false
   pub fit : Fit (kindOf (st .unit .own)) (insideOf st)
 
 -- Own code or code 0.

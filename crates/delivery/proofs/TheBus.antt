@@ -6,7 +6,7 @@ use native.Mathlib.Omega.{arith}
 use mathlib.Core.Path.{_≡_, refl, sym, _∙_, ap, subst}
 use mathlib.Core.Bool.{Bool, true, false, cond}
 use mathlib.Core.List.{List, [], _∷_, _++_, append-assoc, append-nil}
-use borrow.Author.Tests.{le-ltb, lt-ltb, ltb-true, ltb-false}
+use borrow.Author.Tests.{lt-ltb, ltb-true, ltb-false}
 use lib.Dec.{ltb}
 use lib.ListN.{length, take, drop, getD, set, length-append, length-drop, length-set}
 use lib.Seq.{length-take-le, take-set-lt, take-suc-set, getD-take}
@@ -24,6 +24,7 @@ use Rattle.inside.specs.Inside.{Inside}
 use Rattle.inside.specs.Lawful.{QueueLent, Lent}
 use Rattle.inside.proofs.Calls.{input-length}
 use Rattle.kind.specs.Kinds.{kindOf, isShort}
+use Rattle.kind.proofs.Laws.{not-short, lent-most}
 use Rattle.kind.specs.declared.Kind.{Kind}
 use Rattle.kind.specs.declared.Kind.the-variants.{Serial as SerialUnit}
 use Rattle.message.proofs.Fields.{below-take, below-drop}
@@ -67,31 +68,33 @@ with-all {b} {c} {vs} (u ∷ us) h few =
 lent-to : (kind : Kind) (x : Inside) → QueueLent x → Lent kind x
 lent-to SerialUnit x q = q
 
-new-at : (own retry : ℕ) (m : List ℕ) → (own ≡ 0 → ⊥) → 768 ≤ length m → Below 256 m → New (stationAt (newUnit own retry) m)
+new-at : (own retry : ℕ) (m : List ℕ) → (own ≡ 0 → ⊥) → 2432 ≤ length m → Below 256 m → New (stationAt (newUnit own retry) m)
 new-at own retry m coded h b =
-    let l : length (take 256 m) ≡ 256 = part-length 0 m (omega arith) refl in
+    let buffer : length (take 256 m) ≡ 256 = part-length 0 256 m (omega arith) refl in
+    let output : length (take 1920 (drop 512 m)) ≡ 1920 = part-length 512 1920 m (omega arith) refl in
+    let most = lent-most (kindOf own) in
     record {
       own = own;
       retry = retry;
       coded = coded;
       is-new = refl;
-      room = le-ltb (length (take 256 m)) 256 (omega arith);
-      lent = lent-to (kindOf own) _ (part-length 256 m (omega arith) refl, below-take 256 (drop 256 m) (below-drop 256 m b));
+      room = not-short (kindOf own) (length (take 256 m)) (length (take 1920 (drop 512 m))) (omega arith) (omega arith);
+      lent = lent-to (kindOf own) _ (part-length 256 256 m (omega arith) refl, below-take 256 (drop 256 m) (below-drop 256 m b));
     }
 
-all-new : {us : List Unit} (m : List ℕ) → Made us → 768 * length us ≤ length m → Below 256 m → All New (stationsOf us m)
+all-new : {us : List Unit} (m : List ℕ) → Made us → 2432 * length us ≤ length m → Below 256 m → All New (stationsOf us m)
 all-new m no-unit h b = none
 all-new m (one-more {own = own} {retry = retry} coded apart made) h b =
-    let l : length (drop 768 m) ≡ length m - 768 = length-drop 768 m in
-    also (new-at own retry m coded (omega arith) b) (all-new (drop 768 m) made (omega arith) (below-drop 768 m b))
+    let l : length (drop 2432 m) ≡ length m - 2432 = length-drop 2432 m in
+    also (new-at own retry m coded (omega arith) b) (all-new (drop 2432 m) made (omega arith) (below-drop 2432 m b))
 
 all-apart : (code : ℕ) {us : List Unit} (m : List ℕ) → All (λ (u : Unit). u .own ≡ code → ⊥) us → All (λ (st : Station). st .unit .own ≡ code → ⊥) (stationsOf us m)
 all-apart code m none = none
-all-apart code m (also p a) = also p (all-apart code (drop 768 m) a)
+all-apart code m (also p a) = also p (all-apart code (drop 2432 m) a)
 
 all-different : {us : List Unit} (m : List ℕ) → Made us → Different (stationsOf us m)
 all-different m no-unit = nobody
-all-different m (one-more {own = own} coded apart made) = another (all-apart own (drop 768 m) apart) (all-different (drop 768 m) made)
+all-different m (one-more {own = own} coded apart made) = another (all-apart own (drop 2432 m) apart) (all-different (drop 2432 m) made)
 
 pub starts : Starts
 starts timeout us lent response memory eight made few room bytes =
@@ -121,14 +124,14 @@ outcomes h busy =
     let b = h .bus in
     ap (λ (us : List Unit). stepping (b .controller) (levelsLeft (pullsOf (b .controller .stage)) us) (isOdd (busy / 65536)) (h .lent) (h .response)) (sym (units-alone (take (counted b) (b .units)) (h .memory)))
 
--- A unit whose parts are 256 bytes each.
+-- A unit whose parts are as long as a bus lends them.
 record Parts (st : Station) : Type 0 where
   buffer : length (st .buffer) ≡ 256
   input : length (st .input) ≡ 256
-  output : length (st .output) ≡ 256
+  output : length (st .output) ≡ 1920
 
-parts-at : (u : Unit) (m : List ℕ) → 768 ≤ length m → Parts (stationAt u m)
-parts-at u m h = record { buffer = part-length 0 m (omega arith) refl; input = part-length 256 m (omega arith) refl; output = part-length 512 m (omega arith) refl }
+parts-at : (u : Unit) (m : List ℕ) → 2432 ≤ length m → Parts (stationAt u m)
+parts-at u m h = record { buffer = part-length 0 256 m (omega arith) refl; input = part-length 256 256 m (omega arith) refl; output = part-length 512 1920 m (omega arith) refl }
 
 parts-called : (call : HostCall) (st : Station) → Parts st → Parts (calledBy call st)
 parts-called (feeds b h) st p = record { buffer = p .buffer; input = input-length (feeds b h) st ∙ p .input; output = p .output }
@@ -136,7 +139,7 @@ parts-called takes st p = record { buffer = p .buffer; input = p .input; output 
 parts-called raises st p = record { buffer = p .buffer; input = p .input; output = p .output }
 
 parts-lent : (buffer : List ℕ) → length buffer ≡ 256 → (st : Station) → Parts st → Parts (withBuffer buffer st)
-parts-lent buffer l st p = record { buffer = by (isShort (kindOf (st .unit .own)) (length buffer)); input = p .input; output = p .output }
+parts-lent buffer l st p = record { buffer = by (isShort (kindOf (st .unit .own)) (length buffer) (length (st .output))); input = p .input; output = p .output }
   where
     by : (t : Bool) → length (cond t (st .buffer) buffer) ≡ 256
     by true = p .buffer
@@ -154,7 +157,7 @@ front-length {h} t =
 
 stations-length : (us : List Unit) (m : List ℕ) → length (stationsOf us m) ≡ length us
 stations-length [] m = refl
-stations-length (u ∷ us) m = ap suc (stations-length us (drop 768 m))
+stations-length (u ∷ us) m = ap suc (stations-length us (drop 2432 m))
 
 -- Something done at one unit of the code's bus is done at that unit of the world.
 abbrev anyUnit : Unit
@@ -178,10 +181,10 @@ module _ (h : Caller) (t : Typed h) (i : ℕ) (f : Station → Station) (keeps :
 
   parts : i < n → Parts st
   parts below =
-      let m : length (h .memory) ≡ 12288 = t .room in
-      let l : length (drop (768 * i) (h .memory)) ≡ length (h .memory) - 768 * i = length-drop (768 * i) (h .memory) in
+      let m : length (h .memory) ≡ 38912 = t .room in
+      let l : length (drop (2432 * i) (h .memory)) ≡ length (h .memory) - 2432 * i = length-drop (2432 * i) (h .memory) in
       let most′ = most in
-      keeps (stationIn h i) (parts-at (getD (h .bus .units) i anyUnit) (drop (768 * i) (h .memory)) (omega arith))
+      keeps (stationIn h i) (parts-at (getD (h .bus .units) i anyUnit) (drop (2432 * i) (h .memory)) (omega arith))
 
   module _ (after : List Station) (hit : i < length ss → after ≡ set ss i (f (getD ss i (newStation anyUnit)))) (miss : length ss ≤ i → after ≡ ss) where
     at-unit : worldIn (atUnit h i f) ≡ record { controller = h .bus .controller; units = after; lent = h .lent; response = h .response }
@@ -193,13 +196,13 @@ module _ (h : Caller) (t : Typed h) (i : ℕ) (f : Station → Station) (keeps :
         by : (x : Bool) → ltb i n ≡ x → worldIn (cond x (withStation h i st) h) ≡ record { controller = h .bus .controller; units = after; lent = h .lent; response = h .response }
         by true e =
             let below : i < n = ltb-true i n e in
-            let m : length (h .memory) ≡ 12288 = t .room in
+            let m : length (h .memory) ≡ 38912 = t .room in
             let l : length us ≡ n = front-length t in
             let l′ : length ss ≡ n = long in
             let most′ = most in
             let p = parts below in
             let same : stationIn h i ≡ getD ss i (newStation anyUnit) =
-            sym (station-at i us (h .memory) anyUnit (newStation anyUnit) (omega arith) ∙ ap (λ (u : Unit). stationAt u (drop (768 * i) (h .memory))) (getD-take n (h .bus .units) i anyUnit below)) in
+            sym (station-at i us (h .memory) anyUnit (newStation anyUnit) (omega arith) ∙ ap (λ (u : Unit). stationAt u (drop (2432 * i) (h .memory))) (getD-take n (h .bus .units) i anyUnit below)) in
             let units : unitsOf (withStation h i st .bus) (withStation h i st .memory) ≡ after =
             ap (λ (x : List Unit). stationsOf x (withStation h i st .memory)) (take-set-lt n (h .bus .units) i (st .unit) below)
             ∙ stations-set i us (h .memory) st (p .buffer) (p .input) (p .output) (omega arith) (omega arith)
@@ -219,14 +222,14 @@ module _ (h : Caller) (t : Typed h) (i : ℕ) (f : Station → Station) (keeps :
       by : (x : Bool) → ltb i n ≡ x → Typed (cond x (withStation h i st) h)
       by true e =
           let below : i < n = ltb-true i n e in
-          let m : length (h .memory) ≡ 12288 = t .room in
+          let m : length (h .memory) ≡ 38912 = t .room in
           let most′ = most in
           let p = parts below in
-          let own : length (bytesOf st) ≡ 768 = bytes-length st (p .buffer) (p .input) (p .output) in
-          let front : length (take (768 * i) (h .memory)) ≡ 768 * i = length-take-le (768 * i) (h .memory) (omega arith) in
-          let back : length (drop (768 * i + 768) (h .memory)) ≡ length (h .memory) - (768 * i + 768) = length-drop (768 * i + 768) (h .memory) in
-          let one : length (bytesOf st ++ drop (768 * i + 768) (h .memory)) ≡ length (bytesOf st) + length (drop (768 * i + 768) (h .memory)) = length-append (bytesOf st) (drop (768 * i + 768) (h .memory)) in
-          let two = length-append (take (768 * i) (h .memory)) (bytesOf st ++ drop (768 * i + 768) (h .memory)) in
+          let own : length (bytesOf st) ≡ 2432 = bytes-length st (p .buffer) (p .input) (p .output) in
+          let front : length (take (2432 * i) (h .memory)) ≡ 2432 * i = length-take-le (2432 * i) (h .memory) (omega arith) in
+          let back : length (drop (2432 * i + 2432) (h .memory)) ≡ length (h .memory) - (2432 * i + 2432) = length-drop (2432 * i + 2432) (h .memory) in
+          let one : length (bytesOf st ++ drop (2432 * i + 2432) (h .memory)) ≡ length (bytesOf st) + length (drop (2432 * i + 2432) (h .memory)) = length-append (bytesOf st) (drop (2432 * i + 2432) (h .memory)) in
+          let two = length-append (take (2432 * i) (h .memory)) (bytesOf st ++ drop (2432 * i + 2432) (h .memory)) in
           record { places = length-set (h .bus .units) i (st .unit) ∙ t .places; room = omega arith }
       by false e = t
 
@@ -276,15 +279,15 @@ typed-round {h} busy t =
     let seen = levelsOf b in
     let after = stationsAfter b seen busy (h .memory) in
     let slots : length (b .units) ≡ 16 = t .places in
-    let room : length (h .memory) ≡ 12288 = t .room in
+    let room : length (h .memory) ≡ 38912 = t .room in
     let most : n ≤ 16 = counted-most b in
     let l : length us ≡ n = front-length t in
     let fresh : length (unitsIn after) ≡ length us = units-length seen busy us (h .memory) in
     let old : length (drop n (b .units)) ≡ length (b .units) - n = length-drop n (b .units) in
     let units = length-append (unitsIn after) (drop n (b .units)) in
-    let bytes : length (memoryOf after) ≡ 768 * length us = memory-length seen busy us (h .memory) (omega arith) in
-    let rest : length (drop (768 * n) (h .memory)) ≡ length (h .memory) - 768 * n = length-drop (768 * n) (h .memory) in
-    let memory = length-append (memoryOf after) (drop (768 * n) (h .memory)) in
+    let bytes : length (memoryOf after) ≡ 2432 * length us = memory-length seen busy us (h .memory) (omega arith) in
+    let rest : length (drop (2432 * n) (h .memory)) ≡ length (h .memory) - 2432 * n = length-drop (2432 * n) (h .memory) in
+    let memory = length-append (memoryOf after) (drop (2432 * n) (h .memory)) in
     record { places = omega arith; room = omega arith }
 
 typed-called : {h : Caller} (call : Call) → Fitting call → Typed h → Typed (calledOn h call)

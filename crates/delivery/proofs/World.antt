@@ -26,6 +26,6 @@ the-bus b busy lent response memory sixteen room =
     let at : Lines → World = λ x. record { controller = controllerStepped (b .controller) x here lent response; units = unitsAfter x busy (unitsOf b memory); lent = lent; response = bufferAfter (b .controller) x here lent response } in
     let front : take n (unitsIn after ++ drop n (b .units)) ≡ unitsIn after = take-at (unitsIn after) (drop n (b .units)) n (units-length seen busy us memory ∙ l) in
     let units : stationsOf (take n (unitsIn after ++ drop n (b .units))) (memoryAfter b seen busy memory) ≡ after =
-    ap (λ (x : List Unit). stationsOf x (memoryAfter b seen busy memory)) front ∙ units-back seen busy us memory (drop (768 * n) memory) (omega arith) in
+    ap (λ (x : List Unit). stationsOf x (memoryAfter b seen busy memory)) front ∙ units-back seen busy us memory (drop (2432 * n) memory) (omega arith) in
     (λ k. record { controller = at seen .controller; units = units k; lent = lent; response = at seen .response })
     ∙ ap (λ (x : List Unit). at (levelsLeft (pullsOf (b .controller .stage)) x)) (sym (units-alone us memory))

@@ -53,7 +53,7 @@ inFrame (Listening f ear taken quiet) = true
 abbrev pub withBuffer : List ℕ → Station → Station
 withBuffer buffer st = record {
   unit = st .unit;
-  buffer = cond (isShort (kindOf (st .unit .own)) (length buffer)) (st .buffer) buffer;
+  buffer = cond (isShort (kindOf (st .unit .own)) (length buffer) (length (st .output))) (st .buffer) buffer;
   input = st .input;
   output = st .output;
 }

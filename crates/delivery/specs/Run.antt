@@ -26,7 +26,7 @@ pub record New (st : Station) : Type 0 where
   pub retry : ℕ
   pub coded : own ≡ 0 → ⊥
   pub is-new : st .unit ≡ newUnit own retry
-  pub room : isShort (kindOf own) (length (st .buffer)) ≡ false
+  pub room : isShort (kindOf own) (length (st .buffer)) (length (st .output)) ≡ false
   pub lent : Lent (kindOf own) (insideOf st)
 
 pub record QuietStart (w : World) : Type 0 where
@@ -53,4 +53,4 @@ Steps =
     → Run w v
     → (busy : Busy)
     → ((e : Event) × (outcome v busy ≡ gives e))
-    × All (λ (st : Station). (host : Bool) → (u : Unit) × (stepping (st .unit) (levels v) host (st .buffer) (st .input) ≡ gives u)) (v .units)
+    × All (λ (st : Station). (host : Bool) → (u : Unit) × (stepping (st .unit) (levels v) host (st .buffer) (st .input) (st .output) ≡ gives u)) (v .units)

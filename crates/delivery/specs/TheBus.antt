@@ -34,7 +34,7 @@ pub record Caller : Type 0 where
 -- What the types say of these.
 pub record Typed (h : Caller) : Type 0 where
   pub places : length (h .bus .units) ≡ 16
-  pub room : length (h .memory) ≡ 12288
+  pub room : length (h .memory) ≡ 38912
 
 abbrev pub worldIn : Caller → World
 worldIn h = worldOf (h .bus) (h .lent) (h .response) (h .memory)
@@ -65,7 +65,7 @@ Starts =
     → 8 ≤ timeout
     → Made us
     → length us ≤ 16
-    → length memory ≡ 12288
+    → length memory ≡ 38912
     → Below 256 memory
     → Begun us (callerWith timeout us lent response memory)
 
@@ -87,16 +87,16 @@ Rounds = (h : Caller) (busy : ℕ) → Typed h → worldIn (roundOn h busy) ≡ 
 abbrev pub Outcomes : Type 0
 Outcomes = (h : Caller) (busy : ℕ) → outcomeOf (h .bus) (levelsOf (h .bus)) busy (h .lent) (h .response) ≡ outcome (worldIn h) (busyOf busy)
 
--- The unit at place i with its 768 bytes of the memory; and another in its place, with its bytes in theirs.
+-- The unit at place i with its 2,432 bytes of the memory; and another in its place, with its bytes in theirs.
 abbrev pub stationIn : Caller → ℕ → Station
-stationIn h i = stationAt (getD (h .bus .units) i (newUnit 1 20)) (drop (768 * i) (h .memory))
+stationIn h i = stationAt (getD (h .bus .units) i (newUnit 1 20)) (drop (2432 * i) (h .memory))
 
 abbrev pub withStation : Caller → ℕ → Station → Caller
 withStation h i st = record {
   bus = busOf (h .bus .controller) (set (h .bus .units) i (st .unit)) (h .bus .count);
   lent = h .lent;
   response = h .response;
-  memory = take (768 * i) (h .memory) ++ (bytesOf st ++ drop (768 * i + 768) (h .memory));
+  memory = take (2432 * i) (h .memory) ++ (bytesOf st ++ drop (2432 * i + 2432) (h .memory));
 }
 
 -- Something done at it, if there is one at that place.

@@ -56,7 +56,7 @@ abbrev pub TheBus : Type 0
 TheBus =
     (b : Bus) (busy : ℕ) (lent response memory : List ℕ)
     → length (b .units) ≡ 16
-    → length memory ≡ 12288
+    → length memory ≡ 38912
     → worldAfter b busy lent response memory ≡ round (worldOf b lent response memory) (record { here = isOdd (busy / 65536); there = busy })
 
 -- Different codes.
