@@ -45,7 +45,7 @@ has-after seen hosts here = (isOdd hosts, here)
 has-after seen hosts (there h) = let n = has-after seen (hosts / 2) h in (n .0, there (n .1))
 
 -- A round with BAV high.
-high-unit : (st : Station) (seen : Lines) (host : Bool) → seen .nibble < 16 → isShort (kindOf (st .unit .own)) (length (st .buffer)) ≡ false → seen .bav ≡ false → stationStep st seen host .unit ≡ highStep (st .unit) (seen .hsk)
+high-unit : (st : Station) (seen : Lines) (host : Bool) → seen .nibble < 16 → isShort (kindOf (st .unit .own)) (length (st .buffer)) (length (st .output)) ≡ false → seen .bav ≡ false → stationStep st seen host .unit ≡ highStep (st .unit) (seen .hsk)
 high-unit st seen host n room high =
     let a : ltb 15 (seen .nibble) ≡ false = le-ltb 15 (seen .nibble) (omega arith) in
     rw (a, room, high)

@@ -59,29 +59,29 @@ next u seen busy buffer input = phaseStep (u .phase) (u .own) (u .serial) seen b
 data Moves (u : Unit) : UnitMove → Type 0 where
   keeps : {m : UnitMove} → Kept u (moved u m) → ((row : ℕ) → rowAfter (u .own) row m ≡ row) → Moves u m
   sees-low :
-      (seen : Lines) (busy : Bool) (buffer input : List ℕ) → isSeen (u .own) seen buffer ≡ true → seen .bav ≡ true → moved u (steps seen busy buffer input) ≡ lowStep u (seen .hsk) (next u seen busy buffer input)
-      → Moves u (steps seen busy buffer input)
+      (seen : Lines) (busy : Bool) (buffer input output : List ℕ) → isSeen (u .own) seen buffer output ≡ true → seen .bav ≡ true → moved u (steps seen busy buffer input output) ≡ lowStep u (seen .hsk) (next u seen busy buffer input)
+      → Moves u (steps seen busy buffer input output)
   sees-high :
-      (seen : Lines) (busy : Bool) (buffer input : List ℕ) → isSeen (u .own) seen buffer ≡ true → seen .bav ≡ false → moved u (steps seen busy buffer input) ≡ highStep u (seen .hsk)
-      → Moves u (steps seen busy buffer input)
+      (seen : Lines) (busy : Bool) (buffer input output : List ℕ) → isSeen (u .own) seen buffer output ≡ true → seen .bav ≡ false → moved u (steps seen busy buffer input output) ≡ highStep u (seen .hsk)
+      → Moves u (steps seen busy buffer input output)
 
 moves : (u : Unit) (m : UnitMove) → Moves u m
-moves u (steps seen busy buffer input) = by (ltb 15 (seen .nibble)) refl (isShort (kindOf (u .own)) (length buffer)) refl (seen .bav) refl
+moves u (steps seen busy buffer input output) = by (ltb 15 (seen .nibble)) refl (isShort (kindOf (u .own)) (length buffer) (length output)) refl (seen .bav) refl
   where
     after : Bool → Bool → Bool → Unit
     after a b c = unitAfter (cond a (refused 5) (cond b (refused 11) (gives (cond c (lowStep u (seen .hsk) (next u seen busy buffer input)) (highStep u (seen .hsk)))))) u
 
-    view : {a b : Bool} → ltb 15 (seen .nibble) ≡ a → isShort (kindOf (u .own)) (length buffer) ≡ b → isSeen (u .own) seen buffer ≡ cond a false (cond b false true)
+    view : {a b : Bool} → ltb 15 (seen .nibble) ≡ a → isShort (kindOf (u .own)) (length buffer) (length output) ≡ b → isSeen (u .own) seen buffer output ≡ cond a false (cond b false true)
     view e f = λ k. cond (e k) false (cond (f k) false true)
 
-    not-seen : isSeen (u .own) seen buffer ≡ false → (row : ℕ) → rowAfter (u .own) row (steps seen busy buffer input) ≡ row
+    not-seen : isSeen (u .own) seen buffer output ≡ false → (row : ℕ) → rowAfter (u .own) row (steps seen busy buffer input output) ≡ row
     not-seen e row = ap (λ (t : Bool). cond t (cond (seen .bav) 0 (suc row)) row) e
 
-    by : (a : Bool) → ltb 15 (seen .nibble) ≡ a → (b : Bool) → isShort (kindOf (u .own)) (length buffer) ≡ b → (c : Bool) → seen .bav ≡ c → Moves u (steps seen busy buffer input)
+    by : (a : Bool) → ltb 15 (seen .nibble) ≡ a → (b : Bool) → isShort (kindOf (u .own)) (length buffer) (length output) ≡ b → (c : Bool) → seen .bav ≡ c → Moves u (steps seen busy buffer input output)
     by true e b f c g = keeps (subst (Kept u) (sym (λ k. after (e k) (f k) (g k))) (as-before u)) (not-seen (view e f))
     by false e true f c g = keeps (subst (Kept u) (sym (λ k. after (e k) (f k) (g k))) (as-before u)) (not-seen (view e f))
-    by false e false f true g = sees-low seen busy buffer input (view e f) g (λ k. after (e k) (f k) (g k))
-    by false e false f false g = sees-high seen busy buffer input (view e f) g (λ k. after (e k) (f k) (g k))
+    by false e false f true g = sees-low seen busy buffer input output (view e f) g (λ k. after (e k) (f k) (g k))
+    by false e false f false g = sees-high seen busy buffer input output (view e f) g (λ k. after (e k) (f k) (g k))
 moves u (feeds b) = keeps (by (isFed (kindOf (u .own)) (u .serial .opening)) (eqb (room (u .serial .input)) 0)) (λ row. refl)
   where
     by : (t v : Bool) → Kept u (unitAfter (inUnit u (cond t (cond v (refused 6) (gives (withInput (u .serial) (queueWith (u .serial .input) (b ∷ []))))) (refused 7))) u)
@@ -106,24 +106,24 @@ within u input = record { state = u .serial; input = input; output = [] }
 pub request-stands : RequestStands
 request-stands u m h = by (moves u m)
   where
-    low : {seen : Lines} {busy : Bool} {buffer input : List ℕ} → isSeen (u .own) seen buffer ≡ true → seen .bav ≡ true → moved u (steps seen busy buffer input) ≡ lowStep u (seen .hsk) (next u seen busy buffer input)
-        → Came (u .phase) (u .own) (within u input) seen buffer (insideAfter (u .phase) (u .own) (within u input) seen busy buffer) → Stands u (steps seen busy buffer input)
+    low : {seen : Lines} {busy : Bool} {buffer input output : List ℕ} → isSeen (u .own) seen buffer output ≡ true → seen .bav ≡ true → moved u (steps seen busy buffer input output) ≡ lowStep u (seen .hsk) (next u seen busy buffer input)
+        → Came (u .phase) (u .own) (within u input) seen buffer (insideAfter (u .phase) (u .own) (within u input) seen busy buffer) → Stands u (steps seen busy buffer input output)
     low view bav e (as-it-was g) = stands (ap (λ (v : Unit). v .serial .requesting) e ∙ ap (λ (x : Inside). x .state .requesting) g ∙ h)
-    low {seen} {busy} {buffer} {input} view bav e (of-a-command k n d t g) = by-ending (isEnding (k .command)) refl
+    low {seen} {busy} {buffer} {input} {output} view bav e (of-a-command k n d t g) = by-ending (isEnding (k .command)) refl
       where
-        by-ending : (z : Bool) → isEnding (k .command) ≡ z → Stands u (steps seen busy buffer input)
+        by-ending : (z : Bool) → isEnding (k .command) ≡ z → Stands u (steps seen busy buffer input output)
         by-ending true z = ends (by-a-command k n d view bav t z)
         by-ending false z = stands (ap (λ (v : Unit). v .serial .requesting) e ∙ ap (λ (x : Inside). x .state .requesting) g ∙ every-lawful (kindOf (u .own)) .request-taken (within u input) k n d z ∙ h)
-    low {seen} {busy} {buffer} {input} view bav e (of-its-response r t g) = by-clearing (clears r) refl
+    low {seen} {busy} {buffer} {input} {output} view bav e (of-its-response r t g) = by-clearing (clears r) refl
       where
-        by-clearing : (z : Bool) → clears r ≡ z → Stands u (steps seen busy buffer input)
+        by-clearing : (z : Bool) → clears r ≡ z → Stands u (steps seen busy buffer input output)
         by-clearing true z = ends (by-its-answer r view bav t z)
         by-clearing false z = stands (ap (λ (v : Unit). v .serial .requesting) e ∙ ap (λ (x : Inside). x .state .requesting) g ∙ request-ended (within u input) r z ∙ h)
 
     by : {m : UnitMove} → Moves u m → Stands u m
     by (keeps k row) = stands (k .request h)
-    by (sees-low seen busy buffer input view bav e) = low view bav e (came (u .phase) (u .own) (within u input) seen busy buffer)
-    by (sees-high seen busy buffer input view bav e) = stands (ap (λ (v : Unit). v .serial .requesting) e ∙ h)
+    by (sees-low seen busy buffer input output view bav e) = low view bav e (came (u .phase) (u .own) (within u input) seen busy buffer)
+    by (sees-high seen busy buffer input output view bav e) = stands (ap (λ (v : Unit). v .serial .requesting) e ∙ h)
 
 -- The row of rounds with BAV high is the one that is counted.
 module _ (own retry : ℕ) where
@@ -141,13 +141,13 @@ module _ (own retry : ℕ) where
     where
       by : {m : UnitMove} → Moves u m → Rowed (rowAfter own row m) (moved u m)
       by {m} (keeps k same) = subst (λ (n : ℕ). Rowed n (moved u m)) (sym (own-row m r (same row))) (record { quiet = k .quiet ∙ r .quiet; setting = k .retry ∙ r .setting; code = k .own ∙ r .code })
-      by (sees-low seen busy buffer input view bav e) =
-          let zero-row : rowAfter (u .own) row (steps seen busy buffer input) ≡ 0 = (λ k. cond (view k) (cond (bav k) 0 (suc row)) row) in
-          subst (λ (n : ℕ). Rowed n (moved u (steps seen busy buffer input))) (sym (own-row (steps seen busy buffer input) r zero-row)) (subst (Rowed 0) (sym e) (record { quiet = omega arith; setting = r .setting; code = r .code }))
-      by (sees-high seen busy buffer input view bav e) =
-          let longer : rowAfter (u .own) row (steps seen busy buffer input) ≡ suc row = (λ k. cond (view k) (cond (bav k) 0 (suc row)) row) in
+      by (sees-low seen busy buffer input output view bav e) =
+          let zero-row : rowAfter (u .own) row (steps seen busy buffer input output) ≡ 0 = (λ k. cond (view k) (cond (bav k) 0 (suc row)) row) in
+          subst (λ (n : ℕ). Rowed n (moved u (steps seen busy buffer input output))) (sym (own-row (steps seen busy buffer input output) r zero-row)) (subst (Rowed 0) (sym e) (record { quiet = omega arith; setting = r .setting; code = r .code }))
+      by (sees-high seen busy buffer input output view bav e) =
+          let longer : rowAfter (u .own) row (steps seen busy buffer input output) ≡ suc row = (λ k. cond (view k) (cond (bav k) 0 (suc row)) row) in
           let t = r .setting in
-          subst (λ (n : ℕ). Rowed n (moved u (steps seen busy buffer input))) (sym (own-row (steps seen busy buffer input) r longer))
+          subst (λ (n : ℕ). Rowed n (moved u (steps seen busy buffer input output))) (sym (own-row (steps seen busy buffer input output) r longer))
           (subst (Rowed (suc row)) (sym e) (record { quiet = ap (λ (n : ℕ). min (n + 1) (u .retry)) (r .quiet) ∙ ap (min (min row retry + 1)) t ∙ omega arith; setting = t; code = r .code }))
 
   rowed : (row : ℕ) (u : Unit) (ms : List UnitMove) → Rowed row u → Rowed (rowOf own row ms) (movedAll u ms)
@@ -169,9 +169,9 @@ row-test : {own retry row : ℕ} {u : Unit} → Rowed own retry row u → leb (u
 row-test {own} {retry} {row} r = (λ i. leb (r .setting i) (min (r .quiet i + 1) (r .setting i))) ∙ same-test retry row
 
 -- A step that is not refused.
-seen-step : (u : Unit) (seen : Lines) (busy : Bool) (buffer input : List ℕ) → isSeen (u .own) seen buffer ≡ true
-    → moved u (steps seen busy buffer input) ≡ cond (seen .bav) (lowStep u (seen .hsk) (next u seen busy buffer input)) (highStep u (seen .hsk))
-seen-step u seen busy buffer input e = by (ltb 15 (seen .nibble)) (isShort (kindOf (u .own)) (length buffer)) e
+seen-step : (u : Unit) (seen : Lines) (busy : Bool) (buffer input output : List ℕ) → isSeen (u .own) seen buffer output ≡ true
+    → moved u (steps seen busy buffer input output) ≡ cond (seen .bav) (lowStep u (seen .hsk) (next u seen busy buffer input)) (highStep u (seen .hsk))
+seen-step u seen busy buffer input output e = by (ltb 15 (seen .nibble)) (isShort (kindOf (u .own)) (length buffer) (length output)) e
   where
     stepped : Unit
     stepped = cond (seen .bav) (lowStep u (seen .hsk) (next u seen busy buffer input)) (highStep u (seen .hsk))
@@ -182,17 +182,17 @@ seen-step u seen busy buffer input e = by (ltb 15 (seen .nibble)) (isShort (kind
     by false false x = refl
 
 pub pulls-bav : PullsBav
-pulls-bav own retry ms seen busy buffer input view high quiet enabled request =
+pulls-bav own retry ms seen busy buffer input output view high quiet enabled request =
     let u = unitSince own retry ms in
     let r = rowed-since own retry ms in
-    ap (λ (x : Unit). x .asking) (seen-step u seen busy buffer input (ap (λ (k : ℕ). isSeen k seen buffer) (r .code) ∙ view))
+    ap (λ (x : Unit). x .asking) (seen-step u seen busy buffer input output (ap (λ (k : ℕ). isSeen k seen buffer output) (r .code) ∙ view))
     ∙ ap (λ (t : Bool). cond t (lowStep u (seen .hsk) (next u seen busy buffer input)) (highStep u (seen .hsk)) .asking) high
     ∙ ap (λ (t : Bool). asks t (u .serial .enabled) (u .serial .requesting) (u .retry) (quietAfter u) (seen .hsk)) quiet
     ∙ (λ i. enabled i && (request i && leb (u .retry) (quietAfter u)))
     ∙ row-test r
 
 pub holds-bav : HoldsBav
-holds-bav u seen busy buffer input view asking = ap (λ (x : Unit). x .asking) (seen-step u seen busy buffer input view) ∙ by (seen .bav)
+holds-bav u seen busy buffer input output view asking = ap (λ (x : Unit). x .asking) (seen-step u seen busy buffer input output view) ∙ by (seen .bav)
   where
     by : (t : Bool) → cond t (lowStep u (seen .hsk) (next u seen busy buffer input)) (highStep u (seen .hsk)) .asking ≡ not (seen .hsk)
     by true = ap (λ (b : Bool). b && not (seen .hsk)) asking
@@ -252,8 +252,8 @@ asking-move u m old now = by (moves u m) now
 
     by : {m : UnitMove} → Moves u m → moved u m .asking ≡ true → Asking (moved u m)
     by (keeps k row) e = let o = old (sym (k .asking) ∙ e) in record { early = subst Early (sym (k .phase)) (o .early); enabled = k .enabled ∙ o .enabled; request = k .request (o .request) }
-    by (sees-low seen busy buffer input view bav g) e = subst Asking (sym g) (low seen busy buffer input (sym (ap (λ (v : Unit). v .asking) g) ∙ e))
-    by (sees-high seen busy buffer input view bav g) e = subst Asking (sym g) (high (seen .hsk) (u .asking) refl (sym (ap (λ (v : Unit). v .asking) g) ∙ e))
+    by (sees-low seen busy buffer input output view bav g) e = subst Asking (sym g) (low seen busy buffer input (sym (ap (λ (v : Unit). v .asking) g) ∙ e))
+    by (sees-high seen busy buffer input output view bav g) e = subst Asking (sym g) (high (seen .hsk) (u .asking) refl (sym (ap (λ (v : Unit). v .asking) g) ∙ e))
 
 asking-all : (u : Unit) (ms : List UnitMove) → (u .asking ≡ true → Asking u) → movedAll u ms .asking ≡ true → Asking (movedAll u ms)
 asking-all u [] old = old
@@ -270,8 +270,8 @@ pulls-not-before own retry ms m quiet now = by (moves u m) now
 
     by : {m : UnitMove} → Moves u m → moved u m .asking ≡ true → Fills own retry (rowOf own 0 ms) m
     by (keeps k row) e = absurd (true≢false (sym e ∙ k .asking ∙ quiet))
-    by (sees-low seen busy buffer input view bav g) e = absurd (true≢false (sym e ∙ ap (λ (v : Unit). v .asking) g ∙ ap (λ (b : Bool). b && not (seen .hsk)) quiet))
-    by (sees-high seen busy buffer input view bav g) e =
+    by (sees-low seen busy buffer input output view bav g) e = absurd (true≢false (sym e ∙ ap (λ (v : Unit). v .asking) g ∙ ap (λ (b : Bool). b && not (seen .hsk)) quiet))
+    by (sees-high seen busy buffer input output view bav g) e =
         let r = rowed-since own retry ms in
         let full = new-pull u (seen .hsk) quiet (sym (ap (λ (v : Unit). v .asking) g) ∙ e) .1 .1 in
-        fills (ap (λ (k : ℕ). isSeen k seen buffer) (sym (r .code)) ∙ view) bav (sym (row-test r) ∙ full)
+        fills (ap (λ (k : ℕ). isSeen k seen buffer output) (sym (r .code)) ∙ view) bav (sym (row-test r) ∙ full)

@@ -46,16 +46,16 @@ RequestStands = (u : Unit) (m : UnitMove) → u .serial .requesting ≡ true →
 -- retry count of rounds in a row, the present one included, counted with or without a request." With BAV high it is idle.
 abbrev pub PullsBav : Type 0
 PullsBav =
-    (own retry : ℕ) (ms : List UnitMove) (seen : Lines) (busy : Bool) (buffer input : List ℕ)
+    (own retry : ℕ) (ms : List UnitMove) (seen : Lines) (busy : Bool) (buffer input output : List ℕ)
     → let u = unitSince own retry ms in
-    isSeen own seen buffer ≡ true → seen .bav ≡ false → pullsOf u .bav ≡ false → u .serial .enabled ≡ true → u .serial .requesting ≡ true
-    → pullsOf (moved u (unitSteps seen busy buffer input)) .bav ≡ leb retry (suc (rowOf own 0 ms))
+    isSeen own seen buffer output ≡ true → seen .bav ≡ false → pullsOf u .bav ≡ false → u .serial .enabled ≡ true → u .serial .requesting ≡ true
+    → pullsOf (moved u (unitSteps seen busy buffer input output)) .bav ≡ leb retry (suc (rowOf own 0 ms))
 
 -- "It releases it at the first HSK low it sees in a later round."
 abbrev pub HoldsBav : Type 0
 HoldsBav =
-    (u : Unit) (seen : Lines) (busy : Bool) (buffer input : List ℕ)
-    → isSeen (u .own) seen buffer ≡ true → pullsOf u .bav ≡ true → pullsOf (moved u (unitSteps seen busy buffer input)) .bav ≡ not (seen .hsk)
+    (u : Unit) (seen : Lines) (busy : Bool) (buffer input output : List ℕ)
+    → isSeen (u .own) seen buffer output ≡ true → pullsOf u .bav ≡ true → pullsOf (moved u (unitSteps seen busy buffer input output)) .bav ≡ not (seen .hsk)
 
 -- It pulls BAV for a request alone, and only while it is enabled;
 abbrev pub PullsForIt : Type 0

@@ -20,13 +20,13 @@ use Rattle.unit.specs.Unit.{newUnit}
 use Rattle.unit.specs.declared.Unit.{Unit}
 
 pub data UnitMove : Type 0 where
-  steps : (seen : Lines) (busy : Bool) (buffer input : List ℕ) → UnitMove
+  steps : (seen : Lines) (busy : Bool) (buffer input output : List ℕ) → UnitMove
   feeds : (b : ℕ) → UnitMove
   takes : (output : List ℕ) → UnitMove
   raises : UnitMove
 
 abbrev pub moved : Unit → UnitMove → Unit
-moved u (steps seen busy buffer input) = unitAfter (stepping u seen busy buffer input) u
+moved u (steps seen busy buffer input output) = unitAfter (stepping u seen busy buffer input output) u
 moved u (feeds b) = unitAfter (feeding u b) u
 moved u (takes output) = unitTaken (taking u output) u
 moved u raises = unitAfter (raising u) u
@@ -36,17 +36,17 @@ movedAll u [] = u
 movedAll u (m ∷ ms) = movedAll (moved u m) ms
 
 -- A refused step sees nothing.
-abbrev pub isSeen : ℕ → Lines → List ℕ → Bool
-isSeen own seen buffer = cond (ltb 15 (seen .nibble)) false (cond (isShort (kindOf own) (length buffer)) false true)
+abbrev pub isSeen : ℕ → Lines → List ℕ → List ℕ → Bool
+isSeen own seen buffer output = cond (ltb 15 (seen .nibble)) false (cond (isShort (kindOf own) (length buffer) (length output)) false true)
 
 -- What ends a request: in this step, with BAV seen low, the last nibble of a 01, 09 or FF is taken; or that of its answer 00 is done.
 pub data Ends (u : Unit) : UnitMove → Type 0 where
   by-a-command :
-      {seen : Lines} {busy : Bool} {buffer input : List ℕ} (k : Command) (n : ℕ) (d : List ℕ) → isSeen (u .own) seen buffer ≡ true → seen .bav ≡ true → TakesLast (u .phase) seen buffer k n d
-      → isEnding (k .command) ≡ true → Ends u (steps seen busy buffer input)
+      {seen : Lines} {busy : Bool} {buffer input output : List ℕ} (k : Command) (n : ℕ) (d : List ℕ) → isSeen (u .own) seen buffer output ≡ true → seen .bav ≡ true → TakesLast (u .phase) seen buffer k n d
+      → isEnding (k .command) ≡ true → Ends u (steps seen busy buffer input output)
   by-its-answer :
-      {seen : Lines} {busy : Bool} {buffer input : List ℕ} (r : Reply) → isSeen (u .own) seen buffer ≡ true → seen .bav ≡ true → SendsLast (u .phase) (u .serial .input) seen r
-      → clears r ≡ true → Ends u (steps seen busy buffer input)
+      {seen : Lines} {busy : Bool} {buffer input output : List ℕ} (r : Reply) → isSeen (u .own) seen buffer output ≡ true → seen .bav ≡ true → SendsLast (u .phase) (u .serial .input) seen r
+      → clears r ≡ true → Ends u (steps seen busy buffer input output)
 
 -- It ends a request, or the request stands.
 pub data Stands (u : Unit) (m : UnitMove) : Type 0 where
@@ -55,7 +55,7 @@ pub data Stands (u : Unit) (m : UnitMove) : Type 0 where
 
 -- For how many rounds in a row the unit with this code has seen BAV high, at the end of these calls.
 abbrev pub rowAfter : ℕ → ℕ → UnitMove → ℕ
-rowAfter own row (steps seen busy buffer input) = cond (isSeen own seen buffer) (cond (seen .bav) 0 (suc row)) row
+rowAfter own row (steps seen busy buffer input output) = cond (isSeen own seen buffer output) (cond (seen .bav) 0 (suc row)) row
 rowAfter own row (feeds b) = row
 rowAfter own row (takes output) = row
 rowAfter own row raises = row
@@ -70,4 +70,4 @@ unitSince own retry ms = movedAll (newUnit own retry) ms
 
 -- A step that sees BAV high and fills the row, so that the retry count is reached, the present round included.
 pub data Fills (own retry row : ℕ) : UnitMove → Type 0 where
-  fills : {seen : Lines} {busy : Bool} {buffer input : List ℕ} → isSeen own seen buffer ≡ true → seen .bav ≡ false → leb retry (suc row) ≡ true → Fills own retry row (steps seen busy buffer input)
+  fills : {seen : Lines} {busy : Bool} {buffer input output : List ℕ} → isSeen own seen buffer output ≡ true → seen .bav ≡ false → leb retry (suc row) ≡ true → Fills own retry row (steps seen busy buffer input output)

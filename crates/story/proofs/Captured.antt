@@ -14,7 +14,7 @@ use Rattle.story.proofs.Script.{Played, play, at, plays, quiet-start}
 pub meets : Meets
 unfolding kindOf
 meets =
-    let quiet = quiet-start codes refl (also (refl, zeros-below 256) (also (refl, zeros-below 256) (also (refl, zeros-below 256) none))) in
+    let quiet = quiet-start codes refl (also (refl, (refl, zeros-below 256)) (also (refl, (refl, zeros-below 256)) (also (refl, (refl, zeros-below 256)) none))) in
     (quiet, demand-2 first last quiet run)
 
 -- All that is computed of the whole run, in one pass.

@@ -6,6 +6,7 @@ use mathlib.Core.Bool.{Bool, true, false, _&&_, not, false≢true}
 use mathlib.Core.List.{List, [], _∷_}
 use borrow.Author.Tests.{eq-eqb}
 use lib.Dec.{eqb}
+use lib.ListN.{length}
 use Rattle.bus.specs.Bus.{newStation}
 use Rattle.bus.specs.declared.Station.{Station}
 use Rattle.delivery.proofs.Logs.{cut-append}
@@ -16,7 +17,7 @@ use Rattle.delivery.specs.Run.{New, QuietStart, Run, a-round, a-call}
 use Rattle.delivery.specs.World.{World, Busy, round, Different, nobody, another}
 use Rattle.inside.specs.Inside.{insideOf}
 use Rattle.inside.specs.Lawful.{Lent}
-use Rattle.kind.specs.Kinds.{kindOf}
+use Rattle.kind.specs.Kinds.{kindOf, isShort}
 use Rattle.polling.specs.BusMoves.{moveOf, callOf, movesOf}
 use Rattle.polling.specs.Moves.{Move}
 use Rattle.unit.specs.Unit.{newUnit}
@@ -116,8 +117,11 @@ not-true false e = refl
 differs : (a b : ℕ) → not (eqb a b) ≡ true → a ≡ b → ⊥
 differs a b e same = false≢true (sym (not-true (eqb a b) e) ∙ eq-eqb a b same)
 
+-- By the kind of a code, cleared memory is long enough for a new unit, and what it is lent.
 abbrev pub NewLent : ℕ → Type 0
-NewLent own = Lent (kindOf own) (insideOf (newStation (newUnit own 4)))
+NewLent own =
+    let st = newStation (newUnit own 4) in
+    (isShort (kindOf own) (length (st .buffer)) (length (st .output)) ≡ false) × Lent (kindOf own) (insideOf st)
 
 others : (own : ℕ) (codes : List ℕ) → isOther own codes ≡ true → All (λ (x : Station). x .unit .own ≡ own → ⊥) (quietBus codes .units)
 others own [] e = none
@@ -135,7 +139,7 @@ new-units : (codes : List ℕ) → areCodes codes ≡ true → All NewLent codes
 new-units [] e none = none
 new-units (own ∷ codes) e (also lent more) =
     let t = both (not (eqb own 0)) (isOther own codes && areCodes codes) e in
-    also (record { own = own; retry = 4; coded = differs own 0 (t .0); is-new = refl; room = refl; lent = lent }) (new-units codes (both (isOther own codes) (areCodes codes) (t .1) .1) more)
+    also (record { own = own; retry = 4; coded = differs own 0 (t .0); is-new = refl; room = lent .0; lent = lent .1 }) (new-units codes (both (isOther own codes) (areCodes codes) (t .1) .1) more)
 
 pub quiet-start : (codes : List ℕ) → areCodes codes ≡ true → All NewLent codes → QuietStart (quietBus codes)
 quiet-start codes e lent = record { timeout = 8; least = omega arith; is-new = refl; units = new-units codes e lent; codes = different codes e }

@@ -189,7 +189,7 @@ met =
     let way = calm-on 22 (onTheWay 100) (isCalm 22 itsTurn isOver) {v = raised} start tt (ap (λ (t : Tested). t .is-calm) tests) in
     let calm = calm-on 22 itsTurn isOver (runOn (onTheWay 100) {w = raised} start) (way .0) (way .1) in
     record {
-      quiet = quiet-start codes refl (also (refl, zeros-below 256) (also (refl, zeros-below 256) (also (refl, zeros-below 256) (also (refl, zeros-below 256) none))));
+      quiet = quiet-start codes refl (also (refl, (refl, zeros-below 256)) (also (refl, (refl, zeros-below 256)) (also (refl, (refl, zeros-below 256)) (also (refl, (refl, zeros-below 256)) none))));
       run = runOn joining {w = quietBus codes} start;
       more = runOn itsTurn (runOn (onTheWay 100) {w = raised} start);
       coded = is-on 22 (raised .units) (ap (λ (t : Tested). t .is-on-it) tests);
