@@ -27,10 +27,12 @@ use Rattle.delivery.proofs.Promise.{promise-called}
 
 -- A unit that is sound is so behind a call.
 pub sound-called : {call : HostCall} {st after : Station} → Called call st after → Sound st → Sound after
-sound-called {call} {st} {after} k s = record {
-  room = (λ i. isShort (kindOf (k .own i)) (length (k .buffer i)) (length ((ap (λ (x : Inside). x .output) (k .inside) ∙ output-called (kindOf (st .unit .own)) call (insideOf st)) i))) ∙ s .room;
-  fit = subst (λ (own : ℕ). Fit (kindOf own) (insideOf after)) (sym (k .own)) (subst (Fit (kindOf (st .unit .own))) (sym (k .inside)) (every-lawful (kindOf (st .unit .own)) .fit-called (insideOf st) call (s .fit)));
-}
+sound-called {call} {st} {after} k s =
+    let output : after .output ≡ st .output = ap (λ (x : Inside). x .output) (k .inside) ∙ output-called (kindOf (st .unit .own)) call (insideOf st) in
+    record {
+      room = (λ i. isShort (kindOf (k .own i)) (length (k .buffer i)) (length (output i))) ∙ s .room;
+      fit = subst (λ (own : ℕ). Fit (kindOf own) (insideOf after)) (sym (k .own)) (subst (Fit (kindOf (st .unit .own))) (sym (k .inside)) (every-lawful (kindOf (st .unit .own)) .fit-called (insideOf st) call (s .fit)));
+    }
 
 -- A promise outlasts it, and so does every part of a frame.
 pub part-called : (T : Moment) {c : Command} {d : List ℕ} {i : ℕ} {sender : Sender} {call : HostCall} {st after : Station} → Called call st after
