@@ -148,9 +148,9 @@ hexbus_refusal hexbus_unit_make(hexbus_unit *unit, uint8_t own, uint32_t retry);
 
 /* Steps a unit through a round at these levels (true is low), with its host busy or not, lent the command buffer of the frame
  * (256 bytes or more), the 256 bytes of its input queue to read and the 256 bytes of its output queue to write: refuses 5 for a nibble
- * over 15, then 11 for a command buffer under 256. */
+ * over 15, then 11 for a command buffer or an output queue under 256 bytes. Bytes behind the 256 of the output queue are left alone. */
 hexbus_refusal hexbus_unit_step(hexbus_unit *unit, bool bav, bool hsk, uint8_t nibble, bool busy, uint8_t *command, size_t command_length,
-                                const uint8_t input[HEXBUS_QUEUE_BYTES], uint8_t output[HEXBUS_QUEUE_BYTES]);
+                                const uint8_t input[HEXBUS_QUEUE_BYTES], uint8_t *output, size_t output_length);
 
 /* The lines that a unit pulls after its last step. */
 hexbus_pulls hexbus_unit_pulls(const hexbus_unit *unit);

@@ -25,26 +25,26 @@ given ws p q = (ap number p, q ∙ ap (λ (a : Answer Unit). unitAfter a ws) p)
 pub kept-words : {a : Answer Unit} {k : ℕ} (ws : List ℕ) → refused k ≡ a → (k ≡ number a) × (ws ≡ unitAfter a ws)
 kept-words ws p = (ap number p, ap (λ (a : Answer Unit). unitAfter a ws) p)
 
--- Whether a lent buffer is too short for the unit in the words, by its kind.
-pub short-by-kind : (ws buffer : List ℕ) {own : ℕ} {kind : Kind} {short v : Bool} → own ≡ loaded ws .own → kind ≡ kindOf own → short ≡ isShort kind (length buffer)
-    → short ≡ v → isShort (kindOf (loaded ws .own)) (length buffer) ≡ v
-short-by-kind ws buffer p q r t = sym (r ∙ ap (λ (kind : Kind). isShort kind (length buffer)) (q ∙ ap kindOf p)) ∙ t
+-- Whether lent memory is too short for the unit in the words, by its kind.
+pub short-by-kind : (ws buffer output : List ℕ) {own : ℕ} {kind : Kind} {short v : Bool} → own ≡ loaded ws .own → kind ≡ kindOf own
+    → short ≡ isShort kind (length buffer) (length output) → short ≡ v → isShort (kindOf (loaded ws .own)) (length buffer) (length output) ≡ v
+short-by-kind ws buffer output p q r t = sym (r ∙ ap (λ (kind : Kind). isShort kind (length buffer) (length output)) (q ∙ ap kindOf p)) ∙ t
 
 -- A step: refused with everything as it was, or the round in the words.
 module _ (ws : List ℕ) (seen : Lines) (busy : Bool) (buffer input output : List ℕ) where
   abbrev Steps : ℕ → List ℕ → List ℕ → List ℕ → Type 0
   Steps k after buffer′ output′ =
-      (k ≡ number (stepping (loaded ws) seen busy buffer input))
-      × ((after ≡ unitAfter (stepping (loaded ws) seen busy buffer input) ws)
-      × ((buffer′ ≡ bufferAfter (loaded ws) seen busy buffer input) × (output′ ≡ outputAfter (loaded ws) seen busy buffer input output)))
+      (k ≡ number (stepping (loaded ws) seen busy buffer input output))
+      × ((after ≡ unitAfter (stepping (loaded ws) seen busy buffer input output) ws)
+      × ((buffer′ ≡ bufferAfter (loaded ws) seen busy buffer input output) × (output′ ≡ outputAfter (loaded ws) seen busy buffer input output)))
 
   pub level-refused : 15 < seen .nibble → Steps 5 ws buffer output
   level-refused t = rw (lt-ltb 15 (seen .nibble) t) (refl, (refl, (refl, refl)))
 
-  pub buffer-refused : seen .nibble ≤ 15 → isShort (kindOf (loaded ws .own)) (length buffer) ≡ true → Steps 11 ws buffer output
+  pub buffer-refused : seen .nibble ≤ 15 → isShort (kindOf (loaded ws .own)) (length buffer) (length output) ≡ true → Steps 11 ws buffer output
   buffer-refused f t = rw (le-ltb 15 (seen .nibble) f, t) (refl, (refl, (refl, refl)))
 
-  pub steps : {after buffer′ output′ : List ℕ} → seen .nibble ≤ 15 → isShort (kindOf (loaded ws .own)) (length buffer) ≡ false
+  pub steps : {after buffer′ output′ : List ℕ} → seen .nibble ≤ 15 → isShort (kindOf (loaded ws .own)) (length buffer) (length output) ≡ false
       → (after ≡ savedIn ws (unitStep (loaded ws) seen busy buffer input)) × ((buffer′ ≡ unitBuffer (loaded ws) seen buffer) × (output′ ≡ unitOutput (loaded ws) seen buffer output))
       → Steps 0 after buffer′ output′
   steps f g q = rw (le-ltb 15 (seen .nibble) f, g) (refl, q)

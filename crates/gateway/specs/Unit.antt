@@ -55,9 +55,9 @@ UnitMade own retry ws r ws′ = (r ≡ number (making own retry)) × (ws′ ≡ 
 
 abbrev pub UnitStepped : Lines → Bool → List ℕ → List ℕ → List ℕ → List ℕ → ℕ → List ℕ → List ℕ → List ℕ → Type 0
 UnitStepped seen busy ws buffer input output r ws′ buffer′ output′ =
-    (r ≡ number (stepping (loaded ws) seen busy buffer input))
-    × ((ws′ ≡ unitAfter (stepping (loaded ws) seen busy buffer input) ws)
-    × ((buffer′ ≡ bufferAfter (loaded ws) seen busy buffer input) × (output′ ≡ outputAfter (loaded ws) seen busy buffer input output)))
+    (r ≡ number (stepping (loaded ws) seen busy buffer input output))
+    × ((ws′ ≡ unitAfter (stepping (loaded ws) seen busy buffer input output) ws)
+    × ((buffer′ ≡ bufferAfter (loaded ws) seen busy buffer input output) × (output′ ≡ outputAfter (loaded ws) seen busy buffer input output)))
 
 abbrev pub UnitFed : ℕ → List ℕ → List ℕ → ℕ → List ℕ → List ℕ → Type 0
 UnitFed b ws input r ws′ input′ =

@@ -28,7 +28,7 @@ pub extern "C" fn hexbus_unit_make(unit: &mut Words, own: u8, retry: u32) -> u32
     }
 }
 
-// Steps a unit through a round.
+// Steps a unit through a round. Refuses 5 for a nibble level, then 11 for lent memory that is too short for a unit of its kind.
 #[no_mangle]
 pub extern "C" fn hexbus_unit_step(
     unit: &mut Words,
@@ -38,14 +38,18 @@ pub extern "C" fn hexbus_unit_step(
     busy: bool,
     command: &mut [u8],
     input: &[u8; 256],
-    output: &mut [u8; 256],
+    output: &mut [u8],
 ) -> u32
     ensures { λ r. ⌜ UnitStepped (linesOf bav hsk nibble) busy (now (unit .entry)) (now (command .entry)) (now (input .entry)) (now (output .entry)) r (now (unit .exit)) (now (command .exit)) (now (output .exit)) ⌝ }
 {
     if 15 < nibble {
         return 5;
     }
-    if kind::is_short(kind::kind_of(words::number8(unit[OWN])), command.len()) {
+    if kind::is_short(
+        kind::kind_of(words::number8(unit[OWN])),
+        command.len(),
+        output.len(),
+    ) {
         return 11;
     }
     let seen = Lines { bav, hsk, nibble };

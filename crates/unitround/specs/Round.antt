@@ -1,4 +1,4 @@
--- A round of a unit in words: what it makes of the words, of the lent command buffer and of the bytes of the output queue.
+-- A round of a unit in words: what it makes of the words, of the lent command buffer and of the memory for what is written to the unit.
 use Prim.Native.Nat.{ℕ, _%_}
 use mathlib.Core.Path.{_≡_}
 use mathlib.Core.Bool.{Bool, cond}

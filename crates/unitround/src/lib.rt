@@ -40,7 +40,7 @@ pub fn round(
     busy: bool,
     buffer: &mut [u8],
     input: &[u8; 256],
-    output: &mut [u8; 256],
+    output: &mut [u8],
 )
     ensures { λ _. ⌜ Stepped (now (words .entry)) seen busy (now (buffer .entry)) (now (input .entry)) (now (output .entry)) (now (words .exit)) (now (buffer .exit)) (now (output .exit)) ⌝ }
 {
@@ -147,7 +147,7 @@ fn phase(
     busy: bool,
     buffer: &mut [u8],
     input: &[u8; 256],
-    output: &mut [u8; 256],
+    output: &mut [u8],
 )
     ensures { λ _. ⌜ Moves (now (words .entry)) seen busy (now (buffer .entry)) (now (input .entry)) (now (output .entry)) (now (words .exit)) (now (buffer .exit)) (now (output .exit)) ⌝ }
 {
@@ -234,7 +234,7 @@ fn take_low(words: &mut Words, nibble: u8)
 }
 
 // Receiving, until the last nibble is taken.
-fn taking(words: &mut Words, seen: Lines, busy: bool, buffer: &mut [u8], output: &mut [u8; 256])
+fn taking(words: &mut Words, seen: Lines, busy: bool, buffer: &mut [u8], output: &mut [u8])
     requires { ⌜ eqb (at (now words) PHASE) 2 ≡ true ⌝ }
     ensures { λ _. ⌜ Takes (now (words .entry)) seen busy (now (buffer .entry)) (now (output .entry)) (now (words .exit)) (now (buffer .exit)) (now (output .exit)) ⌝ }
 {
@@ -253,7 +253,7 @@ fn taking(words: &mut Words, seen: Lines, busy: bool, buffer: &mut [u8], output:
 
 // A byte of a command is there. One of its data, not the last, leaves the header and the state as they are. The rest is called at two
 // places, so that LLVM keeps it out of line: 10 instructions a step.
-fn take_byte(words: &mut Words, b: u8, buffer: &mut [u8], output: &mut [u8; 256])
+fn take_byte(words: &mut Words, b: u8, buffer: &mut [u8], output: &mut [u8])
     requires { ⌜ eqb (at (now words) PHASE) 2 ≡ true ⌝ }
     ensures { λ _. ⌜ TakesByte (now (words .entry)) b (now (buffer .entry)) (now (output .entry)) (now (words .exit)) (now (buffer .exit)) (now (output .exit)) ⌝ }
 {
@@ -274,7 +274,7 @@ fn take_byte(words: &mut Words, b: u8, buffer: &mut [u8], output: &mut [u8; 256]
 }
 
 // Any byte.
-fn take_any(words: &mut Words, b: u8, buffer: &mut [u8], output: &mut [u8; 256])
+fn take_any(words: &mut Words, b: u8, buffer: &mut [u8], output: &mut [u8])
     requires { ⌜ eqb (at (now words) PHASE) 2 ≡ true ⌝ }
     ensures { λ _. ⌜ TakesByte (now (words .entry)) b (now (buffer .entry)) (now (output .entry)) (now (words .exit)) (now (buffer .exit)) (now (output .exit)) ⌝ }
 {

@@ -11,7 +11,7 @@ selecting-requires : tie.Need-selecting-requires
 selecting-requires c κs = search needs
 
 returns : tie.Need-returns
-returns c = let a = c .before .before .before .before .before .args in
+returns c = let a = c .before .before .before .before .before .before .args in
     in-selecting (a .words .now) (a .seen) (a .busy) (a .buffer .now) (a .input .now) (a .output .now) (c .before .before .if1 .taken) (c .selecting .ensures)
 
 taking-requires : tie.Need-taking-requires
@@ -20,22 +20,25 @@ taking-requires c κs = search needs
 same-length : tie.Need-same-length
 same-length c = search needs
 
+same-length-2 : tie.Need-same-length-2
+same-length-2 c = search needs
+
 returns-2 : tie.Need-returns-2
-returns-2 c = let a = c .before .before .before .before .before .before .before .before .before .before .args in
-    in-taking (a .words .now) (a .seen) (a .busy) (a .buffer .now) (a .input .now) (a .output .now) (c .before .before .before .before .before .before .before .if1 .left) (c .before .before .before .before .before .before .if2 .taken) (c .before .before .taking .ensures)
+returns-2 c = let a = c .before .before .before .before .before .before .before .before .before .before .before .before .before .args in
+    in-taking (a .words .now) (a .seen) (a .busy) (a .buffer .now) (a .input .now) (a .output .now) (c .before .before .before .before .before .before .before .before .before .if1 .left) (c .before .before .before .before .before .before .before .before .if2 .taken) (c .before .before .before .before .taking .ensures)
 
 answered-requires : tie.Need-answered-requires
 answered-requires c κs = search needs
 
 returns-3 : tie.Need-returns-3
-returns-3 c = let a = c .before .before .before .before .before .before .before .args in
+returns-3 c = let a = c .before .before .before .before .before .before .before .before .args in
     in-answered (a .words .now) (a .seen) (a .busy) (a .buffer .now) (a .input .now) (a .output .now) (c .before .before .before .before .if1 .left) (c .before .before .before .if2 .left) (c .before .before .if3 .taken) (c .answered .ensures)
 
 responding-requires : tie.Need-responding-requires
 responding-requires c κs = search needs
 
 returns-4 : tie.Need-returns-4
-returns-4 c = let a = c .before .before .before .before .before .before .before .before .args in
+returns-4 c = let a = c .before .before .before .before .before .before .before .before .before .args in
     in-responding (a .words .now) (a .seen) (a .busy) (a .buffer .now) (a .input .now) (a .output .now) (c .before .before .before .before .before .if1 .left) (c .before .before .before .before .if2 .left) (c .before .before .before .if3 .left) (c .before .before .if4 .taken) (c .responding .ensures)
 
 element-copy-out-with-flag : tie.Need-element-copy-out-with-flag
@@ -48,14 +51,14 @@ element-write-words : tie.Need-element-write-words
 element-write-words c = search needs
 
 returns-5 : tie.Need-returns-5
-returns-5 c = let a = c .before .before .before .before .before .before .before .before .before .args in
+returns-5 c = let a = c .before .before .before .before .before .before .before .before .before .before .args in
     in-sitting-out (a .words .now) (a .seen) (a .busy) (a .buffer .now) (a .input .now) (a .output .now) (c .before .before .before .before .before .before .if1 .left) (c .before .before .before .before .before .if2 .left) (c .before .before .before .before .if3 .left) (c .before .before .before .if4 .left) (c .before .before .if5 .taken) (c .with-flag .ensures)
 
 leave-requires : tie.Need-leave-requires
 leave-requires c κs = search needs
 
 returns-6 : tie.Need-returns-6
-returns-6 c = let a = c .before .before .before .before .before .before .before .before .before .args in
+returns-6 c = let a = c .before .before .before .before .before .before .before .before .before .before .args in
     in-idle (a .words .now) (a .seen) (a .busy) (a .buffer .now) (a .input .now) (a .output .now) (c .before .before .before .before .before .before .if1 .left) (c .before .before .before .before .before .if2 .left) (c .before .before .before .before .if3 .left) (c .before .before .before .if4 .left) (c .before .before .if5 .left) (c .leave .ensures)
 
 pub phase-spec : {M : Type 1} → statement M
@@ -67,6 +70,7 @@ phase-spec =
     returns
     taking-requires
     same-length
+    same-length-2
     returns-2
     answered-requires
     returns-3

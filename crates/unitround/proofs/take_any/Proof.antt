@@ -45,15 +45,18 @@ save-moved-requires c κs = search needs
 same-length : tie.Need-same-length
 same-length c = search needs
 
+same-length-2 : tie.Need-same-length-2
+same-length-2 c = search needs
+
 returns : tie.Need-returns
-returns c = let a = c .before .before .before .before .before .before .before .before .before .before .before .before .before .before .before .before .before .before .before .before .args in
-    let with-is = c .before .before .before .before .before .before .before .before .before .before .before .before .before .before .with .ensures in
-    let load-header-is = c .before .before .before .before .before .before .before .before .before .before .before .before .before .before .before .before .load-header .ensures in
-    let wide-is = c .before .before .before .before .before .before .before .before .before .before .before .before .before .before .before .wide .ensures in
-    let put-is = c .before .before .before .before .before .before .before .before .before .before .before .before .put .ensures in
-    let own-is = c .before .before .before .before .before .before .before .number8 .ensures in
-    let load-serial-is = c .before .before .before .before .before .load-serial .ensures in
-    last-of-all (a .words .now) (a .buffer .now) (a .output .now) (a .b) (with-is ∙ (λ i. withByte (load-header-is i) (wide-is i) (a .b))) refl put-is (c .before .before .before .before .before .before .before .before .before .if1 .taken) own-is load-serial-is (c .before .answer .ensures) (c .save-moved .ensures)
+returns c = let a = c .before .before .before .before .before .before .before .before .before .before .before .before .before .before .before .before .before .before .before .before .before .before .before .args in
+    let with-is = c .before .before .before .before .before .before .before .before .before .before .before .before .before .before .before .before .with .ensures in
+    let load-header-is = c .before .before .before .before .before .before .before .before .before .before .before .before .before .before .before .before .before .before .load-header .ensures in
+    let wide-is = c .before .before .before .before .before .before .before .before .before .before .before .before .before .before .before .before .before .wide .ensures in
+    let put-is = c .before .before .before .before .before .before .before .before .before .before .before .before .before .before .put .ensures in
+    let own-is = c .before .before .before .before .before .before .before .before .before .number8 .ensures in
+    let load-serial-is = c .before .before .before .before .before .before .before .load-serial .ensures in
+    last-of-all (a .words .now) (a .buffer .now) (a .output .now) (a .b) (with-is ∙ (λ i. withByte (load-header-is i) (wide-is i) (a .b))) refl put-is (c .before .before .before .before .before .before .before .before .before .before .before .if1 .taken) own-is load-serial-is (c .before .before .before .answer .ensures) (c .save-moved .ensures)
 
 element-write-words : tie.Need-element-write-words
 element-write-words c = search needs
@@ -67,16 +70,16 @@ whole-bytes-requires c κs = search needs
 save-partial-requires : tie.Need-save-partial-requires
 save-partial-requires c κs = search needs
 
-same-length-2 : tie.Need-same-length-2
-same-length-2 c = search needs
+same-length-3 : tie.Need-same-length-3
+same-length-3 c = search needs
 
 returns-2 : tie.Need-returns-2
-returns-2 c = let a = c .before .before .before .before .before .before .before .before .before .before .before .before .before .before .args in
+returns-2 c = let a = c .before .before .before .before .before .before .before .before .before .before .before .before .before .before .before .args in
     let with-is = c .before .before .before .before .before .before .before .before .with .ensures in
     let load-header-is = c .before .before .before .before .before .before .before .before .before .before .load-header .ensures in
     let wide-is = c .before .before .before .before .before .before .before .before .before .wide .ensures in
     let put-is = c .before .before .before .before .before .before .put .ensures in
-    more-to-come (a .words .now) (a .buffer .now) (a .output .now) (a .b) (with-is ∙ (λ i. withByte (load-header-is i) (wide-is i) (a .b))) refl put-is (c .before .before .before .if1 .left) (next-header (a .words .now) (c .before .before .before .before .before .before .before .before .before .before .before .before .before .before .pre) (c .before .whole-bytes .ensures) (c .save-partial .ensures))
+    more-to-come (a .words .now) (a .buffer .now) (a .output .now) (a .b) (with-is ∙ (λ i. withByte (load-header-is i) (wide-is i) (a .b))) refl put-is (c .before .before .before .if1 .left) (next-header (a .words .now) (c .before .before .before .before .before .before .before .before .before .before .before .before .before .before .before .pre) (c .before .whole-bytes .ensures) (c .save-partial .ensures))
 
 pub take-any-spec : {M : Type 1} → statement M
 take-any-spec =
@@ -95,10 +98,11 @@ take-any-spec =
     answer-requires
     save-moved-requires
     same-length
+    same-length-2
     returns
     element-write-words
     add-whole-bytes
     whole-bytes-requires
     save-partial-requires
-    same-length-2
+    same-length-3
     returns-2)

@@ -38,9 +38,9 @@ same-length : tie.Need-same-length
 same-length c = search needs
 
 returns : tie.Need-returns
-returns c = let a = c .before .before .before .before .before .before .before .before .before .before .before .before .args in
+returns c = let a = c .before .before .before .before .before .before .before .before .before .before .before .before .before .args in
     let number-is = c .before .before .before .before .before .before .before .before .number16 .ensures in
-    more-to-come (a .words .now) (a .buffer .now) (a .output .now) (a .b) (header-stays (a .words .now) (a .b) (c .before .before .before .before .before .before .before .if1 .taken)) number-is (c .before .before .before .before .put .ensures) (c .before .before .before .before .before .before .if2 .taken) (next-data (a .words .now) (c .before .before .before .before .before .before .before .before .before .before .before .before .pre) (c .save-low .ensures))
+    more-to-come (a .words .now) (a .buffer .now) (a .output .now) (a .b) (header-stays (a .words .now) (a .b) (c .before .before .before .before .before .before .before .if1 .taken)) number-is (c .before .before .before .before .put .ensures) (c .before .before .before .before .before .before .if2 .taken) (next-data (a .words .now) (c .before .before .before .before .before .before .before .before .before .before .before .before .before .pre) (c .save-low .ensures))
 
 take-any-requires : tie.Need-take-any-requires
 take-any-requires c κs = search needs
@@ -48,14 +48,20 @@ take-any-requires c κs = search needs
 same-length-2 : tie.Need-same-length-2
 same-length-2 c = search needs
 
+same-length-3 : tie.Need-same-length-3
+same-length-3 c = search needs
+
 returns-2 : tie.Need-returns-2
 returns-2 c = search needs
 
 take-any-requires-2 : tie.Need-take-any-requires-2
 take-any-requires-2 c κs = search needs
 
-same-length-3 : tie.Need-same-length-3
-same-length-3 c = search needs
+same-length-4 : tie.Need-same-length-4
+same-length-4 c = search needs
+
+same-length-5 : tie.Need-same-length-5
+same-length-5 c = search needs
 
 returns-3 : tie.Need-returns-3
 returns-3 c = search needs
@@ -78,7 +84,9 @@ take-byte-spec =
     returns
     take-any-requires
     same-length-2
+    same-length-3
     returns-2
     take-any-requires-2
-    same-length-3
+    same-length-4
+    same-length-5
     returns-3)

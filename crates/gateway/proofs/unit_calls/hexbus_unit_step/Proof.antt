@@ -6,7 +6,7 @@ use Rattle.gateway.proofs.unit_calls.hexbus_unit_step.Statement.{statem
 use Rattle.gateway.proofs.unit_calls.hexbus_unit_step.Tie as tie
 
 returns : tie.Need-returns
-returns c = let a = c .before .before .args in
+returns c = let a = c .before .before .before .args in
     level-refused (a .unit .now) (linesOf (a .bav) (a .hsk) (a .nibble)) (a .busy) (a .command .now) (a .input .now) (a .output .now) (c .if1 .taken)
 
 element-copy-out-number8 : tie.Need-element-copy-out-number8
@@ -24,8 +24,8 @@ is-short-requires c κs = search needs
 returns-2 : tie.Need-returns-2
 returns-2 c =
     let at-short = c .before in
-    let a = at-short .before .before .before .before .before .before .args in
-    let short = short-by-kind (a .unit .now) (a .command .now) (at-short .before .before .number8 .ensures) (at-short .before .kind-of .ensures) (at-short .is-short .ensures) (c .if2 .taken) in
+    let a = at-short .before .before .before .before .before .before .before .args in
+    let short = short-by-kind (a .unit .now) (a .command .now) (a .output .now) (at-short .before .before .number8 .ensures) (at-short .before .kind-of .ensures) (at-short .is-short .ensures) (c .if2 .taken) in
     buffer-refused (a .unit .now) (linesOf (a .bav) (a .hsk) (a .nibble)) (a .busy) (a .command .now) (a .input .now) (a .output .now) (at-short .before .before .before .before .if1 .left) short
 
 round-requires : tie.Need-round-requires
@@ -34,12 +34,15 @@ round-requires c κs = search needs
 same-length : tie.Need-same-length
 same-length c = search needs
 
+same-length-2 : tie.Need-same-length-2
+same-length-2 c = search needs
+
 returns-3 : tie.Need-returns-3
 returns-3 c =
-    let at-short = c .before .before .before .before .before .before .before in
-    let a = at-short .before .before .before .before .before .before .args in
-    let enough = short-by-kind (a .unit .now) (a .command .now) (at-short .before .before .number8 .ensures) (at-short .before .kind-of .ensures) (at-short .is-short .ensures) (c .before .before .before .before .before .before .if2 .left) in
-    steps (a .unit .now) (linesOf (a .bav) (a .hsk) (a .nibble)) (a .busy) (a .command .now) (a .input .now) (a .output .now) (at-short .before .before .before .before .if1 .left) enough (c .before .before .round .ensures)
+    let at-short = c .before .before .before .before .before .before .before .before .before in
+    let a = at-short .before .before .before .before .before .before .before .args in
+    let enough = short-by-kind (a .unit .now) (a .command .now) (a .output .now) (at-short .before .before .number8 .ensures) (at-short .before .kind-of .ensures) (at-short .is-short .ensures) (c .before .before .before .before .before .before .before .before .if2 .left) in
+    steps (a .unit .now) (linesOf (a .bav) (a .hsk) (a .nibble)) (a .busy) (a .command .now) (a .input .now) (a .output .now) (at-short .before .before .before .before .if1 .left) enough (c .before .before .before .before .round .ensures)
 
 pub hexbus-unit-step-spec : {M : Type 1} → statement M
 hexbus-unit-step-spec =
@@ -53,4 +56,5 @@ hexbus-unit-step-spec =
     returns-2
     round-requires
     same-length
+    same-length-2
     returns-3)
