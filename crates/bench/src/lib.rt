@@ -38,7 +38,7 @@ pub fn act(
     w: Doing,
     bytes: &mut [u8; 159744],
     response: &mut [u8; 65536],
-    memory: &mut [u8; 12288],
+    memory: &mut [u8; 38912],
 ) -> Acted {
     let act = w.act;
     match act {
@@ -50,7 +50,7 @@ pub fn act(
 }
 
 // A round of every party, with what was lent for the controller's command.
-fn round(bus: Bus, w: Doing, bytes: &[u8], response: &mut [u8], memory: &mut [u8; 12288]) -> Acted {
+fn round(bus: Bus, w: Doing, bytes: &[u8], response: &mut [u8], memory: &mut [u8; 38912]) -> Acted {
     let lent = (w.lent % 65536) as usize;
     let data = controllercalls::data(bytes, w.length % 65536);
     let c = bus.controller;
@@ -122,7 +122,7 @@ fn of_unit(
     s: Statement,
     w: Doing,
     bytes: &mut [u8; 159744],
-    memory: &mut [u8; 12288],
+    memory: &mut [u8; 38912],
 ) -> Acted {
     let i = (w.act % 16) as usize;
     entries(bus, bytes);

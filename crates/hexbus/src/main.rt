@@ -150,7 +150,7 @@ fn playable(forms: &[u8], w: Wanted, name: &[u8], text: &[u8], bytes: &mut [u8; 
 fn whole(forms: &[u8], name: &[u8], text: &[u8], first: Desk, bytes: &mut [u8; 159744]) -> Desk {
     let mut rows = [0u64; 256];
     let mut response = [0u8; 65536];
-    let mut memory = [0xEEu8; 12288];
+    let mut memory = [0xEEu8; 38912];
     steps(
         forms,
         name,
@@ -172,7 +172,7 @@ fn steps(
     rows: &mut [u64; 256],
     bytes: &mut [u8; 159744],
     response: &mut [u8; 65536],
-    memory: &mut [u8; 12288],
+    memory: &mut [u8; 38912],
 ) -> Desk {
     let mut b = Bench {
         bus: bench::start(),
@@ -209,7 +209,7 @@ fn step(
     rows: &mut [u64; 256],
     bytes: &mut [u8; 159744],
     response: &mut [u8; 65536],
-    memory: &mut [u8; 12288],
+    memory: &mut [u8; 38912],
 ) -> Bench {
     if !d.is_under_way {
         d = play::next(forms, name, text, d, rows, bytes);
@@ -226,7 +226,7 @@ fn act(
     rows: &mut [u64; 256],
     bytes: &mut [u8; 159744],
     response: &mut [u8; 65536],
-    memory: &mut [u8; 12288],
+    memory: &mut [u8; 38912],
 ) -> Bench {
     let w = play::doing(d, rows);
     let a = bench::act(bus, d.statement, w, bytes, response, memory);
@@ -259,14 +259,14 @@ fn concluded<'a>(
     rows: &mut [u64; 256],
     bytes: &mut [u8; 159744],
     response: &'a [u8; 65536],
-    memory: &'a [u8; 12288],
+    memory: &'a [u8; 38912],
 ) -> Bench {
     let form = d.statement.form;
     d.entries = bench::entries(bus, bytes);
     if form == statement::SHOW_UNITS {
         units(bus, d, forms, rows);
     }
-    let party = desk::plan::party(d.plan, rows, d.statement.numbers.first);
+    let party = desk::plan::subject(d.plan, d.statement, rows);
     let found = bench::looks(bus, form, party);
     let desk = play::concluded(forms, name, text, d, found, rows, bytes, response, memory);
     Bench { bus, desk }

@@ -13,10 +13,11 @@ use statement::NONE;
 use statement::Numbers;
 use statement::Statement;
 use statement::TAKEN_BYTES;
+use statement::UNIT_MEMORY;
 use unit::Stepped;
 use unit::Unit;
 
-// Where the parts of a unit's memory begin.
+// Where the parts of a unit's memory begin. The last is what is written to it, a queue or the cells of a screen.
 const BUFFER: usize = 0;
 
 const INPUT: usize = 256;
@@ -36,7 +37,7 @@ pub fn act(
     s: Statement,
     w: Doing,
     bytes: &mut [u8; 159744],
-    memory: &mut [u8; 12288],
+    memory: &mut [u8; 38912],
 ) -> Acted {
     let i = w.act;
     let form = s.form;
@@ -69,10 +70,9 @@ pub fn make(n: Numbers) -> Made {
     host::make((n.first % 256) as u8, retry as u32)
 }
 
-// One of the three parts of a unit's memory: its command buffer, its input queue or its output queue, by where it begins in the 768 bytes
-// of the unit at a place.
-fn load(memory: &[u8; 12288], i: u64, from: usize) -> [u8; 256] {
-    let at = 768 * (i % 16) as usize + from % 513;
+// The first 256 bytes of a part of the memory of the unit at a place.
+fn load(memory: &[u8; 38912], i: u64, from: usize) -> [u8; 256] {
+    let at = UNIT_MEMORY * (i % 16) as usize + from % 513;
     let mut part = [0u8; 256];
     let mut k = 0usize;
     while k < 256 {
@@ -82,8 +82,8 @@ fn load(memory: &[u8; 12288], i: u64, from: usize) -> [u8; 256] {
     part
 }
 
-fn store(memory: &mut [u8; 12288], i: u64, from: usize, part: &[u8; 256]) {
-    let at = 768 * (i % 16) as usize + from % 513;
+fn store(memory: &mut [u8; 38912], i: u64, from: usize, part: &[u8; 256]) {
+    let at = UNIT_MEMORY * (i % 16) as usize + from % 513;
     let mut k = 0usize;
     while k < 256 {
         memory[at + k] = part[k];
@@ -92,7 +92,7 @@ fn store(memory: &mut [u8; 12288], i: u64, from: usize, part: &[u8; 256]) {
 }
 
 // The host feeds the first bytes. Once one is refused, so are those behind it.
-fn feed(mut u: Unit, n: u64, i: u64, bytes: &[u8; 159744], memory: &mut [u8; 12288]) -> Acted {
+fn feed(mut u: Unit, n: u64, i: u64, bytes: &[u8; 159744], memory: &mut [u8; 38912]) -> Acted {
     let mut input = load(memory, i, INPUT);
     let mut number = 0u64;
     let mut k = 0u64;
@@ -109,7 +109,7 @@ fn feed(mut u: Unit, n: u64, i: u64, bytes: &[u8; 159744], memory: &mut [u8; 122
 }
 
 // It takes up to so many bytes, which are noted. Once there is none, there are no more.
-fn take(mut u: Unit, most: u64, i: u64, bytes: &mut [u8; 159744], memory: &[u8; 12288]) -> Acted {
+fn take(mut u: Unit, most: u64, i: u64, bytes: &mut [u8; 159744], memory: &[u8; 38912]) -> Acted {
     let n = if most < 256 { most } else { 256 };
     let output = load(memory, i, OUTPUT);
     let mut number = 0u64;
@@ -138,10 +138,14 @@ fn raise(u: Unit) -> Acted {
     }
 }
 
-// It is switched off and on: new, with the settings that it had, its command buffer EE.
-fn restart(u: Unit, i: u64, memory: &mut [u8; 12288]) -> Acted {
-    let blank = [0xEEu8; 256];
-    store(memory, i, BUFFER, &blank);
+// It is switched off and on: new, with the settings that it had, its memory EE.
+fn restart(u: Unit, i: u64, memory: &mut [u8; 38912]) -> Acted {
+    let at = UNIT_MEMORY * (i % 16) as usize;
+    let mut k = 0usize;
+    while k < UNIT_MEMORY {
+        memory[at + k] = 0xEE;
+        k += 1;
+    }
     made(u, host::make(u.own, u.retry as u32))
 }
 
@@ -152,28 +156,47 @@ fn made(u: Unit, made: Made) -> Acted {
     }
 }
 
-// A step by hand, with so much of the command buffer lent, all of it where there is no more.
-fn step(u: Unit, n: Numbers, w: Doing, memory: &mut [u8; 12288]) -> Acted {
+// A step by hand, with so much lent of the command buffer and for what is written to the unit, all of it where there is no more.
+fn step(u: Unit, n: Numbers, w: Doing, memory: &mut [u8; 38912]) -> Acted {
     let i = w.act;
     let lent = if n.seventh < 256 { n.seventh } else { 256 };
     let mut buffer = load(memory, i, BUFFER);
     let input = load(memory, i, INPUT);
-    let mut output = load(memory, i, OUTPUT);
-    let stepped = unit::step(
+    let stepped = step_in(
         u,
-        Lines {
-            bav: w.bav,
-            hsk: w.hsk,
-            nibble: w.nibble,
-        },
+        w,
         n.fifth != NONE,
         &mut buffer[0..(lent % 257) as usize],
         &input,
-        &mut output,
+        memory,
+        n.seventh,
     );
     store(memory, i, BUFFER, &buffer);
-    store(memory, i, OUTPUT, &output);
     after(u, stepped)
+}
+
+fn step_in(
+    u: Unit,
+    w: Doing,
+    busy: bool,
+    buffer: &mut [u8],
+    input: &[u8; 256],
+    memory: &mut [u8],
+    lent: u64,
+) -> Stepped {
+    let seen = Lines {
+        bav: w.bav,
+        hsk: w.hsk,
+        nibble: w.nibble,
+    };
+    let at = UNIT_MEMORY * (w.act % 16) as usize + OUTPUT;
+    let most = if lent < 1920 { lent } else { 1920 };
+    let end = at + (most % 1921) as usize;
+    if end <= memory.len() {
+        return unit::step(u, seen, busy, buffer, input, &mut memory[at..end]);
+    }
+    // The memory has a part for each of sixteen units.
+    Stepped::Buffer
 }
 
 fn after(u: Unit, stepped: Stepped) -> Acted {
