@@ -1,0 +1,5 @@
+pub mod Screen
+pub mod Cells
+pub mod Text
+pub mod Laws
+pub mod Examples

@@ -1,0 +1,74 @@
+-- `text::cells::feed` meets its contract: on the last unprotected line, in scroll mode, all of them move up.
+use Prim.Native.Nat.{_≤_}
+use native.Mathlib.Omega.{arith}
+use borrow.Author.Needs.{needs}
+use Rattle.screen.specs.Screen.{lastLine}
+use Rattle.screen.proofs.Rules.{tests}
+use Rattle.text.proofs.Moves.{lines-low, fed-up}
+use Rattle.text.proofs.cells.feed.Statement.{statement}
+use Rattle.text.proofs.cells.feed.Tie as tie
+
+last-line-requires : tie.Need-last-line-requires
+last-line-requires c κs = search needs
+
+returns : tie.Need-returns
+returns c = simp (← (c .before .before .last-line .ensures)) (simp (tests, c .if1 .taken))
+
+first-line-requires : tie.Need-first-line-requires
+first-line-requires c κs = search needs
+
+cast-first : tie.Need-cast-first
+cast-first c = search needs
+
+mul-first : tie.Need-mul-first
+mul-first c = search needs
+
+lines-requires : tie.Need-lines-requires
+lines-requires c κs = search needs
+
+cast-n : tie.Need-cast-n
+cast-n c = search needs
+
+mul-n : tie.Need-mul-n
+mul-n c = search needs
+
+close-up-requires : tie.Need-close-up-requires
+close-up-requires c κs =
+    let start = c .before .before .before .before .before .before .before .before in
+    let low = lines-low (start .args .s .top) (start .args .s .bottom) in
+    let f = c .before .before .first-line .ensures in
+    let n = c .before .lines .ensures in
+    (omega (arith, start .pre), omega arith)
+
+same-length : tie.Need-same-length
+same-length c = search needs
+
+returns-2 : tie.Need-returns-2
+returns-2 c =
+    let at-if = c .before .before .before .before .before .before in
+    let start = at-if .before .before .before .before .before in
+    let s = start .args .s in
+    let last : lastLine s ≤ s .row = rw (← (at-if .before .before .before .last-line .ensures)) (at-if .before .if1 .left) in
+    let first = c .before .before .before .before .before .first-line .ensures in
+    let n = c .before .before .before .before .lines .ensures in
+    fed-up s (start .args .cells .now) _ _ _ first n last (at-if .if2 .taken) (c .before .before .close-up .ensures)
+
+returns-3 : tie.Need-returns-3
+returns-3 c = simp (← (c .before .before .before .last-line .ensures)) (simp (tests, c .before .if1 .left, c .if2 .left))
+
+pub feed-spec : {M : Type 1} → statement M
+feed-spec =
+    tie.close
+    (tie.spec
+    last-line-requires
+    returns
+    first-line-requires
+    cast-first
+    mul-first
+    lines-requires
+    cast-n
+    mul-n
+    close-up-requires
+    same-length
+    returns-2
+    returns-3)
