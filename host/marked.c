@@ -33,7 +33,7 @@ static hexbus_event round_of(const uint8_t *data, size_t n, size_t room)
     uint8_t nibble = (uint8_t)(c & u & HEXBUS_NIBBLE);
     hexbus_event e;
 
-    expect(hexbus_unit_step(&unit, bav, hsk, nibble, false, command, sizeof command, input, output) == 0, "a unit's step");
+    expect(hexbus_unit_step(&unit, bav, hsk, nibble, false, command, sizeof command, input, output, sizeof output) == 0, "a unit's step");
     expect(hexbus_controller_step(&master, bav, hsk, nibble, false, data, n, response, room, &e) == 0, "the controller's step");
     return e;
 }

@@ -103,13 +103,14 @@ __attribute__((constructor)) static void print_at_exit(void)
 
 WRAP(uint32_t, hexbus_unit_make, (hexbus_unit *u, uint8_t own, uint32_t retry), (u, own, retry))
 WRAP(uint32_t, hexbus_unit_step,
-     (hexbus_unit *u, bool bav, bool hsk, uint8_t nibble, bool busy, uint8_t *c, size_t n, const uint8_t *in, uint8_t *out),
-     (u, bav, hsk, nibble, busy, c, n, in, out))
+     (hexbus_unit *u, bool bav, bool hsk, uint8_t nibble, bool busy, uint8_t *c, size_t n, const uint8_t *in, uint8_t *out, size_t m),
+     (u, bav, hsk, nibble, busy, c, n, in, out, m))
 WRAP(uint32_t, hexbus_unit_pulls, (const hexbus_unit *u), (u))
 WRAP(uint32_t, hexbus_unit_feed, (hexbus_unit *u, uint8_t *in, uint8_t b), (u, in, b))
 WRAP(uint32_t, hexbus_unit_take, (hexbus_unit *u, const uint8_t *out), (u, out))
 WRAP(uint32_t, hexbus_unit_raise, (hexbus_unit *u), (u))
 WRAP_VOID(hexbus_unit_look, (const hexbus_unit *u, hexbus_unit_looks *l), (u, l))
+WRAP_VOID(hexbus_screen_look, (const hexbus_unit *u, hexbus_screen_looks *l), (u, l))
 WRAP(uint32_t, hexbus_controller_make, (hexbus_controller *c, uint32_t timeout), (c, timeout))
 WRAP(uint32_t, hexbus_controller_step,
      (hexbus_controller *c, bool bav, bool hsk, uint8_t nibble, bool busy, const uint8_t *d_, size_t n, uint8_t *r, size_t m, hexbus_event *e),
@@ -129,7 +130,8 @@ WRAP(uint8_t, hexbus_response_nibble, (uint8_t status, const uint8_t *d_, size_t
 WRAP(uint8_t, hexbus_class, (uint8_t code), (code))
 
 WRAP(int, second_unit_step,
-     (struct second_unit *u, struct second_levels seen, bool busy, uint8_t *c, size_t n, uint8_t *in, uint8_t *out), (u, seen, busy, c, n, in, out))
+     (struct second_unit *u, struct second_levels seen, bool busy, uint8_t *c, size_t n, uint8_t *in, uint8_t *out, size_t m),
+     (u, seen, busy, c, n, in, out, m))
 WRAP(struct second_event, second_controller_step,
      (struct second_controller *c, struct second_levels seen, bool busy, const uint8_t *d_, size_t n, uint8_t *r, size_t m),
      (c, seen, busy, d_, n, r, m))

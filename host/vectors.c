@@ -3,8 +3,8 @@
  * papers say it. A row is a call, its answer, and what can be looked at afterwards; no third text where that stays as it was. The other end
  * of the lines is played, so that a unit and a controller are each alone.
  *
- * In the texts bytes are hexadecimal, n*b is n bytes that count up from b, and all else is decimal. Lines: B where BAV is low, H where HSK
- * is, and the nibble.
+ * In the texts bytes are hexadecimal, n*b is n bytes that count up from b, n#b is b n times, 'x is the character x, ^x an escape with x behind
+ * it, and all else is decimal. Lines: B where BAV is low, H where HSK is, and the nibble.
  */
 #include "../include/hexbus.h"
 
@@ -12,6 +12,9 @@
 #include <stdio.h>
 #include <stdlib.h>
 #include <string.h>
+
+/* The rest of a command's header, all zeros. */
+#define ZEROS " 00 00 00 00 00 00 00"
 
 enum { MOST = 65536, BEFORE = 0xEE, GUARD = 16, WAIT = 2, SILENCE = 8, TEXT = 600 };
 
@@ -110,10 +113,20 @@ static size_t read_bytes(uint8_t *bytes)
         char *end;
         unsigned long value, count = 1;
 
+        bool counts = true;
+
         while (*rest_of == ' ')
             rest_of++;
-        if (strcspn(rest_of, "*") < strcspn(rest_of, " ")) {
+        if (*rest_of == '^' || *rest_of == '\'') {
+            if (*rest_of == '^')
+                bytes[n++] = 0x1B;
+            bytes[n++] = (uint8_t)rest_of[1];
+            rest_of += 2;
+            continue;
+        }
+        if (strcspn(rest_of, "*#") < strcspn(rest_of, " ")) {
             count = strtoul(rest_of, &end, 10);
+            counts = *end == '*';
             rest_of = end + 1;
         }
         value = strtoul(rest_of, &end, 16);
@@ -121,7 +134,7 @@ static size_t read_bytes(uint8_t *bytes)
             return n;
         rest_of = end;
         while (count-- > 0)
-            bytes[n++] = (uint8_t)value++;
+            bytes[n++] = (uint8_t)(counts ? value++ : value);
     }
 }
 
@@ -387,7 +400,8 @@ static bool is_busy(unsigned n, unsigned round)
 /*
  * frame BYTES: a whole frame; the response, and the round in which it ends, the first being that in which BAV is pulled. BAV goes high
  * behind the round after "cut", the host is free in every n-th round after "free", and a byte is fed in the round after "feeding".
- * feed BYTES: the last one's answer. drain: all bytes that can be taken. see: a step at these levels; what is pulled then.
+ * feed BYTES: the last one's answer. drain: all bytes that can be taken. see: a step at these levels; what is pulled then. So much of the
+ * output is lent as stands after "output", and first, in a step that is refused, as stands after "short".
  */
 static const struct row unit_rows[] = {
     { "make 0 20", "5", "" }, { "make 20 3", "5", "" }, { "make 20 65536", "5", "" }, { "make 20 4294967295", "5", "" },
@@ -509,6 +523,8 @@ static const struct row unit_rows[] = {
     /* steps: refusals, 5 before 11 */
     { "make 20 20", "0", NULL }, { "see B- 16", "refusal 5", NULL }, { "room 255 see B- 15", "refusal 11", NULL },
     { "room 255 see B- 255", "refusal 5", NULL }, { "room 0 see B- 0", "refusal 11", NULL },
+    { "output 255 see B- 15", "refusal 11", NULL }, { "output 0 see B- 15", "refusal 11", NULL }, { "output 255 see B- 16", "refusal 5", NULL },
+    { "output 256 short 255 frame 14 0A 00 00 00 00 00 00 00", " 00 00 0A in 99", NULL },
     /* HSK low with BAV high counts for nothing; both low at once: sits out */
     { "see -H 15", "-- 15", NULL }, { "see BH 4", "-- 15", NULL }, { "see B- 15", "-- 15", NULL }, { "see BH 4", "-- 15", NULL },
     { "see -- 15", "-- 15", NULL },
@@ -538,14 +554,38 @@ static const struct row unit_rows[] = {
 };
 
 static hexbus_unit unit;
-static uint8_t input[HEXBUS_QUEUE_BYTES], output[HEXBUS_QUEUE_BYTES];
+static uint8_t input[HEXBUS_QUEUE_BYTES], output[HEXBUS_SCREEN_BYTES + GUARD];
 static struct lent command, command_before;
 static uint8_t own;
+static size_t output_room;       /* what is lent of the output */
+static size_t too_short;         /* and first, with nothing done, so little of it; 0 where not */
+
+static bool is_video(void)
+{
+    return own >= 30 && own <= 33;
+}
+
+/* 11, and neither words nor lent memory change. */
+static bool refuses(struct seen s, bool busy)
+{
+    hexbus_unit before = unit;
+    uint8_t output_before[sizeof output], command_front[HEXBUS_COMMAND_BUFFER_BYTES];
+
+    memcpy(output_before, output, sizeof output);
+    memcpy(command_front, command.bytes, sizeof command_front);
+    return hexbus_unit_step(&unit, s.bav, s.hsk, s.nibble, busy, command.bytes, sizeof command.bytes, input, output, too_short)
+            == HEXBUS_SHORT_BUFFER
+        && memcmp(&before, &unit, sizeof unit) == 0 && memcmp(output_before, output, sizeof output) == 0
+        && memcmp(command_front, command.bytes, sizeof command_front) == 0;
+}
 
 static void see(struct seen s, bool busy, size_t room)
 {
-    hexbus_refusal refusal = hexbus_unit_step(&unit, s.bav, s.hsk, s.nibble, busy, command.bytes, room, input, output);
+    hexbus_refusal refusal;
 
+    if (too_short != 0)
+        expect(refuses(s, busy), "a step with too short an output", "11, and nothing changes");
+    refusal = hexbus_unit_step(&unit, s.bav, s.hsk, s.nibble, busy, command.bytes, room, input, output, output_room);
     clear_text();
     if (refusal != 0)
         say("refusal %u", (unsigned)refusal);
@@ -560,10 +600,9 @@ static void expect_stored(const uint8_t *message, size_t n)
         memcpy(command_before.bytes, message + HEXBUS_COMMAND_HEAD, n - HEXBUS_COMMAND_HEAD);
 }
 
-static void unit_frame(unsigned free, unsigned cut, unsigned feeding)
+static void unit_frame(const uint8_t *message, size_t n, unsigned free, unsigned cut, unsigned feeding)
 {
-    static uint8_t message[MOST + 2 * GUARD];
-    size_t n = read_bytes(message), whole = 0;
+    size_t whole = 0;
     unsigned round, high = 0;
     bool sent = false;
 
@@ -609,16 +648,64 @@ static void unit_frame(unsigned free, unsigned cut, unsigned feeding)
     say(" in %u", round);
 }
 
+/* ---- A screen's cells -------------------------------------------------- */
+
+enum { ROWS = 24, COLUMNS = 80, CELLS = ROWS * COLUMNS, BLANK = 0x20 };
+
+/* The pattern: no blank in it, and no cell like one that is 1, 79, 80 or 81 places away, or in its column. */
+static uint8_t painted(unsigned row, unsigned column)
+{
+    return (uint8_t)(0x21 + (column + 11 * row) % 94);
+}
+
+static void paint(uint8_t *cells)
+{
+    for (unsigned i = 0; i < CELLS; i++)
+        cells[i] = painted(i / COLUMNS, i % COLUMNS);
+}
+
+/* What is not blank, row by row. */
+static void say_cells(void)
+{
+    uint8_t pattern[CELLS];
+
+    paint(pattern);
+    if (memcmp(output, pattern, CELLS) == 0) {
+        say("painted");
+        return;
+    }
+    for (size_t i = 0, n; i < CELLS; i += n + 1) {
+        for (n = 0; i + n < CELLS && output[i + n] != BLANK; n++)
+            ;
+        if (n > 0) {
+            say("%zu %zu:", i / COLUMNS, i % COLUMNS);
+            say_bytes(output + i, n);
+            say(" ");
+        }
+    }
+    if (made_length == 0)
+        say("blank");
+}
+
 static void unit_call(void)
 {
+    static uint8_t message[MOST + 2 * GUARD];
     unsigned times = option("times", 1), free = option("free", 1), cut = option("cut", 0), feeding = option("feeding", 0);
     size_t room = option("room", HEXBUS_COMMAND_BUFFER_BYTES);
     bool busy = next_is("busy");
     uint32_t answer = 0;
 
+    output_room = option("output", sizeof output);
+    too_short = option("short", 0);
     clear_text();
     if (next_is("frame")) {
-        unit_frame(free, cut, feeding);
+        size_t n = read_bytes(message);
+
+        unit_frame(message, n, free, cut, feeding);
+    } else if (next_is("paint")) {
+        paint(output);
+    } else if (next_is("cells")) {
+        say_cells();
     } else if (next_is("see")) {
         struct seen s = read_levels();
 
@@ -653,6 +740,25 @@ static void unit_call(void)
     }
 }
 
+static void say_screen(void)
+{
+    hexbus_screen_looks l;
+
+    hexbus_screen_look(&unit, &l);
+    say("%u %u%s%s%s%s%s%s", (unsigned)l.row, (unsigned)l.column, l.scrolls != 0 ? "" : " page", l.wraps != 0 ? "" : " nowrap",
+        l.top != 0 ? " top" : "", l.bottom != 0 ? " bottom" : "", l.asked != 0 ? " asked" : "", l.reading != 0 ? " reading" : "");
+}
+
+/* The bytes behind a unit's output, or cells, stay. */
+static bool output_ends(void)
+{
+    size_t n = is_video() ? HEXBUS_SCREEN_BYTES : HEXBUS_QUEUE_BYTES;
+
+    while (n < sizeof output && output[n] == BEFORE)
+        n++;
+    return n == sizeof output;
+}
+
 static void look_unit(void)
 {
     static const char *const openings[] = { "closed", "input", "output", "update" };
@@ -662,6 +768,436 @@ static void look_unit(void)
     clear_text();
     say("%s %u in %u out %u%s%s", openings[l.opening & 3u], (unsigned)l.accepted_length, (unsigned)l.input_count, (unsigned)l.output_count,
         l.enabled != 0 ? " enabled" : "", l.requesting != 0 ? " requesting" : "");
+    if (is_video()) {
+        say(" at ");
+        say_screen();
+    }
+    expect(output_ends(), "a unit", "bytes behind its output stay");
+}
+
+/* ---- A video unit ------------------------------------------------------ */
+
+/*
+ * Codes 30 to 33 (02, P13; 000, display chapter, section 4), as a serial unit's rows, but that cursor and modes can be looked at too: row,
+ * column, and what is not as at power up. paint: all cells get a pattern. cells: those that are not blank, row and column of the first before
+ * them.
+ */
+#define OPEN_30 "frame 1E 00 00 00 00 04 00 03 00 50 00 C0"
+#define OPENED_30 " 04 00 50 00 00 00 00 in 155"
+#define DATA_257 "00 00 00 04 00 01 01 257*00"
+#define DATA_256 "00 00 00 04 00 00 01 256*00"
+static const struct row video_rows[] = {
+    /* by code alone: 29 and 34 are serial units, 31 to 33 are not */
+    { "make 29 20", "0", "closed 0 in 0 out 0" }, { "frame 1D 00 00 00 00 04 00 03 00 50 00 40", OPENED_30, "input 80 in 0 out 0" },
+    { "feed 41", "0", "input 80 in 1 out 0" }, { "frame 1D 08" ZEROS, " 00 00 00 in 99", "input 80 in 1 out 0 enabled" },
+    { "output 256 see -- 15", "-- 15", NULL }, { "make 34 20", "0", "closed 0 in 0 out 0" },
+    { "frame 22 00 00 00 00 04 00 03 00 50 00 40", OPENED_30, "input 80 in 0 out 0" }, { "feed 41", "0", "input 80 in 1 out 0" },
+    { "frame 22 08" ZEROS, " 00 00 00 in 99", "input 80 in 1 out 0 enabled" }, { "output 256 see -- 15", "-- 15", NULL },
+    { "make 31 20", "0", "closed 0 in 0 out 0 at 0 0" }, { "frame 1F 00 00 00 00 04 00 03 00 50 00 40", " 00 00 15 in 123", NULL },
+    { "make 32 20", "0", NULL }, { "frame 20 00 00 00 00 04 00 03 00 50 00 40", " 00 00 15 in 123", NULL }, { "make 33 20", "0", NULL },
+    { "frame 21 00 00 00 00 04 00 03 00 50 00 40", " 00 00 15 in 123", NULL },
+    /* 0D, and before it goes nothing but FE, FF and code 0; then 08, for a poll too; then 04, but a poll's 0A */
+    { "make 30 20", "0", NULL }, { "paint", "", NULL }, { "cells", "painted", NULL }, { "frame 1E 08" ZEROS, " 00 00 0D in 99", NULL },
+    { "frame 1E 09" ZEROS, " 00 00 0D in 99", NULL }, { "frame 1E 08 " DATA_257, " 00 00 0D in 2155", NULL },
+    { "frame 1E 09 " DATA_257, " 00 00 0D in 2155", NULL }, { "frame 1E 02" ZEROS, " 00 00 0D in 99", NULL },
+    { "frame 1E 05" ZEROS, " 00 00 0D in 99", NULL }, { "frame 1E 07 00 00 00 09 00 00 00", " 00 00 0D in 99", NULL },
+    { "frame 1E 0B " DATA_257, " 00 00 0D in 2155", NULL }, { "frame 1E 00 " DATA_257, " 00 00 08 in 2155", NULL },
+    { "frame 1E 01 " DATA_257, " 00 00 08 in 2155", NULL }, { "frame 1E 03 " DATA_257, " 00 00 08 in 2155", NULL },
+    { "frame 1E 04 " DATA_257, " 00 00 08 in 2155", NULL }, { "frame 1E 0A " DATA_257, " 00 00 08 in 2155", NULL },
+    { "frame 1E 0A " DATA_256, " 00 00 0A in 2147", NULL }, { "frame 1E 01 " DATA_256, " 00 00 04 in 2147", NULL },
+    { "frame 1E 03 " DATA_256, " 00 00 04 in 2147", NULL }, { "frame 1E 04 " DATA_256, " 00 00 04 in 2147", NULL },
+    { "frame 1E 0A" ZEROS, " 00 00 0A in 99", NULL }, { "frame 1E FE" ZEROS, "none", NULL }, { "frame 00 FE" ZEROS, "none", NULL },
+    { "frame 00 00 00 00 00 04 00 03 00 50 00 C0", "none", NULL }, { "frame 1F 00 00 00 00 04 00 03 00 50 00 C0", "none", NULL },
+    { "frame 1E FF" ZEROS, "none", NULL }, { "frame 00 FF" ZEROS, "none", NULL }, { "feed 41", "7", NULL }, { "raise", "7", NULL },
+    { "take", "nothing", NULL },
+    /* open (4.2.1), on both sides of each limit, and with what is looked at later wrong too */
+    { "frame 1E 00 00 00 00 03 00 00 00", " 00 00 02 in 99", NULL }, { "frame 1E 00 00 00 00 03 00 02 00 81 60", " 00 00 02 in 115", NULL },
+    { "frame 1E 00 00 00 00 03 00 04 00 81 00 00 52", " 00 00 13 in 131", NULL },
+    { "frame 1E 00 00 00 00 04 00 03 00 50 00 3F", " 00 00 13 in 123", NULL },
+    { "frame 1E 00 00 00 00 03 00 04 00 81 00 20 52", " 00 00 13 in 131", NULL },
+    { "frame 1E 00 00 00 00 04 00 03 00 50 00 40", " 00 00 15 in 123", NULL },
+    { "frame 1E 00 00 00 00 03 00 04 00 81 00 60 52", " 00 00 15 in 131", NULL },
+    { "frame 1E 00 00 00 00 04 00 03 00 50 00 7F", " 00 00 15 in 123", NULL },
+    { "frame 1E 00 00 00 00 03 00 04 00 81 00 A0 52", " 00 00 11 in 131", NULL },
+    { "frame 1E 00 00 00 00 04 00 03 00 50 00 E0", " 00 00 11 in 123", NULL },
+    { "frame 1E 00 00 00 00 04 00 04 00 81 00 C0 52", " 00 00 0C in 131", NULL },
+    { "frame 1E 00 00 00 00 04 00 03 00 00 01 80", " 00 00 0C in 123", NULL },
+    { "frame 1E 00 00 00 00 03 00 04 00 80 00 C0 52", " 00 00 0C in 131", NULL },
+    { "frame 1E 00 00 00 00 00 00 03 00 00 00 C0", " 00 00 0C in 123", NULL },
+    { "frame 1E 00 00 00 00 04 00 06 00 50 00 C0 'R '= 'N", " 00 00 01 in 147", NULL }, { "cells", "painted", NULL },
+    /* it is cleared when the last nibble is taken */
+    { "cut 95 " OPEN_30, "cut", NULL }, { "cells", "painted", NULL }, { "cut 96 " OPEN_30, "cut", "update 80 in 0 out 0 at 0 0" },
+    { "cells", "blank", NULL }, { "frame 1E 00 00 00 00 00 00 00 00", " 00 00 05 in 99", NULL },
+    { "frame 1E 00 " DATA_257, " 00 00 08 in 2155", NULL },
+    { "frame 1E 01 00 00 00 00 00 02 00 41 42", " 00 00 00 in 115", "closed 0 in 0 out 0 at 0 0" },
+    { "frame 1E 00 00 00 00 04 00 03 00 00 00 DF", OPENED_30, "update 80 in 0 out 0 at 0 0" },
+    { "frame 1E 01" ZEROS, " 00 00 00 in 99", "closed 0 in 0 out 0 at 0 0" }, { "paint", "", NULL },
+    { "frame 1E 00 00 00 00 FF FF 03 00 80 00 9F", " 04 00 80 00 00 00 00 in 155", "output 128 in 0 out 0 at 0 0" }, { "cells", "blank", NULL },
+    /* write (4.2.4): the text goes to the screen when its last nibble is taken; over 256 bytes none does */
+    { "frame 1E 04" ZEROS, " 00 00 00 in 99", NULL }, { "frame 1E 04 00 00 00 00 00 01 01 257#41", " 00 00 08 in 2155", NULL },
+    { "cut 87 frame 1E 04 FF FF FF FF FF 02 00 'H 'i", "cut", NULL }, { "cells", "blank", NULL },
+    { "cut 88 frame 1E 04 FF FF FF FF FF 02 00 'H 'i", "cut", "output 128 in 0 out 0 at 0 2" }, { "cells", "0 0: 48 69 ", NULL },
+    { "take", "nothing", NULL }, { "feed 41", "7", NULL }, { "raise", "7", NULL }, { "frame 1E 08" ZEROS, " 00 00 0D in 99", NULL },
+    { "frame 00 04 00 00 00 00 00 01 00 'A", "none", NULL }, { "frame 1F 04 00 00 00 00 00 01 00 'A", "none", NULL },
+    { "frame 1E FE 00 00 00 00 00 01 00 'A", "none", NULL }, { "cells", "0 0: 48 69 ", NULL },
+    /* close (4.2.2) keeps all; FF on a closed unit does nothing (4.2.8); the next open clears */
+    { "frame 1E 04 00 00 00 00 00 0B 00 ^m ^4 ^0 ^2 ^9 1B", " 00 00 00 in 187", "output 128 in 0 out 0 at 1 2 page nowrap top bottom asked reading" },
+    { "frame 1E 03 00 00 00 02 00 00 00", " 00 00 0F in 99", NULL }, { "frame 1E 0A" ZEROS, " 00 00 0A in 99", NULL },
+    { "frame 1E 01" ZEROS, " 00 00 00 in 99", "closed 0 in 0 out 0 at 1 2 page nowrap top bottom asked reading" },
+    { "frame 1E 01" ZEROS, " 00 00 04 in 99", NULL }, { "frame 1E 04 00 00 00 00 00 01 00 'Q", " 00 00 04 in 107", NULL },
+    { "frame 1E 03 00 00 00 02 00 00 00", " 00 00 04 in 99", NULL }, { "frame 1E FF" ZEROS, "none", NULL }, { "frame 00 FF" ZEROS, "none", NULL },
+    { "cells", "0 0: 48 69 ", NULL }, { OPEN_30, OPENED_30, "update 80 in 0 out 0 at 0 0" }, { "cells", "blank", NULL },
+    /* FF on an open unit clears and closes; it and FE draw no response */
+    { "frame 1E 04 00 00 00 00 00 0D 00 'H 'i ^m ^4 ^0 ^2 ^9 1B", " 00 00 00 in 203", "update 80 in 0 out 0 at 1 2 page nowrap top bottom asked reading" },
+    { "cut 71 frame 00 FF" ZEROS, "cut", NULL }, { "cells", "0 0: 48 69 ", NULL },
+    { "cut 72 frame 00 FF" ZEROS, "cut", "closed 0 in 0 out 0 at 0 0" }, { "cells", "blank", NULL },
+    { OPEN_30, OPENED_30, "update 80 in 0 out 0 at 0 0" }, { "paint", "", NULL },
+    { "frame 1E FF 00 00 00 00 00 2C 01 300*00", "none", "closed 0 in 0 out 0 at 0 0" }, { "cells", "blank", NULL },
+    /* read (4.2.3, 3.2.17): the cursor's address at the read, once, or no data */
+    { OPEN_30, OPENED_30, "update 80 in 0 out 0 at 0 0" }, { "feed 41", "7", NULL }, { "raise", "7", NULL }, { "take", "nothing", NULL },
+    { "frame 1E 03 00 00 00 50 00 00 00", " 00 00 00 in 99", NULL },
+    { "frame 1E 04 00 00 00 00 00 06 00 ^= 05 07 ^9", " 00 00 00 in 147", "update 80 in 0 out 0 at 5 7 asked" },
+    { "frame 1E 03 00 00 00 50 00 00 00", " 02 00 05 07 00 in 115", "update 80 in 0 out 0 at 5 7" },
+    { "frame 1E 03 00 00 00 50 00 00 00", " 00 00 00 in 99", NULL },
+    { "frame 1E 04 00 00 00 00 00 04 00 ^9 'A 'B", " 00 00 00 in 131", "update 80 in 0 out 0 at 5 9 asked" },
+    { "frame 1E 0A" ZEROS, " 00 00 0A in 99", NULL }, { "frame 1E 04 " DATA_257, " 00 00 08 in 2155", NULL },
+    { "frame 1E 00 00 00 00 04 00 00 00", " 00 00 05 in 99", NULL },
+    { "frame 1E 03 00 00 00 03 00 00 00", " 02 00 05 09 00 in 115", "update 80 in 0 out 0 at 5 9" },
+    { "frame 1E 04 00 00 00 00 00 02 00 ^9", " 00 00 00 in 115", "update 80 in 0 out 0 at 5 9 asked" },
+    { "frame 1E 03 00 00 00 02 00 00 00", " 02 00 05 09 00 in 115", "update 80 in 0 out 0 at 5 9" },
+    { "frame 1E 04 00 00 00 00 00 02 00 ^9", " 00 00 00 in 115", "update 80 in 0 out 0 at 5 9 asked" },
+    { "frame 1E 03 00 00 00 01 00 00 00", " 01 00 05 00 in 107", "update 80 in 0 out 0 at 5 9" },
+    { "frame 1E 04 00 00 00 00 00 04 00 ^9 ^9", " 00 00 00 in 131", "update 80 in 0 out 0 at 5 9 asked" },
+    { "cut 98 frame 1E 03 00 00 00 00 00 00 00", "cut", NULL }, { "cut 99 frame 1E 03 00 00 00 00 00 00 00", "cut", "update 80 in 0 out 0 at 5 9" },
+    { "frame 1E 04 00 00 00 00 00 03 00 ^9 1B", " 00 00 00 in 123", "update 80 in 0 out 0 at 5 9 asked reading" },
+    { "cut 72 frame 1E 03 00 00 00 02 00 00 00", "cut", NULL }, { "cut 114 frame 1E 03 00 00 00 02 00 00 00", "cut", NULL },
+    { "cut 115 frame 1E 03 00 00 00 FF FF 00 00", "cut", "update 80 in 0 out 0 at 5 9 reading" },
+    { "frame 1E 04 00 00 00 00 00 01 00 '9", " 00 00 00 in 107", "update 80 in 0 out 0 at 5 9 asked" }, { "cells", "5 7: 41 42 ", NULL },
+    { "frame 1E 01" ZEROS, " 00 00 00 in 99", "closed 0 in 0 out 0 at 5 9 asked" },
+    { "frame 1E 00 00 00 00 04 00 03 00 01 00 C0", " 04 00 01 00 00 00 00 in 155", "update 1 in 0 out 0 at 0 0" },
+    { "frame 1E 04 00 00 00 00 00 06 00 ^= 17 4F ^9", " 00 00 00 in 147", "update 1 in 0 out 0 at 23 79 asked" },
+    { "frame 1E 03 00 00 00 02 00 00 00", " 01 00 17 00 in 107", "update 1 in 0 out 0 at 23 79" },
+    { "frame 00 FF" ZEROS, "none", "closed 0 in 0 out 0 at 0 0" },
+    /* under 1,920 cells: 11 in every phase, behind 5, and nothing changes; bytes behind them stay */
+    { "output 1919 see B- 15", "refusal 11", NULL }, { "output 256 see B- 15", "refusal 11", NULL }, { "output 0 see -- 15", "refusal 11", NULL },
+    { "output 1919 see B- 16", "refusal 5", NULL }, { "room 255 output 1920 see B- 15", "refusal 11", NULL },
+    { "room 255 output 1919 see B- 255", "refusal 5", NULL }, { "output 1920 see -- 15", "-- 15", NULL },
+    { "output 1920 short 1919 " OPEN_30, OPENED_30, "update 80 in 0 out 0 at 0 0" },
+    { "output 1920 short 1919 frame 1E 04 00 00 00 00 00 06 00 ^= 17 4F ^9", " 00 00 00 in 147", "update 80 in 0 out 0 at 23 79 asked" },
+    { "output 1920 short 1919 frame 1E 04 00 00 00 00 00 01 00 'A", " 00 00 00 in 107", "update 80 in 0 out 0 at 23 0 asked" },
+    { "cells", "22 79: 41 ", NULL },
+    { "output 1920 short 256 frame 1E 03 00 00 00 02 00 00 00", " 02 00 17 00 00 in 115", "update 80 in 0 out 0 at 23 0" },
+    { "output 1920 short 1 frame 1F 01" ZEROS, "none", NULL }, { "output 1920 short 1919 frame 1E FF" ZEROS, "none", "closed 0 in 0 out 0 at 0 0" },
+    { "cells", "blank", NULL },
+};
+
+/* ---- A screen ---------------------------------------------------------- */
+
+/*
+ * A text on a painted screen, its modes set and the cursor there; | ends a write. Cursor and modes afterwards; then what cells have changed:
+ * rows of the pattern, cells of one row, blanks, and bytes that are put; all others keep theirs. Each row is run once more with every byte in a
+ * write of its own. The sections are the display chapter's.
+ */
+static const struct row screen_rows[] = {
+    /* characters, and the end of a line: 3.1, 3.2.13, 3.2.14 */
+    { "at 0 0 write 'A", "0 1", "put 0 0 41" }, { "at 0 78 write 'A", "0 79", "put 0 78 41" }, { "at 0 79 write 'A", "1 0", "put 0 79 41" },
+    { "at 22 79 write 'A", "23 0", "put 22 79 41" }, { "at 23 0 write 'A", "23 1", "put 23 0 41" },
+    { "at 5 5 write 20 7F 80 FF", "5 9", "put 5 5 20 7F 80 FF" }, { "at 23 79 write 'A", "23 0", "rows 0-22 from 1, put 22 79 41, blank 23 0 80" },
+    { "at 23 78 write 'A 'B 'C", "23 1", "rows 0-22 from 1, put 22 78 41 42, blank 23 0 80, put 23 0 43" },
+    { "page at 23 79 write 'A", "0 0 page", "put 23 79 41" }, { "page at 23 79 write 'A 'B", "0 1 page", "put 23 79 41, put 0 0 42" },
+    { "nowrap at 23 79 write 'A", "23 79 nowrap", "put 23 79 41" }, { "nowrap at 0 78 write 'A 'B 'C", "0 79 nowrap", "put 0 78 41 43" },
+    { "page nowrap at 23 79 write 'A", "23 79 page nowrap", "put 23 79 41" }, { "top at 1 0 write 'A", "1 1 top", "put 1 0 41" },
+    { "top at 23 79 write 'A", "23 0 top", "rows 1-22 from 2, put 22 79 41, blank 23 0 80" },
+    { "bottom at 21 79 write 'A", "22 0 bottom", "put 21 79 41" },
+    { "bottom at 22 79 write 'A", "22 0 bottom", "rows 0-21 from 1, put 21 79 41, blank 22 0 80" },
+    { "top bottom at 22 79 write 'A", "22 0 top bottom", "rows 1-21 from 2, put 21 79 41, blank 22 0 80" },
+    { "page top at 23 79 write 'A", "1 0 page top", "put 23 79 41" }, { "page bottom at 22 79 write 'A", "0 0 page bottom", "put 22 79 41" },
+    { "page top bottom at 22 79 write 'A", "1 0 page top bottom", "put 22 79 41" }, { "at 0 0 write 81*21", "1 1", "put 0 0 81*21" },
+    { "at 0 0 write 200*21 56*21", "3 16", "put 0 0 200*21 56*21" }, { "nowrap at 7 0 write 80*21 'x", "7 79 nowrap", "put 7 0 79*21 78" },
+    { "at 23 0 write 160#41", "23 0", "rows 0-20 from 2, put 21 0 160#41, blank 23 0 80" },
+    /* codes that do nothing: 3.1, 5.3 */
+    { "at 5 7 write 8*00 09 13*0E 3*1C", "5 7", "" },
+    { "page nowrap top bottom at 22 79 write 8*00 09 13*0E 3*1C", "22 79 page nowrap top bottom", "" },
+    /* backspace: 3.1, 3.2.13, 3.2.14 */
+    { "at 0 1 write 08", "0 0", "" }, { "at 0 79 write 08", "0 78", "" }, { "at 0 0 write 08", "23 79", "" }, { "at 1 0 write 08", "0 79", "" },
+    { "at 23 0 write 08", "22 79", "" }, { "page at 0 0 write 08", "23 79 page", "" }, { "nowrap at 0 0 write 08", "0 0 nowrap", "" },
+    { "nowrap at 5 0 write 08 08", "5 0 nowrap", "" }, { "nowrap at 5 1 write 08", "5 0 nowrap", "" }, { "top at 1 0 write 08", "23 79 top", "" },
+    { "top at 2 0 write 08", "1 79 top", "" }, { "bottom at 0 0 write 08", "22 79 bottom", "" },
+    { "top bottom at 1 0 write 08", "22 79 top bottom", "" }, { "page top bottom at 1 0 write 08 08", "22 78 page top bottom", "" },
+    { "nowrap top at 1 0 write 08", "1 0 nowrap top", "" },
+    /* forward space: 3.1, 3.2.13, 3.2.14 */
+    { "at 0 0 write 0C", "0 1", "" }, { "at 0 78 write 0C", "0 79", "" }, { "at 0 79 write 0C", "1 0", "" }, { "at 22 79 write 0C", "23 0", "" },
+    { "at 23 79 write 0C", "0 0", "" }, { "page at 23 79 write 0C", "0 0 page", "" }, { "nowrap at 23 79 write 0C", "23 79 nowrap", "" },
+    { "nowrap at 5 79 write 0C 0C", "5 79 nowrap", "" }, { "nowrap at 5 78 write 0C", "5 79 nowrap", "" },
+    { "top at 23 79 write 0C", "1 0 top", "" }, { "bottom at 22 79 write 0C", "0 0 bottom", "" }, { "bottom at 21 79 write 0C", "22 0 bottom", "" },
+    { "top bottom at 22 79 write 0C", "1 0 top bottom", "" }, { "page top bottom at 22 79 write 0C 0C", "1 1 page top bottom", "" },
+    /* line feed: 3.1, 3.2.1, 3.2.2 */
+    { "at 0 0 write 0A", "1 0", "" }, { "at 0 79 write 0A", "1 79", "" }, { "at 22 40 write 0A", "23 40", "" },
+    { "at 23 0 write 0A", "23 0", "rows 0-22 from 1, blank 23 0 80" }, { "at 23 79 write 0A", "23 79", "rows 0-22 from 1, blank 23 0 80" },
+    { "nowrap at 23 5 write 0A 0A", "23 5 nowrap", "rows 0-21 from 2, blank 22 0 160" }, { "at 23 5 write 24#0A", "23 5", "blank 0 0 1920" },
+    { "top at 23 5 write 0A", "23 5 top", "rows 1-22 from 2, blank 23 0 80" },
+    { "bottom at 22 5 write 0A", "22 5 bottom", "rows 0-21 from 1, blank 22 0 80" },
+    { "top bottom at 22 5 write 0A", "22 5 top bottom", "rows 1-21 from 2, blank 22 0 80" }, { "bottom at 21 5 write 0A", "22 5 bottom", "" },
+    { "page at 23 40 write 0A", "0 40 page", "" }, { "page at 22 79 write 0A", "23 79 page", "" },
+    { "page top at 23 5 write 0A", "1 5 page top", "" }, { "page bottom at 22 5 write 0A", "0 5 page bottom", "" },
+    { "page nowrap top bottom at 22 5 write 0A", "1 5 page nowrap top bottom", "" },
+    { "top bottom at 22 5 write 22#0A", "22 5 top bottom", "blank 1 0 1760" },
+    /* line up: 3.1, 3.2.1, 3.2.2 */
+    { "at 23 0 write 0B", "22 0", "" }, { "at 1 79 write 0B", "0 79", "" }, { "at 0 0 write 0B", "0 0", "rows 1-23 from 0, blank 0 0 80" },
+    { "at 0 79 write 0B", "0 79", "rows 1-23 from 0, blank 0 0 80" },
+    { "nowrap at 0 5 write 0B 0B", "0 5 nowrap", "rows 2-23 from 0, blank 0 0 160" },
+    { "top at 1 5 write 0B", "1 5 top", "rows 2-23 from 1, blank 1 0 80" },
+    { "bottom at 0 5 write 0B", "0 5 bottom", "rows 1-22 from 0, blank 0 0 80" },
+    { "top bottom at 1 5 write 0B", "1 5 top bottom", "rows 2-22 from 1, blank 1 0 80" }, { "top at 2 5 write 0B", "1 5 top", "" },
+    { "page at 0 5 write 0B", "23 5 page", "" }, { "page top at 1 5 write 0B", "23 5 page top", "" },
+    { "page bottom at 0 5 write 0B", "22 5 page bottom", "" }, { "page top bottom at 1 5 write 0B", "22 5 page top bottom", "" },
+    { "page at 1 79 write 0B", "0 79 page", "" },
+    /* carriage return, erase page: 3.1 */
+    { "at 0 0 write 0D", "0 0", "" }, { "at 5 79 write 0D", "5 0", "" }, { "page nowrap bottom at 22 1 write 0D", "22 0 page nowrap bottom", "" },
+    { "at 0 0 write 1F", "0 0", "blank 0 0 1920" }, { "page nowrap at 23 79 write 1F", "0 0 page nowrap", "blank 0 0 1920" },
+    { "top at 23 79 write 1F", "1 0 top", "blank 1 0 1840" }, { "bottom at 0 5 write 1F", "0 0 bottom", "blank 0 0 1840" },
+    { "top bottom at 22 5 write 1F", "1 0 top bottom", "blank 1 0 1760" }, { "at 5 7 write ^9 1F", "0 0 asked", "blank 0 0 1920" },
+    /* scroll and page mode: 3.2.1, 3.2.2 */
+    { "at 5 7 write ^m", "5 7 page", "" }, { "at 5 7 write ^m ^m", "5 7 page", "" }, { "page at 23 79 write ^M", "23 79", "" },
+    { "at 0 0 write ^M", "0 0", "" },
+    /* character insert: 3.2.2.1 */
+    { "at 0 0 write ^Q", "0 0", "cells 0 1 79 from 0, blank 0 0 1" }, { "at 0 79 write ^Q", "0 79", "blank 0 79 1" },
+    { "at 23 78 write ^Q", "23 78", "cells 23 79 1 from 78, blank 23 78 1" },
+    { "at 5 40 write ^Q ^Q", "5 40", "cells 5 42 38 from 40, blank 5 40 2" },
+    { "page nowrap at 23 79 write ^Q", "23 79 page nowrap", "blank 23 79 1" }, { "at 23 0 write ^Q", "23 0", "cells 23 1 79 from 0, blank 23 0 1" },
+    { "top bottom at 1 0 write ^Q", "1 0 top bottom", "cells 1 1 79 from 0, blank 1 0 1" },
+    { "top bottom at 22 79 write ^Q", "22 79 top bottom", "blank 22 79 1" },
+    { "at 5 40 write ^Q 'A", "5 41", "cells 5 41 39 from 40, put 5 40 41" },
+    /* character delete: 3.2.3 */
+    { "at 0 0 write ^W", "0 0", "cells 0 0 79 from 1, blank 0 79 1" }, { "at 0 79 write ^W", "0 79", "blank 0 79 1" },
+    { "at 23 78 write ^W", "23 78", "cells 23 78 1 from 79, blank 23 79 1" },
+    { "at 5 40 write ^W ^W", "5 40", "cells 5 40 38 from 42, blank 5 78 2" },
+    { "page nowrap at 23 79 write ^W", "23 79 page nowrap", "blank 23 79 1" },
+    { "at 23 0 write ^W", "23 0", "cells 23 0 79 from 1, blank 23 79 1" },
+    { "top bottom at 1 0 write ^W", "1 0 top bottom", "cells 1 0 79 from 1, blank 1 79 1" },
+    { "top bottom at 22 79 write ^W", "22 79 top bottom", "blank 22 79 1" },
+    /* line insert: 3.2.4 */
+    { "at 0 0 write ^E", "0 0", "rows 1-23 from 0, blank 0 0 80" }, { "at 23 79 write ^E", "23 79", "blank 23 0 80" },
+    { "page nowrap at 5 40 write ^E", "5 40 page nowrap", "rows 6-23 from 5, blank 5 0 80" },
+    { "at 22 79 write ^E", "22 79", "rows 23-23 from 22, blank 22 0 80" },
+    { "bottom at 5 40 write ^E", "5 40 bottom", "rows 6-22 from 5, blank 5 0 80" }, { "bottom at 22 0 write ^E", "22 0 bottom", "blank 22 0 80" },
+    { "top at 1 5 write ^E", "1 5 top", "rows 2-23 from 1, blank 1 0 80" },
+    { "top bottom at 21 5 write ^E ^E", "21 5 top bottom", "blank 21 0 160" },
+    /* line delete: 3.2.5 */
+    { "at 0 40 write ^R", "0 0", "rows 0-22 from 1, blank 23 0 80" }, { "at 23 79 write ^R", "23 0", "blank 23 0 80" },
+    { "page nowrap at 5 40 write ^R", "5 0 page nowrap", "rows 5-22 from 6, blank 23 0 80" },
+    { "at 22 79 write ^R", "22 0", "rows 22-22 from 23, blank 23 0 80" },
+    { "bottom at 5 40 write ^R", "5 0 bottom", "rows 5-21 from 6, blank 22 0 80" }, { "bottom at 22 79 write ^R", "22 0 bottom", "blank 22 0 80" },
+    { "top at 1 5 write ^R", "1 0 top", "rows 1-22 from 2, blank 23 0 80" },
+    { "top bottom at 21 5 write ^R ^R", "21 0 top bottom", "blank 21 0 160" },
+    /* to the end of the line, of the page: 3.2.6, 3.2.7 */
+    { "at 0 0 write ^T", "0 0", "blank 0 0 80" }, { "at 0 79 write ^T", "0 79", "blank 0 79 1" },
+    { "page nowrap at 23 40 write ^T", "23 40 page nowrap", "blank 23 40 40" }, { "at 23 79 write ^T", "23 79", "blank 23 79 1" },
+    { "top bottom at 1 1 write ^T", "1 1 top bottom", "blank 1 1 79" }, { "bottom at 22 0 write ^T", "22 0 bottom", "blank 22 0 80" },
+    { "at 0 0 write ^Y", "0 0", "blank 0 0 1920" }, { "at 23 79 write ^Y", "23 79", "blank 23 79 1" },
+    { "page nowrap at 5 40 write ^Y", "5 40 page nowrap", "blank 5 40 1480" }, { "bottom at 5 40 write ^Y", "5 40 bottom", "blank 5 40 1400" },
+    { "bottom at 22 79 write ^Y", "22 79 bottom", "blank 22 79 1" }, { "top at 1 0 write ^Y", "1 0 top", "blank 1 0 1840" },
+    { "top bottom at 1 0 write ^Y", "1 0 top bottom", "blank 1 0 1760" },
+    /* set cursor, in binary: 3.2.8 */
+    { "at 5 7 write ^= 00 00", "0 0", "" }, { "at 5 7 write ^= 17 4F", "23 79", "" }, { "at 5 7 write ^= 18 4F", "5 7", "" },
+    { "at 5 7 write ^= 17 50", "5 7", "" }, { "at 5 7 write ^= FF 00", "5 7", "" }, { "at 5 7 write ^= 00 FF", "5 7", "" },
+    { "at 5 7 write ^= 0A 0D", "10 13", "" }, { "at 5 7 write ^= 1B 1B", "5 7", "" }, { "at 5 7 write ^= 17 1B", "23 27", "" },
+    { "at 5 7 write ^= 1B 00 'A", "5 8", "put 5 7 41" }, { "at 5 7 write ^= 08 1F 'A", "8 32", "put 8 31 41" },
+    { "top at 5 7 write ^= 00 05", "1 5 top", "" }, { "top at 5 7 write ^= 01 05", "1 5 top", "" }, { "top at 5 7 write ^= 17 05", "23 5 top", "" },
+    { "bottom at 5 7 write ^= 17 4F", "22 79 bottom", "" }, { "bottom at 5 7 write ^= 16 4F", "22 79 bottom", "" },
+    { "bottom at 5 7 write ^= 00 05", "0 5 bottom", "" }, { "top bottom at 5 7 write ^= 18 05", "5 7 top bottom", "" },
+    { "page nowrap top bottom at 5 7 write ^= 17 00", "22 0 page nowrap top bottom", "" }, { "at 5 7 write ^=", "5 7 reading", "" },
+    { "at 5 7 write ^= 1B", "5 7 reading", "" },
+    /* protected lines: 3.2.9 to 3.2.12; the letter O is another byte */
+    { "at 0 5 write ^0", "1 5 top", "" }, { "at 1 5 write ^0", "1 5 top", "" }, { "at 23 79 write ^0", "23 79 top", "" },
+    { "top at 1 5 write ^0", "1 5 top", "" }, { "at 0 5 write ^O", "0 5", "" }, { "top at 1 5 write ^1", "1 5", "" },
+    { "at 0 5 write ^1", "0 5", "" }, { "top bottom at 22 5 write ^1", "22 5 bottom", "" }, { "at 23 5 write ^2", "22 5 bottom", "" },
+    { "at 22 5 write ^2", "22 5 bottom", "" }, { "at 0 0 write ^2", "0 0 bottom", "" }, { "bottom at 22 5 write ^2", "22 5 bottom", "" },
+    { "bottom at 22 5 write ^3", "22 5", "" }, { "at 23 5 write ^3", "23 5", "" }, { "top bottom at 1 5 write ^3", "1 5 top", "" },
+    { "page nowrap at 0 0 write ^0 ^2", "1 0 page nowrap top bottom", "" }, { "top at 1 5 write ^1 0B 'A", "0 6", "put 0 5 41" },
+    { "bottom at 22 5 write ^3 0A 'A", "23 6", "put 23 5 41" }, { "at 0 5 write ^0 'A", "1 6 top", "put 1 5 41" },
+    /* line wrap, read cursor address: 3.2.13, 3.2.14, 3.2.17 */
+    { "at 5 79 write ^4", "5 79 nowrap", "" }, { "nowrap at 5 79 write ^5", "5 79", "" }, { "nowrap at 5 79 write 'A ^5 'B", "6 0", "put 5 79 42" },
+    { "at 5 7 write ^5", "5 7", "" }, { "nowrap at 5 7 write ^4", "5 7 nowrap", "" }, { "at 5 7 write ^9", "5 7 asked", "" },
+    { "page nowrap top bottom at 22 79 write ^9 ^9", "22 79 page nowrap top bottom asked", "" },
+    /* page shifts: a byte for each unprotected line, fixed when it begins: 3.2.15, 3.2.16, 5.9.3, 5.9.4 */
+    { "at 5 7 write ^6 24#1B 'A", "5 8", "put 5 7 41" }, { "at 5 7 write ^6 23#1B 'A", "5 7", "" }, { "at 5 7 write ^6 23#41", "5 7 reading", "" },
+    { "top at 5 7 write ^6 23#1B 'A", "5 8 top", "put 5 7 41" }, { "top at 5 7 write ^6 22#1B 'A", "5 7 top", "" },
+    { "top at 5 7 write ^6 22#41", "5 7 top reading", "" }, { "bottom at 5 7 write ^7 23#1B 'A", "5 8 bottom", "put 5 7 41" },
+    { "bottom at 5 7 write ^7 22#1B 'A", "5 7 bottom", "" }, { "top bottom at 5 7 write ^7 22#1B 'A", "5 8 top bottom", "put 5 7 41" },
+    { "top bottom at 5 7 write ^6 21#1B 'A", "5 7 top bottom", "" }, { "top bottom at 5 7 write ^7 21#41", "5 7 top bottom reading", "" },
+    { "at 23 79 write ^7 24#0A 'A", "23 0", "rows 0-22 from 1, put 22 79 41, blank 23 0 80" },
+    { "page nowrap at 5 7 write ^7 24#1F 'A", "5 8 page nowrap", "put 5 7 41" }, { "at 5 7 write ^7 23#1B 'A", "5 7", "" },
+    { "at 5 7 write ^K 24#1B 'A", "5 8", "put 5 7 41" }, { "at 5 7 write ^K 23#1B 'A", "5 7", "" },
+    { "top at 5 7 write ^K 23#1B 'A", "5 8 top", "put 5 7 41" }, { "bottom at 5 7 write ^K 23#1B 'A", "5 8 bottom", "put 5 7 41" },
+    { "top bottom at 5 7 write ^K 22#1B 'A", "5 8 top bottom", "put 5 7 41" }, { "at 5 7 write ^L 24#1B 'A", "5 8", "put 5 7 41" },
+    { "at 5 7 write ^L 23#1B 'A", "5 7", "" }, { "top at 5 7 write ^L 23#1B 'A", "5 8 top", "put 5 7 41" },
+    { "bottom at 5 7 write ^L 23#1B 'A", "5 8 bottom", "put 5 7 41" }, { "top bottom at 5 7 write ^L 22#1B 'A", "5 8 top bottom", "put 5 7 41" },
+    { "at 5 7 write ^0 ^2 ^6 ^1 ^3 18#00 'A", "5 8 top bottom", "put 5 7 41" },
+    { "top bottom at 5 7 write ^1 ^3 ^6 24#1B 'A", "5 8", "put 5 7 41" },
+    /* attributes, colours and pages: one byte: 3.2.18, 3.2.19, 5.8, 5.9.2, 5.10.1 */
+    { "at 5 7 write ^. 1B 'A", "5 8", "put 5 7 41" }, { "at 5 7 write ^. '0 'A", "5 8", "put 5 7 41" }, { "at 5 7 write ^.", "5 7 reading", "" },
+    { "at 5 7 write ^G 1B 'A", "5 8", "put 5 7 41" }, { "at 5 7 write ^G '4 'A", "5 8", "put 5 7 41" }, { "at 5 7 write ^G", "5 7 reading", "" },
+    { "at 5 7 write ^C 1B 'A", "5 8", "put 5 7 41" }, { "at 5 7 write ^C F1 'A", "5 8", "put 5 7 41" }, { "at 5 7 write ^C", "5 7 reading", "" },
+    { "at 5 7 write ^P 1B 'A", "5 8", "put 5 7 41" }, { "at 5 7 write ^P 00 'A", "5 8", "put 5 7 41" }, { "at 5 7 write ^P", "5 7 reading", "" },
+    /* define character: it and eight rows; page dimensions: two; windows: none: 5.9.1, 5.11.2 */
+    { "at 5 7 write ^B 9#1B 'A", "5 8", "put 5 7 41" }, { "at 5 7 write ^B 8#1B 'A", "5 7", "" }, { "at 5 7 write ^B 8#41", "5 7 reading", "" },
+    { "top bottom at 22 79 write ^B 9#0A", "22 79 top bottom", "" }, { "at 5 7 write ^S 1B 1B 'A", "5 8", "put 5 7 41" },
+    { "at 5 7 write ^S 1B 'A", "5 7", "" }, { "at 5 7 write ^S 18", "5 7 reading", "" }, { "at 5 7 write ^D 'A", "5 8", "put 5 7 41" },
+    { "at 5 7 write ^d 'A", "5 8", "put 5 7 41" },
+    /* a second escape goes with the first; a write of nothing in between; sequences in several writes: 3.2 */
+    { "at 5 7 write 1B", "5 7 reading", "" }, { "at 5 7 write 1B 1B 'M", "5 8", "put 5 7 4D" }, { "at 5 7 write 1B 1B 1B 'm", "5 7 page", "" },
+    { "at 5 7 write 1B | | 'Q", "5 7", "cells 5 8 72 from 7, blank 5 7 1" }, { "at 5 7 write ^= | 00 | 4F | 'A", "1 0", "put 0 79 41" },
+    { "at 5 7 write 1B | '= 17 | 4F 'A", "23 0", "rows 0-22 from 1, put 22 79 41, blank 23 0 80" },
+    { "at 5 7 write ^6 10#1B | 14#1B 'A", "5 8", "put 5 7 41" }, { "at 5 7 write ^B 1B | 8#1B | 'A", "5 8", "put 5 7 41" },
+    { "at 5 7 write 'a | 'b", "5 9", "put 5 7 61 62" },
+};
+
+static uint8_t wanted[CELLS];
+
+/* The pattern with these changes. */
+static bool want(const char *changes)
+{
+    paint(wanted);
+    for (rest_of = changes; *rest_of != 0;) {
+        bool rows = next_is("rows"), cells = !rows && next_is("cells"), blank = !rows && !cells && next_is("blank");
+        size_t at, n;
+
+        if (rows) {
+            size_t first = number(10), last, from;
+
+            rest_of++;
+            last = number(10);
+            from = next_is("from") ? number(10) : CELLS;
+            for (size_t i = first * COLUMNS; i < (last + 1) * COLUMNS; i++)
+                wanted[i] = painted((unsigned)(i / COLUMNS - first + from), (unsigned)(i % COLUMNS));
+        } else if (cells || blank || next_is("put")) {
+            at = number(10);
+            at = at * COLUMNS + number(10);
+            n = cells || blank ? number(10) : read_bytes(bytes);
+            if (blank)
+                memset(bytes, BLANK, n);
+            if (cells && next_is("from")) {
+                unsigned from = number(10);
+
+                for (unsigned i = 0; i < n; i++)
+                    bytes[i] = painted((unsigned)(at / COLUMNS), from + i);
+            }
+            memcpy(wanted + at, bytes, n);
+        } else {
+            return false;
+        }
+        while (*rest_of == ' ' || *rest_of == ',')
+            rest_of++;
+    }
+    return true;
+}
+
+/* A write of its own for each part of the text, or for each byte. */
+static void write_text(const uint8_t *text, size_t n)
+{
+    static uint8_t message[HEXBUS_COMMAND_HEAD + 256] = { 30, 0x04 };
+
+    message[7] = (uint8_t)n;
+    message[8] = (uint8_t)(n >> 8);
+    memcpy(message + HEXBUS_COMMAND_HEAD, text, n);
+    unit_frame(message, HEXBUS_COMMAND_HEAD + n, 1, 0, 0);
+    if (strncmp(made, " 00 00 00 in ", 13) != 0)
+        expect(false, "a write", made);
+}
+
+static void write_parts(bool bytewise)
+{
+    do {
+        size_t n = read_bytes(data);
+
+        for (size_t i = 0; bytewise && i < n; i++)
+            write_text(data + i, 1);
+        if (!bytewise)
+            write_text(data, n);
+    } while (next_is("|"));
+}
+
+/* A new unit, open, its modes set and the cursor there, and what that looks like. */
+static void set_up_screen(char *looks, size_t room)
+{
+    static const struct {
+        const char *word;
+        uint8_t sequence;
+    } modes[] = { { "page", 'm' }, { "nowrap", '4' }, { "top", '0' }, { "bottom", '2' } };
+    static const uint8_t opening[] = { 30, 0x00, 0, 0, 0, 4, 0, 3, 0, 80, 0, 0xC0 };
+    uint8_t text[12];
+    char said[40] = "";
+    size_t n = 0;
+    unsigned row, column;
+
+    own = 30;
+    hexbus_unit_make(&unit, own, HEXBUS_RETRY);
+    unit_frame(opening, sizeof opening, 1, 0, 0);
+    for (size_t i = 0; i < sizeof modes / sizeof modes[0]; i++)
+        if (next_is(modes[i].word)) {
+            text[n++] = 0x1B;
+            text[n++] = modes[i].sequence;
+            strcat(strcat(said, " "), modes[i].word);
+        }
+    row = next_is("at") ? number(10) : 99;
+    column = number(10);
+    text[n++] = 0x1B;
+    text[n++] = '=';
+    text[n++] = (uint8_t)row;
+    text[n++] = (uint8_t)column;
+    write_text(text, n);
+    snprintf(looks, room, "%u %u%s", row, column, said);
+}
+
+static void check_screen(const struct row *row, bool bytewise)
+{
+    char looks[60], wrong[2 * TEXT];
+    size_t i = 0;
+
+    rest_of = row->call;
+    set_up_screen(looks, sizeof looks);
+    clear_text();
+    say_screen();
+    expect(strcmp(made, looks) == 0, row->call, "its setting up");
+    paint(output);
+    next_is("write");
+    write_parts(bytewise);
+    expect(*rest_of == 0, row->call, "this text cannot be read");
+    clear_text();
+    say_screen();
+    snprintf(wrong, sizeof wrong, "leaves \"%s\", not \"%s\"", made, row->answer);
+    expect(strcmp(made, row->answer) == 0, row->call, wrong);
+    expect(want(row->after), row->after, "these changes cannot be read");
+    while (i < CELLS && output[i] == wanted[i])
+        i++;
+    snprintf(wrong, sizeof wrong, "row %zu column %zu has %02X, not %02X", i / COLUMNS, i % COLUMNS, output[i], i < CELLS ? wanted[i] : 0);
+    expect(i == CELLS, row->call, wrong);
+    expect(output_ends(), row->call, "bytes behind the cells stay");
+    expect(memcmp(&command, &command_before, sizeof command) == 0, row->call, "the command buffer holds the data");
+}
+
+/* Every byte that section 6 does not have is dropped with its escape. */
+static void check_undefined(void)
+{
+    static const char defined[] = "MmQWERTY=01234567" "9.GBCKLPDdS";
+
+    for (unsigned byte = 0; byte < 256; byte++)
+        if (memchr(defined, (int)byte, sizeof defined - 1) == NULL) {
+            char call[40];
+
+            snprintf(call, sizeof call, "at 23 7 write 1B %02X 'M", byte);
+            check_screen(&(struct row){ call, "23 8", "put 23 7 4D" }, false);
+        }
+}
+
+static void check_screens(void)
+{
+    output_room = sizeof output;
+    too_short = 0;
+    for (size_t i = 0; i < 2 * (sizeof screen_rows / sizeof screen_rows[0]); i++)
+        check_screen(&screen_rows[i / 2], i % 2 != 0);
+    check_undefined();
 }
 
 /* ---- A controller ------------------------------------------------------ */
@@ -672,7 +1208,6 @@ static void look_unit(void)
  * BYTES, or nothing; it begins after two rounds of HSK high, or as many as stand after "wait", and ends after the nibbles after "cut". Somebody
  * pulls BAV before the frame where "asked" stands. step: a round at these levels.
  */
-#define ZEROS " 00 00 00 00 00 00 00"
 #define JOIN(code, heard, ring) \
     { "submit " code " 08", "0", "waiting" ring }, { "frame 00 00 00", " " heard " 08" ZEROS " ended 00 in 99", "free" ring " " code }
 static const struct row controller_rows[] = {
@@ -958,15 +1493,23 @@ int main(void)
     check_classes();
     fill(&command);
     fill(&command_before);
+    memset(output, BEFORE, sizeof output);
     section = "a unit";
     check_rows(unit_rows, sizeof unit_rows / sizeof unit_rows[0], unit_call, look_unit);
+    memset(output, BEFORE, sizeof output);
+    section = "a video unit";
+    check_rows(video_rows, sizeof video_rows / sizeof video_rows[0], unit_call, look_unit);
+    section = "a screen";
+    check_screens();
     section = "a controller";
     check_rows(controller_rows, sizeof controller_rows / sizeof controller_rows[0], controller_call, look_controller);
     if (failures != 0) {
         printf("vectors: %u of %u FAILED\n", failures, run);
         return 1;
     }
-    printf("vectors: %zu messages, 256 classes, %zu calls of a unit, %zu of a controller; %u comparisons hold\n",
-           sizeof messages / sizeof messages[0], sizeof unit_rows / sizeof unit_rows[0], sizeof controller_rows / sizeof controller_rows[0], run);
+    printf("vectors: %zu messages, 256 classes, %zu calls of a unit, %zu of a video unit, %zu texts on screens, %zu calls of a controller; "
+           "%u comparisons hold\n", sizeof messages / sizeof messages[0], sizeof unit_rows / sizeof unit_rows[0],
+           sizeof video_rows / sizeof video_rows[0], sizeof screen_rows / sizeof screen_rows[0],
+           sizeof controller_rows / sizeof controller_rows[0], run);
     return 0;
 }

@@ -21,9 +21,14 @@ typedef struct second_controller controller;
 
 static void make_unit(unit *u, uint8_t own) { second_unit_make(u, own, 20); }
 static void make_controller(controller *c, uint32_t timeout) { second_controller_make(c, timeout); }
-static uint32_t step_unit(unit *u, bool bav, bool hsk, uint8_t nibble, uint8_t *command, uint8_t *input, uint8_t *output)
+static uint32_t step_unit(unit *u, bool bav, bool hsk, uint8_t nibble, uint8_t *command, uint8_t *input, uint8_t *output, size_t room)
 {
-    return (uint32_t)second_unit_step(u, (struct second_levels){ bav, hsk, nibble }, false, command, 256, input, output);
+    return (uint32_t)second_unit_step(u, (struct second_levels){ bav, hsk, nibble }, false, command, 256, input, output, room);
+}
+static uint32_t cursor(const unit *u)
+{
+    struct second_screen_view v = second_screen_look(&u->screen);
+    return 80u * v.row + v.column;
 }
 static uint32_t unit_pulls(const unit *u)
 {
@@ -70,9 +75,15 @@ typedef hexbus_controller controller;
 
 static void make_unit(unit *u, uint8_t own) { hexbus_unit_make(u, own, 20); }
 static void make_controller(controller *c, uint32_t timeout) { hexbus_controller_make(c, timeout); }
-static uint32_t step_unit(unit *u, bool bav, bool hsk, uint8_t nibble, uint8_t *command, uint8_t *input, uint8_t *output)
+static uint32_t step_unit(unit *u, bool bav, bool hsk, uint8_t nibble, uint8_t *command, uint8_t *input, uint8_t *output, size_t room)
 {
-    return hexbus_unit_step(u, bav, hsk, nibble, false, command, 256, input, output);
+    return hexbus_unit_step(u, bav, hsk, nibble, false, command, 256, input, output, room);
+}
+static uint32_t cursor(const unit *u)
+{
+    hexbus_screen_looks l;
+    hexbus_screen_look(u, &l);
+    return 80u * l.row + l.column;
 }
 static uint32_t unit_pulls(const unit *u) { return hexbus_unit_pulls(u); }
 static uint32_t feed(unit *u, uint8_t *input, uint8_t b) { return hexbus_unit_feed(u, input, b); }
@@ -129,7 +140,7 @@ static uint32_t round_of(size_t count, size_t n, size_t room)
         lines |= p & 48u;
     }
     for (size_t i = 0; i < count; i++)
-        step_unit(&units[i], (lines & 32u) != 0, (lines & 16u) != 0, (uint8_t)nibble, command[i], input[i], output[i]);
+        step_unit(&units[i], (lines & 32u) != 0, (lines & 16u) != 0, (uint8_t)nibble, command[i], input[i], output[i], sizeof output[i]);
     answer = step_controller(&master, (lines & 32u) != 0, (lines & 16u) != 0, (uint8_t)nibble, data, n, response, room);
     return answer;
 }
@@ -178,7 +189,7 @@ static void make_bus(size_t count)
 
 static uint32_t step(bool bav, bool hsk, uint8_t nibble)
 {
-    return step_unit(&units[0], bav, hsk, nibble, command[0], input[0], output[0]);
+    return step_unit(&units[0], bav, hsk, nibble, command[0], input[0], output[0], sizeof output[0]);
 }
 
 /* HSK as the other end of a handshake shows it: low in two rounds of four. */
@@ -393,6 +404,82 @@ static void round_in_frames(size_t size, long n)
     }
 }
 
+/* ---- Screens ----------------------------------------------------------- */
+
+enum { SCREEN = 30, TEXT = 256 };
+static uint8_t cells[24 * 80], text[TEXT];
+
+static uint32_t screen_step(bool bav, bool hsk, uint8_t nibble)
+{
+    return step_unit(&units[0], bav, hsk, nibble, command[0], input[0], cells, sizeof cells);
+}
+
+/* So many nibbles of a command to a video unit that is alone, three rounds to a nibble. */
+static void send_screen(uint8_t code, const uint8_t *bytes, size_t size, size_t nibbles)
+{
+    const uint8_t header[9] = { SCREEN, code, 0, 0, 0, 4, 0, (uint8_t)size, (uint8_t)(size >> 8) };
+
+    screen_step(false, false, 15);
+    screen_step(true, false, 15);
+    for (size_t i = 0; i < nibbles; i++) {
+        uint8_t nibble = (uint8_t)((i < 18 ? header[i / 2] : bytes[i / 2 - 9]) >> 4 * (i % 2) & 15);
+
+        screen_step(true, true, nibble);
+        screen_step(true, true, nibble);
+        screen_step(true, false, 15);
+    }
+}
+
+/* The step that takes the last nibble of a write, on a screen that is open with its cursor there; where the cursor is then. */
+static void screen_write(size_t size, long n, uint8_t row, uint32_t then)
+{
+    static const uint8_t opening[3] = { 80, 0, 0xC0 };
+    const uint8_t place[4] = { 0x1B, '=', row, 0 }, last = size > 0 ? text[size - 1] >> 4 : 0;
+    unit kept;
+
+    must(size <= TEXT, "a text is longer than 256 bytes");
+    make_unit(&units[0], SCREEN);
+    send_screen(0x00, opening, 3, 24);
+    send_screen(0x04, place, 4, 26);
+    send_screen(0x04, text, size, 2 * (9 + size) - 1);
+    kept = units[0];
+    for (long i = 0; i < n; i++) {
+        units[0] = kept;
+        sink = screen_step(true, true, last);
+    }
+    must(cursor(&units[0]) == then, "the text is not written");
+}
+
+/* Characters from the upper left corner on. */
+static void screen_text(size_t size, long n)
+{
+    memset(text, 'a', TEXT);
+    screen_write(size, n, 0, (uint32_t)size);
+}
+
+/* The same in lines of 14, each with its carriage return and line feed. */
+static void screen_lines(size_t size, long n)
+{
+    memset(text, 'a', TEXT);
+    for (size_t i = 16; i <= TEXT; i += 16)
+        memcpy(text + i - 2, "\r\n", 2);
+    screen_write(size, n, 0, (uint32_t)(size / 16 * 80 + size % 16));
+}
+
+static void screen_cursor(size_t size, long n)
+{
+    for (size_t i = 0; i < TEXT; i += 4)
+        memcpy(text + i, (const uint8_t[4]){ 0x1B, '=', 7, (uint8_t)(i / 4) }, 4);
+    screen_write(size, n, 0, size < 4 ? 0 : (uint32_t)(7 * 80 + size / 4 - 1));
+}
+
+/* Line feeds on the last line. */
+static void screen_scroll(size_t size, long n)
+{
+    memset(text, '\n', TEXT);
+    screen_write(size, n, 23, 23 * 80);
+}
+
 /* ---- Messages ---------------------------------------------------------- */
 
 static void command_write(size_t size, long n)
@@ -429,6 +516,7 @@ static const struct {
     { "unit-sitting-out", unit_sitting_out }, { "controller-idle", controller_idle }, { "controller-sending", controller_sending },
     { "controller-listening", controller_listening }, { "frame-write", frame_write }, { "frame-read", frame_read },
     { "frame-enable", frame_enable }, { "frame-service", frame_service }, { "round-idle", round_idle }, { "round-in-frames", round_in_frames },
+    { "screen-text", screen_text }, { "screen-lines", screen_lines }, { "screen-cursor", screen_cursor }, { "screen-scroll", screen_scroll },
     { "command-write", command_write }, { "command-read", command_read }, { "response-write", response_write },
     { "response-read", response_read },
 };

@@ -1,4 +1,4 @@
-/* Hex-Bus for a gateway: serial units, the controller with its polling ring, messages and device classes.
+/* Hex-Bus for a gateway: serial and video units, the controller with its polling ring, messages and device classes.
  *
  * Link libgateway.a (`rt staticlib gateway`). Nothing is allocated, there are no globals, and no call keeps a pointer.
  * State lives in memory of the caller: a hexbus_unit or a hexbus_controller is made by its make call and then changed by its
@@ -21,9 +21,12 @@ extern "C" {
 #endif
 
 /* Sizes in words of 32 bits, in bytes, and in entries. */
-#define HEXBUS_UNIT_WORDS 23
+#define HEXBUS_UNIT_WORDS 32
 #define HEXBUS_CONTROLLER_WORDS 33
 #define HEXBUS_QUEUE_BYTES 256
+#define HEXBUS_SCREEN_ROWS 24
+#define HEXBUS_SCREEN_COLUMNS 80
+#define HEXBUS_SCREEN_BYTES 1920
 #define HEXBUS_COMMAND_BUFFER_BYTES 256
 #define HEXBUS_RING_ENTRIES 16
 #define HEXBUS_COMMAND_HEAD 9
@@ -35,7 +38,7 @@ extern "C" {
 #define HEXBUS_RETRY 20
 #define HEXBUS_TIMEOUT 200
 
-/* A serial unit, and a controller with its ring. */
+/* A unit, and a controller with its ring. Own codes 30 to 33 make a video unit, all others a serial unit. */
 typedef struct {
     uint32_t word[HEXBUS_UNIT_WORDS];
 } hexbus_unit;
@@ -56,12 +59,13 @@ enum {
     HEXBUS_LEVEL = 5,             /* nibble level over 15 */
     HEXBUS_SETTING = 5,           /* time-out not 8 to 65,535 or retry not 4 to 65,535; own code 0 */
     HEXBUS_FULL_QUEUE = 6,        /* a byte is fed to a full input queue */
-    HEXBUS_NOT_ENABLED = 7,       /* a request is raised while not enabled */
-    HEXBUS_NOT_OPEN = 7,          /* a byte is fed while not open for input or update */
+    HEXBUS_NOT_ENABLED = 7,       /* a request is raised while not enabled, as a video unit always is */
+    HEXBUS_NOT_OPEN = 7,          /* a byte is fed while not open for input or update, or to a video unit */
     HEXBUS_NOT_MARKED = 8,        /* an acknowledgement for a code not in the ring or not marked */
     HEXBUS_SHORT_MESSAGE = 9,     /* a command under 9 bytes or a response under 3 is read */
     HEXBUS_OTHER_LENGTH = 10,     /* the length field disagrees with the slice; a step's data differs in length from the submitted */
-    HEXBUS_SHORT_BUFFER = 11      /* a buffer is too short: message, response buffer under the buffer length field, command buffer under 256 */
+    HEXBUS_SHORT_BUFFER = 11      /* a buffer is too short: message, response buffer under the buffer length field, command buffer under 256,
+                                     output queue under 256, screen under 1,920 */
 };
 
 /* Lines that are pulled, in one number: the nibble, 15 where it is released; HEXBUS_HSK and HEXBUS_BAV where that line is pulled. */
@@ -107,6 +111,19 @@ typedef struct {
     uint32_t requesting;
 } hexbus_unit_looks;
 
+/* What may be looked at in a screen: the cursor's row and column, then what is 0 or 1. `scrolls` is 0 in page mode. `top` and `bottom`:
+ * that line is protected. `asked`: the next read answers the cursor's address. `reading`: a sequence is in progress. */
+typedef struct {
+    uint32_t row;
+    uint32_t column;
+    uint32_t scrolls;
+    uint32_t wraps;
+    uint32_t top;
+    uint32_t bottom;
+    uint32_t asked;
+    uint32_t reading;
+} hexbus_screen_looks;
+
 /* What may be looked at in a controller: how many entries its ring has; whether no frame and no rest runs, and whether a command is
  * submitted whose frame has not begun, 0 or 1. */
 typedef struct {
@@ -146,9 +163,12 @@ enum {
  * 65,535. */
 hexbus_refusal hexbus_unit_make(hexbus_unit *unit, uint8_t own, uint32_t retry);
 
-/* Steps a unit through a round at these levels (true is low), with its host busy or not, lent the command buffer of the frame
- * (256 bytes or more), the 256 bytes of its input queue to read and the 256 bytes of its output queue to write: refuses 5 for a nibble
- * over 15, then 11 for a command buffer or an output queue under 256 bytes. Bytes behind the 256 of the output queue are left alone. */
+/* Steps a unit through a round at these levels (true is low), with its host busy or not. It is lent the command buffer of the frame and,
+ * to read, the 256 bytes of its input queue. `output` is memory for what is written to the unit, by its own code:
+ *   30 to 33: the HEXBUS_SCREEN_BYTES cells of its screen, row by row. A blank cell is 0x20. An accepted open makes all cells blank, and so
+ *     does FF on an open unit.
+ *   all others: the HEXBUS_QUEUE_BYTES bytes of its output queue.
+ * Bytes behind those are left alone. Refuses 5 for a nibble over 15, then 11 for a command buffer under 256 bytes or too short an output. */
 hexbus_refusal hexbus_unit_step(hexbus_unit *unit, bool bav, bool hsk, uint8_t nibble, bool busy, uint8_t *command, size_t command_length,
                                 const uint8_t input[HEXBUS_QUEUE_BYTES], uint8_t *output, size_t output_length);
 
@@ -156,10 +176,11 @@ hexbus_refusal hexbus_unit_step(hexbus_unit *unit, bool bav, bool hsk, uint8_t n
 hexbus_pulls hexbus_unit_pulls(const hexbus_unit *unit);
 
 /* Feeds a byte to a unit's input queue, whose 256 bytes are lent: refuses 7 while not open for input or update, then 6 for a full
- * queue. */
+ * queue. A video unit is never fed: it refuses 7. */
 hexbus_refusal hexbus_unit_feed(hexbus_unit *unit, uint8_t input[HEXBUS_QUEUE_BYTES], uint8_t byte);
 
-/* Takes the oldest byte of a unit's output queue, whose 256 bytes are lent: the byte, or HEXBUS_NO_BYTE where the queue is empty. */
+/* Takes the oldest byte of a unit's output queue, whose 256 bytes are lent: the byte, or HEXBUS_NO_BYTE where the queue is empty. A
+ * video unit has no output queue: any 256 bytes may be lent, none is read, and it returns HEXBUS_NO_BYTE. */
 uint32_t hexbus_unit_take(hexbus_unit *unit, const uint8_t output[HEXBUS_QUEUE_BYTES]);
 
 /* Raises a unit's request for service, held until its answer 00 has gone out or service ends: refuses 7 while not enabled. */
@@ -167,6 +188,9 @@ hexbus_refusal hexbus_unit_raise(hexbus_unit *unit);
 
 /* Writes what may be looked at in a unit into the lent six words. */
 void hexbus_unit_look(const hexbus_unit *unit, hexbus_unit_looks *looks);
+
+/* Writes what may be looked at in a unit's screen into the lent eight words. A serial unit's screen stays as a new one. */
+void hexbus_screen_look(const hexbus_unit *unit, hexbus_screen_looks *looks);
 
 /* ---- the controller ---- */
 

@@ -24,6 +24,16 @@ static void start_unit(struct station *s, const struct start *f)
     w[UNIT_INPUT_COUNT] = s->two.input.count = f->input_count;
     w[UNIT_OUTPUT_HEAD] = s->two.output.head = f->output_head;
     w[UNIT_OUTPUT_COUNT] = s->two.output.count = f->output_count;
+    if (!is_video(s->two.own_code))
+        return;
+    s->two.screen = f->screen;
+    w[UNIT_ROW] = f->screen.row;
+    w[UNIT_COLUMN] = f->screen.column;
+    w[UNIT_SCROLLS] = f->screen.scrolls;
+    w[UNIT_WRAPS] = f->screen.wraps;
+    w[UNIT_TOP] = f->screen.first != 0;
+    w[UNIT_BOTTOM] = f->screen.last != SECOND_ROWS - 1;
+    w[UNIT_ASKED] = f->screen.asked;
 }
 
 static void start_ring(struct bench *b, const struct trial *t)
@@ -46,6 +56,8 @@ bool prepare(const struct trial *t, struct bench *b)
     all_made = true;
     memset(b, 0, sizeof *b);
     fill(&b->data, sizeof b->data, &seed);
+    if ((t->memory >> 20 & 3u) != 0)
+        fill_text(b->data.bytes, sizeof b->data.bytes, &seed);
     if ((t->memory & 7u) != 0) {
         b->data.bytes[0] = (uint8_t)(t->memory >> 3 & 0x7Fu);
         b->data.bytes[1] = 0;
@@ -89,6 +101,27 @@ static uint32_t packed(struct second_pulls p)
 
 /* ---- What can be looked at --------------------------------------------- */
 
+hexbus_screen_looks screen_of(const struct second_unit *u)
+{
+    struct second_screen_view v = second_screen_look(&u->screen);
+
+    return (hexbus_screen_looks){ v.row, v.column, v.scrolls, v.wraps, v.top, v.bottom, v.asked, v.reading };
+}
+
+/* Only of a video unit; of others, that looking writes its eight words alone. */
+static bool same_screen(const struct station *s)
+{
+    hexbus_screen_looks two = screen_of(&s->two);
+    struct {
+        hexbus_screen_looks l;
+        uint32_t after;
+    } looks = { .after = 0xEEEEEEEE };
+
+    hexbus_screen_look(&s->lib.unit, &looks.l);
+    return same(looks.after == 0xEEEEEEEE, "a word behind a screen's looks")
+        && same(!is_video(s->two.own_code) || memcmp(&looks.l, &two, sizeof two) == 0, "a screen's cursor and modes");
+}
+
 bool same_unit(const struct station *s)
 {
     struct {
@@ -107,10 +140,11 @@ bool same_unit(const struct station *s)
         && same(l->enabled == v.enabled, "a unit's enabling")
         && same(l->requesting == v.requesting, "a unit's request")
         && same(looks.after == 0xEEEEEEEE, "a word behind a unit's looks")
+        && same_screen(s)
         && kept_around(s->lib.before, s->lib.after)
         && same(memcmp(&s->lib_lent.command, &s->two_lent.command, sizeof s->lib_lent.command) == 0, "a unit's command buffer")
         && same(memcmp(&s->lib_lent.input, &s->two_lent.input, sizeof s->lib_lent.input) == 0, "a unit's input bytes")
-        && same(memcmp(&s->lib_lent.output, &s->two_lent.output, sizeof s->lib_lent.output) == 0, "a unit's output bytes");
+        && same(memcmp(&s->lib_lent.output, &s->two_lent.output, sizeof s->lib_lent.output) == 0, "a unit's output bytes, or cells");
 }
 
 /* The entries, and three places past the last of them. */
@@ -164,15 +198,17 @@ static bool ready_controller(struct bench *b, uint64_t seed, uint32_t *before)
 static bool step_unit(struct station *s, const struct call *c, bool bav, bool hsk, uint8_t nibble, bool busy)
 {
     struct second_levels seen = { bav, hsk, nibble };
-    size_t room = c->short_room ? 255 : c->exact_room ? 256 : ROOM;
+    size_t room = c->short_room ? 255 : c->exact_room ? 256 : ROOM, needed = output_needed(s->two.own_code);
+    size_t lent = c->output_lacks != 0 ? needed - 1 - (c->output_lacks - 1u) % needed : c->exact_room ? needed : SCREEN_ROOM;
     struct memory *one = &s->lib_lent, *two = &s->two_lent;
     uint32_t before[HEXBUS_UNIT_WORDS], answer;
     int other;
 
     if (!ready_unit(s, c->garble, before))
         return false;
-    answer = hexbus_unit_step(&s->lib.unit, bav, hsk, nibble, busy, one->command.bytes, room, one->input.bytes, one->output.bytes);
-    other = second_unit_step(&s->two, seen, busy && broken != FORGETS_BUSY, two->command.bytes, room, two->input.bytes, two->output.bytes);
+    answer = hexbus_unit_step(&s->lib.unit, bav, hsk, nibble, busy, one->command.bytes, room, one->input.bytes, one->output.bytes,
+                              lent);
+    other = second_unit_step(&s->two, seen, busy && broken != FORGETS_BUSY, two->command.bytes, room, two->input.bytes, two->output.bytes, lent);
     if (broken == CLEARS_UNUSED_BITS)
         s->lib.unit.word[UNIT_ASKING] &= FLAG;
     if (broken == WRITES_A_TAG_AGAIN && s->lib.unit.word[UNIT_PHASE] >= PHASES)

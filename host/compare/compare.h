@@ -42,7 +42,7 @@ static inline uint8_t random_byte(void)
 
 /* What is done wrong on purpose. */
 enum broken_by { NOTHING, FORGETS_BUSY, LATE_TIME_OUT, FEEDS_OTHER_BYTE, CLEARS_UNUSED_BITS, WRITES_PAST_A_BUFFER, LOOKS_AT_UNUSED_BITS,
-                 WRITES_A_TAG_AGAIN };
+                 WRITES_A_TAG_AGAIN, FORGETS_A_SEQUENCE, KEEPS_AN_ADDRESS, WRITES_PAST_A_SCREEN };
 
 #ifdef BROKEN
 extern enum broken_by broken;
@@ -52,7 +52,20 @@ static const enum broken_by broken = NOTHING;
 
 /* ---- Calls of a trial -------------------------------------------------- */
 
-enum { MOST_UNITS = 16, MOST_CALLS = 6000, MOST_DATA = 320, ROOM = 320, AROUND = 16, SHORT = 100 };
+enum { MOST_UNITS = 16, MOST_CALLS = 6000, MOST_DATA = 320, ROOM = 320, SCREEN_ROOM = HEXBUS_SCREEN_BYTES + 80, AROUND = 16, SHORT = 100 };
+
+/* The video units' codes, and what a unit must be lent for what is written to it. */
+enum { VIDEO = 30, VIDEO_CODES = 4 };
+
+static inline bool is_video(uint8_t code)
+{
+    return code >= VIDEO && code < VIDEO + VIDEO_CODES;
+}
+
+static inline size_t output_needed(uint8_t code)
+{
+    return is_video(code) ? HEXBUS_SCREEN_BYTES : HEXBUS_QUEUE_BYTES;
+}
 
 enum call_kind { STEP, FEED, TAKE, RAISE, SUBMIT, ACKNOWLEDGE };
 
@@ -65,7 +78,8 @@ struct call {
     uint32_t hosts;              /* a round's busy hosts, bit by bit */
     uint8_t byte;                /* fed, or the code acknowledged */
     bool wrong_data, short_room; /* a step that is lent something else */
-    bool exact_room;             /* a command buffer of just 256 bytes */
+    bool exact_room;             /* a command buffer of just 256 bytes, and for what is written just what is needed */
+    uint16_t output_lacks;       /* so many bytes of that are not lent */
     uint64_t garble;             /* the seed of what stands in bits that no field uses; 0 where they stay */
     struct second_command command;
     uint32_t data_length, room;
@@ -79,6 +93,7 @@ struct start {
     bool enabled, requesting;
     uint8_t input_head, output_head;
     uint16_t input_count, output_count;
+    struct second_screen screen;
 };
 
 struct trial {
@@ -107,10 +122,15 @@ struct queue {
     uint8_t before[AROUND], bytes[256], after[AROUND];
 };
 
-/* What a unit is lent beside its words. */
+struct cells {
+    uint8_t before[AROUND], bytes[SCREEN_ROOM], after[AROUND];
+};
+
+/* What a unit is lent beside its words; for what is written, it is lent more than most need. */
 struct memory {
     struct buffer command;
-    struct queue input, output;
+    struct queue input;
+    struct cells output;
 };
 
 /* A state of the library's, and words around it. */
@@ -171,12 +191,12 @@ extern bool all_made;
 
 /* ---- The words of a state (words.c) ------------------------------------ */
 
-enum { FLAG = 1, BYTE = 0xFF, FIELD = 0xFFFF, ENTRY = 0x1FF };
+enum { FLAG = 1, BYTE = 0xFF, FIELD = 0xFFFF, ADDRESS = 0xFFFFFF, ENTRY = 0x1FF };
 #define WHOLE UINT32_MAX
 
 enum unit_phase { IDLE, SELECTING, TAKING, ANSWERED, RESPONDING, SITTING_OUT, PHASES };
 enum controller_stage { FREE, RESTING, WAITING, SENDING, LISTENING, STAGES };
-enum { LINE_TAGS = 3, REPLIES = 5, KINDS = 3, RESPONSES = 3 };
+enum { LINE_TAGS = 3, REPLIES = 6, SEQUENCES = 5, KINDS = 3, RESPONSES = 3 };
 
 _Static_assert((int)UNIT_WORDS == HEXBUS_UNIT_WORDS && (int)CONTROLLER_WORDS == HEXBUS_CONTROLLER_WORDS, "the header's words are the library's");
 
@@ -206,6 +226,7 @@ bool kept_around(const uint32_t *before, const uint32_t *after);
 bool prepare(const struct trial *t, struct bench *b);
 bool perform(const struct trial *t, struct bench *b, const struct call *c);
 bool same_unit(const struct station *s);
+hexbus_screen_looks screen_of(const struct second_unit *u);
 bool same_controller(const struct bench *b);
 hexbus_command in_words(const struct second_command *k, uint64_t seed);
 
@@ -213,11 +234,13 @@ hexbus_command in_words(const struct second_command *k, uint64_t seed);
 
 struct second_command random_command(const struct trial *t, const struct bench *b);
 uint32_t random_length(void);
+void random_text(uint8_t *text, size_t n);
+void fill_text(uint8_t *text, size_t n, uint64_t *seed);
 void partner_clear(struct partner *p);
 void random_call(const struct trial *t, const struct bench *b, struct partner *p, struct call *c);
 void setup(struct trial *t, enum trial_kind kind);
 
-/* ---- Trials (trial.c, message.c, garbage.c) ---------------------------- */
+/* ---- Trials (trial.c, message.c, garbage.c, screen.c) ------------------ */
 
 /* The steps that were taken, or -1 for a difference; the others: 0, or 1 for a difference. */
 long run_trial(enum trial_kind kind);
@@ -225,5 +248,8 @@ int making_trial(void);
 int fails(const char *what);
 int message_trial(void);
 int garbage(long steps);
+
+/* The texts that were written, or -1 for a difference. */
+long screens(long steps);
 
 #endif

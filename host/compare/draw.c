@@ -44,11 +44,99 @@ uint32_t random_length(void)
     return pick == 0 ? 254 + below(6) : pick < 4 ? below(60) : pick < 20 ? 3 : below(7);
 }
 
+/* ---- Texts for a screen ------------------------------------------------ */
+
+/* Numbers at their limits: often 0 or the last that is in range, at times an escape, or one that is not in range. */
+static uint8_t random_coordinate(uint32_t n)
+{
+    uint32_t pick = below(16);
+
+    return (uint8_t)(pick < 6 ? below(n) : pick < 8 ? 0 : pick < 10 ? n - 1 : pick == 10 ? 1 : pick == 11 ? n - 2 : pick == 12 ? n : pick == 13 ? 0x1B
+                     : pick == 14 ? random_byte() : below(n));
+}
+
+/* A sequence and its arguments: as many as the chapter counts, or one more or less; what is not defined; and near misses. */
+static size_t random_sequence(uint8_t *to)
+{
+    static const char often[] = "MmQWERT=======001122334456799QWERRT", counted[] = "67KL", one[] = ".GCP";
+    static const char near[] = "OoqweryltDd8:;<>-*[(AZz@/gbckp\x1B\x1B";
+    uint32_t pick = below(40);
+    size_t n = 0, arguments = 0;
+
+    to[n++] = 0x1B;
+    if (pick < 26) {
+        to[n] = (uint8_t)often[below(sizeof often - 1)];
+        if (to[n++] == '=') {
+            to[n++] = random_coordinate(SECOND_ROWS);
+            to[n++] = random_coordinate(SECOND_COLUMNS);
+        }
+        arguments = to[1] == '6' || to[1] == '7' ? 22 + below(3) : 0;
+    } else if (pick < 28) {
+        to[n++] = (uint8_t)counted[below(sizeof counted - 1)];
+        arguments = 22 + below(3);
+    } else if (pick < 31) {
+        to[n++] = (uint8_t)one[below(sizeof one - 1)];
+        arguments = 1;
+    } else if (pick < 34) {
+        to[n++] = pick == 31 ? 'S' : 'B';
+        arguments = pick == 31 ? 2 : 9;
+    } else if (pick < 36) {
+        to[n++] = 'Y';
+    } else {
+        to[n++] = pick < 38 ? (uint8_t)near[below(sizeof near - 1)] : random_byte();
+    }
+    if (arguments > 0 && one_in(8))
+        arguments += one_in(2) ? 1 : -(size_t)1;
+    while (arguments-- > 0)
+        to[n++] = one_in(4) ? 0x1B : random_byte();
+    return n;
+}
+
+/* Characters, control codes and many escapes; the last sequence may be cut off. */
+void random_text(uint8_t *text, size_t n)
+{
+    static const uint8_t codes[] = { 0x08, 0x08, 0x0A, 0x0A, 0x0A, 0x0B, 0x0B, 0x0B, 0x0C, 0x0C, 0x0D, 0x07, 0x15 };
+    uint8_t piece[128];
+
+    while (n > 0) {
+        uint32_t pick = below(10);
+        size_t length = 1;
+
+        if (pick < 5) {
+            length = random_sequence(piece);
+        } else if (pick < 7) {
+            length = 1 + (one_in(12) ? 60 + below(60) : below(8));
+            for (size_t i = 0; i < length; i++)
+                piece[i] = (uint8_t)(0x20 + below(0xE0));
+        } else {
+            piece[0] = one_in(30) ? 0x1F : one_in(8) ? (uint8_t)below(0x20) : codes[below(sizeof codes)];
+        }
+        length = length < n ? length : n;
+        memcpy(text, piece, length);
+        text += length;
+        n -= length;
+    }
+}
+
+void fill_text(uint8_t *text, size_t n, uint64_t *seed)
+{
+    uint64_t keep = random_state;
+
+    random_state = *seed;
+    random_text(text, n);
+    *seed = random_state;
+    random_state = keep;
+}
+
+/* ---- Commands and rounds ----------------------------------------------- */
+
 static void random_submit(const struct trial *t, const struct bench *b, struct call *c)
 {
     c->kind = SUBMIT;
     c->command = random_command(t, b);
     c->data_length = c->command.command == 0 && !one_in(4) ? 3 : random_length();
+    if (c->command.command == 4 && is_video(c->command.device) && one_in(2))
+        c->data_length = below(MOST_DATA);
     if (c->command.command == 0 && !one_in(4))
         c->command.buffer_length = (uint16_t)(4 + below(3));
     if (one_in(60))
@@ -62,7 +150,7 @@ static void random_submit(const struct trial *t, const struct bench *b, struct c
 
 static void open_data(uint8_t *bytes)
 {
-    static const uint8_t attributes[] = { 0x40, 0x80, 0xC0, 0xC0, 0xC0, 0xC0, 0x00, 0xE0, 0xD0 };
+    static const uint8_t attributes[] = { 0x40, 0x80, 0xC0, 0xC0, 0xC0, 0xC0, 0xC0, 0x00, 0x20, 0x60, 0xA0, 0xE0, 0xD0 };
 
     bytes[0] = (uint8_t)(one_in(5) ? random_byte() : below(3) * 0x40);
     bytes[1] = 0;
@@ -74,9 +162,14 @@ static void partner_command(const struct trial *t, const struct bench *b, struct
     struct second_command k = random_command(t, b);
     uint8_t data[MOST_DATA];
     uint32_t n = k.command == 0 && !one_in(4) ? 3 : t->eager && k.command == 4 ? below(257) : random_length();
+    bool text = k.command == 4 && is_video(t->code[0]);
 
+    if (text && !t->eager && one_in(2))
+        n = below(60);
     for (uint32_t i = 0; i < n; i++)
         data[i] = random_byte();
+    if (text)
+        random_text(data, n);
     if (k.command == 0 && n >= 3)
         open_data(data);
     if (k.command == 0 && !one_in(4))
@@ -228,6 +321,7 @@ static void disturb(struct call *c, bool wild)
     if (one_in(5 * rare))
         c->nibble = random_byte();
     c->short_room = one_in(5 * rare);
+    c->output_lacks = (uint16_t)(one_in(5 * rare) ? 1 + (one_in(2) ? 0 : below(HEXBUS_SCREEN_BYTES)) : 0);
     c->wrong_data = one_in(5 * rare);
 }
 
@@ -273,7 +367,7 @@ void random_call(const struct trial *t, const struct bench *b, struct partner *p
 static uint8_t new_code(const struct trial *t, unsigned n)
 {
     for (;;) {
-        uint8_t code = (uint8_t)(1 + below(255));
+        uint8_t code = (uint8_t)(one_in(3) ? VIDEO - 1 + below(VIDEO_CODES + 2) : 1 + below(255));
         unsigned i = 0;
 
         while (i < n && t->code[i] != code)
@@ -288,9 +382,34 @@ static uint16_t random_count(void)
     return (uint16_t)(one_in(3) ? 256 - below(5) : one_in(2) ? below(5) : below(257));
 }
 
-static void random_start(struct start *f)
+/* Between two sequences. The cursor is on no protected line. */
+static void random_screen(struct second_screen *s)
+{
+    second_screen_start(s);
+    s->first = (uint8_t)below(2);
+    s->last = (uint8_t)(SECOND_ROWS - 1 - below(2));
+    s->row = (uint8_t)(one_in(3) ? s->first : one_in(2) ? s->last : s->first + below(s->last - s->first + 1u));
+    s->column = (uint8_t)(one_in(3) ? 0 : one_in(2) ? SECOND_COLUMNS - 1 : below(SECOND_COLUMNS));
+    s->scrolls = one_in(2);
+    s->wraps = one_in(2);
+    s->asked = one_in(2);
+}
+
+/* A video unit is not open for input, has no queues and is never enabled. */
+static void random_video(struct start *f)
+{
+    f->mode = (uint8_t)(one_in(3) ? SECOND_CLOSED : one_in(3) ? SECOND_OUTPUT : SECOND_UPDATE);
+    f->accepted = (uint8_t)(f->mode == SECOND_CLOSED ? 0 : 1 + (one_in(2) ? below(3) : below(128)));
+    random_screen(&f->screen);
+}
+
+static void random_start(struct start *f, uint8_t code)
 {
     memset(f, 0, sizeof *f);
+    if (is_video(code)) {
+        random_video(f);
+        return;
+    }
     f->output_head = random_byte();
     f->output_count = random_count();
     f->mode = (uint8_t)(one_in(3) ? below(4) : SECOND_UPDATE);
@@ -329,7 +448,7 @@ void setup(struct trial *t, enum trial_kind kind)
     for (unsigned i = 0; i < t->units; i++) {
         t->code[i] = one_in(200) ? 0 : new_code(t, i);
         t->retry[i] = one_in(100) ? random_word() >> below(32) : 4 + below(30);
-        random_start(&t->start[i]);
+        random_start(&t->start[i], t->code[i]);
     }
     t->started = one_in(2);
     random_ring(t);

@@ -1,15 +1,37 @@
 /* Words that no save makes, beside a copy in which what no field uses differs. */
 #include "compare.h"
 
+/* A video unit's: its cursor in and out of range, and often one that is open and about to take the last nibble of a write. */
+static void random_video_words(uint32_t *w)
+{
+    w[UNIT_OWN] = (random_word() & ~(uint32_t)BYTE) + VIDEO + below(VIDEO_CODES);
+    w[UNIT_ROW] = one_in(4) ? random_word() : below(SECOND_ROWS + 2);
+    w[UNIT_COLUMN] = one_in(4) ? random_word() : one_in(2) ? below(SECOND_COLUMNS + 2) : SECOND_COLUMNS - 3 + below(6);
+    w[UNIT_SEQUENCE] = one_in(8) ? random_word() : below(SEQUENCES);
+    if (one_in(2))
+        return;
+    w[UNIT_PHASE] = TAKING;
+    w[UNIT_OPENING] = SECOND_OUTPUT + below(2);
+    w[UNIT_EAR] = below(LINE_TAGS);
+    w[UNIT_DEVICE] = w[UNIT_OWN];
+    w[UNIT_COMMAND] = one_in(3) ? 0x03 : 0x04;
+    w[UNIT_DATA_LENGTH] = w[UNIT_COMMAND] == 0x03 ? 0 : below(257);
+    w[UNIT_PLACE] = HEXBUS_COMMAND_HEAD + w[UNIT_DATA_LENGTH] - below(2);
+    w[UNIT_HALF] = FLAG;
+}
+
 /* Random words: tags of every case and of none, numbers on both sides of what a state can hold. */
 static void random_words(struct words w)
 {
     for (size_t i = 0; i < w.n; i++)
         w.word[i] = one_in(4) ? random_word() : one_in(2) ? below(6) : below(600);
-    if (w.n == HEXBUS_UNIT_WORDS)
-        w.word[UNIT_PHASE] = one_in(8) ? random_word() : below(PHASES);
-    else
+    if (w.n != HEXBUS_UNIT_WORDS) {
         w.word[CONTROLLER_STAGE] = one_in(8) ? random_word() : below(STAGES);
+        return;
+    }
+    w.word[UNIT_PHASE] = one_in(8) ? random_word() : below(PHASES);
+    if (one_in(2))
+        random_video_words(w.word);
 }
 
 /* Two states in words of which one differs from the other in what no field uses, and in tags that mean the same. */
@@ -29,7 +51,7 @@ struct any_call {
     uint32_t pick;
     bool bav, hsk, busy;
     uint8_t nibble, byte;
-    size_t data_length, room;
+    size_t data_length, room, lacks;
     hexbus_command fields;
 };
 
@@ -44,12 +66,13 @@ static struct any_call random_any_call(void)
 
     return (struct any_call){
         .pick = below(12), .bav = !one_in(4), .hsk = one_in(2), .busy = one_in(4), .nibble = (uint8_t)below(17), .byte = (uint8_t)below(8),
-        .room = one_in(20) ? 255 : 256, .fields = in_words(&k, random_state)
+        .room = one_in(20) ? 255 : 256, .lacks = one_in(20) ? 1 + below(256) : 0, .fields = in_words(&k, random_state)
     };
 }
 
 static struct any_answer call_any_unit(struct unit_words *u, struct memory *m, const struct any_call *c)
 {
+    size_t lent = output_needed((uint8_t)u->unit.word[UNIT_OWN]) - c->lacks;
     uint32_t n;
 
     switch (c->pick) {
@@ -63,8 +86,9 @@ static struct any_answer call_any_unit(struct unit_words *u, struct memory *m, c
         n = hexbus_unit_raise(&u->unit);
         break;
     default:
-        n = hexbus_unit_step(&u->unit, c->bav, c->hsk, c->nibble, c->busy, m->command.bytes, c->room, m->input.bytes, m->output.bytes);
-        same(n == (c->nibble > 15 ? 5u : c->room < 256 ? 11u : 0u), "a step of words that no save makes");
+        n = hexbus_unit_step(&u->unit, c->bav, c->hsk, c->nibble, c->busy, m->command.bytes, c->room, m->input.bytes, m->output.bytes,
+                             lent);
+        same(n == (c->nibble > 15 ? 5u : c->room < 256 || c->lacks > 0 ? 11u : 0u), "a step of words that no save makes");
     }
     return (struct any_answer){ n, n == 0 };
 }
@@ -72,10 +96,14 @@ static struct any_answer call_any_unit(struct unit_words *u, struct memory *m, c
 static bool same_any_unit(const struct unit_words *u, const struct unit_words *v)
 {
     hexbus_unit_looks l, m;
+    hexbus_screen_looks k, n;
 
     hexbus_unit_look(&u->unit, &l);
     hexbus_unit_look(&v->unit, &m);
-    return same(memcmp(&l, &m, sizeof l) == 0 && hexbus_unit_pulls(&u->unit) == hexbus_unit_pulls(&v->unit), "a unit in words that no save makes")
+    hexbus_screen_look(&u->unit, &k);
+    hexbus_screen_look(&v->unit, &n);
+    return same(memcmp(&l, &m, sizeof l) == 0 && memcmp(&k, &n, sizeof k) == 0 && hexbus_unit_pulls(&u->unit) == hexbus_unit_pulls(&v->unit),
+                "a unit in words that no save makes")
         && kept_around(u->before, u->after) && kept_around(v->before, v->after);
 }
 
@@ -87,6 +115,8 @@ static bool garbage_unit(void)
     uint64_t seed = ((uint64_t)random_word() << 32) + random_word();
 
     fill(&one, sizeof one, &seed);
+    if (one_in(2))
+        fill_text(one.command.bytes, sizeof one.command.bytes, &seed);
     two = one;
     random_words(w);
     v = u;

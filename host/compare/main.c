@@ -1,8 +1,8 @@
 /*
  * The library against the second implementation, on random input: single units and single controllers at free levels,
- * whole buses, messages and classes. After every call the answers, the pulls, every lent byte, some bytes around it and
- * what can be looked at are compared. A difference is replayed with calls left out, as long as it stays, and what
- * remains is printed.
+ * whole buses, messages and classes, and texts on screens, whole and cut. After every call the answers, the pulls, every
+ * lent byte, some bytes around it and what can be looked at are compared. A difference is replayed with calls left out,
+ * as long as it stays, and what remains is printed.
  *
  * Before some calls the words of a state are garbled: the bits that no field uses, and tags that no save makes in place
  * of the first case's. The call must do the same, and leave these bits as they are. Then words that are random
@@ -25,7 +25,7 @@ enum broken_by broken;
 int main(int argc, char **argv)
 {
     static const enum trial_kind turns[] = { ONE_UNIT, ONE_CONTROLLER, A_BUS, ONE_UNIT, ONE_CONTROLLER, ONE_UNIT };
-    long wanted = argc > 1 ? atol(argv[1]) : 10000000, done[3] = { 0, 0, 0 };
+    long wanted = argc > 1 ? atol(argv[1]) : 10000000, done[3] = { 0, 0, 0 }, texts;
     uint64_t seed = argc > 2 ? strtoull(argv[2], NULL, 0) : (uint64_t)time(NULL);
 
 #ifdef BROKEN
@@ -45,6 +45,9 @@ int main(int argc, char **argv)
             return 1;
     if (garbage(wanted / 10) != 0)
         return 1;
+    texts = screens(4 * wanted);
+    if (texts < 0)
+        return 1;
     difference = NULL;
     while (done[0] + done[1] + done[2] < wanted)
         for (size_t i = 0; i < sizeof turns / sizeof turns[0]; i++) {
@@ -54,7 +57,7 @@ int main(int argc, char **argv)
                 return 1;
             done[turns[i]] += steps;
         }
-    printf("%ld messages, %ld calls on words that no save makes, %ld steps of units, %ld of controllers, %ld on buses: no difference\n", wanted / 20,
-           wanted / 10, done[0], done[1], done[2]);
+    printf("%ld messages, %ld calls on words that no save makes, %ld texts on screens, %ld steps of units, %ld of controllers, %ld on buses: "
+           "no difference\n", wanted / 20, wanted / 10, texts, done[0], done[1], done[2]);
     return 0;
 }

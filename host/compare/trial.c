@@ -20,8 +20,9 @@ static void print_call(const struct call *c)
         printf("garbled by %" PRIx64 ": ", c->garble);
     switch (c->kind) {
     case STEP:
-        printf("step bav %d hsk %d nibble %u busy %d hosts %" PRIx32 "%s%s\n", c->bav, c->hsk, c->nibble, c->busy, c->hosts,
+        printf("step bav %d hsk %d nibble %u busy %d hosts %" PRIx32 "%s%s", c->bav, c->hsk, c->nibble, c->busy, c->hosts,
                c->wrong_data ? " other-data" : "", c->short_room ? " short-buffer" : "");
+        printf(c->output_lacks != 0 ? " output-lacks %u\n" : "\n", c->output_lacks);
         break;
     case FEED:
         printf("feed %u %02X\n", c->at, c->byte);
@@ -144,6 +145,9 @@ static int report(struct trial *t, long first)
         if (t->started)
             printf(" mode %u accepted %u enabled %d requesting %d input %u from %u output %u from %u", f->mode, f->accepted, f->enabled,
                    f->requesting, f->input_count, f->input_head, f->output_count, f->output_head);
+        if (t->started && is_video(t->code[i]))
+            printf(" cursor %u %u scrolls %d wraps %d lines %u to %u asked %d", f->screen.row, f->screen.column, f->screen.scrolls, f->screen.wraps,
+                   f->screen.first, f->screen.last, f->screen.asked);
         printf("\n");
     }
     if (t->kind != ONE_UNIT) {

@@ -21,7 +21,13 @@ static uint32_t of_sender(uint32_t tag)
 
 static uint32_t of_reply(uint32_t tag)
 {
-    return tag == 1 || tag == 2 ? BYTE : tag == 3 ? FIELD : 0;
+    return tag == 1 || tag == 2 ? BYTE : tag == 3 ? FIELD : tag == 5 ? ADDRESS : 0;
+}
+
+/* A set cursor's row, or how many bytes are still skipped. */
+static uint32_t of_sequence(uint32_t tag)
+{
+    return tag == 3 || tag == 4 ? BYTE : 0;
 }
 
 static struct use tag(uint32_t cases)
@@ -47,6 +53,10 @@ static void unit_uses(const uint32_t *w, struct use *uses)
     uses[UNIT_ACCEPTED] = number((w[UNIT_OPENING] & 3u) != 0 ? BYTE : 0);
     uses[UNIT_INPUT_HEAD] = uses[UNIT_OUTPUT_HEAD] = number(BYTE);
     uses[UNIT_INPUT_COUNT] = uses[UNIT_OUTPUT_COUNT] = number(FIELD);
+    uses[UNIT_ROW] = uses[UNIT_COLUMN] = number(BYTE);
+    uses[UNIT_SCROLLS] = uses[UNIT_WRAPS] = uses[UNIT_TOP] = uses[UNIT_BOTTOM] = uses[UNIT_ASKED] = number(FLAG);
+    uses[UNIT_SEQUENCE] = tag(SEQUENCES);
+    uses[UNIT_ARGUMENT] = number(of_sequence(w[UNIT_SEQUENCE]));
     uses[UNIT_PHASE] = tag(PHASES);
     if (phase >= SELECTING && phase <= ANSWERED)
         uses[UNIT_EAR] = tag(LINE_TAGS);

@@ -33,7 +33,7 @@ struct second_event second_bus_round(struct second_controller *controller, bool 
         struct second_station *s = &stations[i];
 
         (void)second_unit_step(&s->unit, seen, s->busy, s->command, sizeof s->command,
-                               s->input, s->output);
+                               s->input, s->output, sizeof s->output);
     }
     return second_controller_step(controller, seen, busy, data, data_length,
                                   response, response_length);

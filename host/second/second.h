@@ -1,7 +1,8 @@
 /*
  * A second implementation, in plain C11, of document 01: messages, device
  * classes, the serial peripheral, the controller with its ring, and a bus in
- * rounds. Written from the papers alone; see NOTES.md for open readings.
+ * rounds; and of document 02's video unit. Written from the papers alone; see
+ * NOTES.md for open readings.
  *
  * Every function is total, allocates nothing and keeps no state of its own.
  * A refused call changes neither state nor lent memory. Functions that can
@@ -34,6 +35,9 @@ enum {
     SECOND_COMMAND_HEADER = 9,
     SECOND_QUEUE_SIZE = 256,
     SECOND_COMMAND_BUFFER = 256,
+    SECOND_ROWS = 24,
+    SECOND_COLUMNS = 80,
+    SECOND_SCREEN_SIZE = SECOND_ROWS * SECOND_COLUMNS,
     SECOND_RING_SIZE = 16,
     SECOND_RELEASED = 15,        /* a released nibble */
     SECOND_DEFAULT_TIME_OUT = 200,
@@ -99,7 +103,37 @@ struct second_line {
     uint8_t stage;               /* the sender's */
 };
 
-/* ---- The serial peripheral --------------------------------------------- */
+/* ---- The screen of a video unit ---------------------------------------- */
+
+/* What is beside the cells, which are lent row by row. */
+struct second_screen {
+    uint8_t row, column;         /* the cursor */
+    uint8_t first, last;         /* unprotected lines */
+    bool scrolls;                /* scroll mode, else page mode */
+    bool wraps;
+    bool asked;                  /* the next read answers the cursor's address */
+    uint8_t sequence;            /* what the next byte is, screen.c */
+    uint8_t argument;            /* the row to set, or how many bytes are still skipped */
+};
+
+struct second_screen_view {
+    uint8_t row, column;
+    bool scrolls, wraps;
+    bool top, bottom;            /* protected */
+    bool asked;
+    bool reading;                /* inside a sequence */
+};
+
+/* As at power up; clearing also blanks the cells. */
+void second_screen_start(struct second_screen *screen);
+void second_screen_clear(struct second_screen *screen, uint8_t cells[SECOND_SCREEN_SIZE]);
+void second_screen_byte(struct second_screen *screen, uint8_t cells[SECOND_SCREEN_SIZE],
+                        uint8_t byte);
+void second_screen_write(struct second_screen *screen, uint8_t cells[SECOND_SCREEN_SIZE],
+                         const uint8_t *text, size_t length);
+struct second_screen_view second_screen_look(const struct second_screen *screen);
+
+/* ---- The serial peripheral and the video unit -------------------------- */
 
 enum second_phase {
     SECOND_IDLE,
@@ -142,6 +176,7 @@ struct second_unit {
     uint8_t answer;              /* kind of the fixed answer, unit.c */
     uint8_t answer_length;
     uint8_t answer_status;
+    struct second_screen screen; /* of codes 30 to 33, which have no queues */
 };
 
 struct second_unit_view {
@@ -155,10 +190,11 @@ struct second_unit_view {
 };
 
 int second_unit_make(struct second_unit *unit, uint8_t own_code, uint32_t retry);
+/* The output is the 256 bytes of the queue, or the 1,920 cells of a screen. */
 int second_unit_step(struct second_unit *unit, struct second_levels seen, bool busy,
                      uint8_t *command, size_t command_length,
                      uint8_t input[SECOND_QUEUE_SIZE],
-                     uint8_t output[SECOND_QUEUE_SIZE]);
+                     uint8_t *output, size_t output_length);
 int second_unit_feed(struct second_unit *unit, uint8_t input[SECOND_QUEUE_SIZE],
                      uint8_t byte);
 /* False is "nothing". */
@@ -245,7 +281,7 @@ struct second_station {
     bool busy;
     uint8_t command[SECOND_COMMAND_BUFFER];
     uint8_t input[SECOND_QUEUE_SIZE];
-    uint8_t output[SECOND_QUEUE_SIZE];
+    uint8_t output[SECOND_SCREEN_SIZE];
 };
 
 struct second_levels second_bus_levels(const struct second_controller *controller,

@@ -1,4 +1,4 @@
-/* The marked cases M1 to M10 of document 01 and other worked examples. */
+/* The marked cases M1 to M10 of document 01, the video unit's and other worked examples. */
 #include "second.h"
 
 #include <stdio.h>
@@ -383,11 +383,12 @@ static void check_request(void)
     CHECK(second_unit_raise(&unit) == 7);
     unit.enabled = true;
     CHECK(second_unit_raise(&unit) == 0 && second_unit_raise(&unit) == 0);
-#define STEP(levels) second_unit_step(&unit, levels, false, memory[0], 256, memory[1], memory[2])
+#define STEP(levels) second_unit_step(&unit, levels, false, memory[0], 256, memory[1], memory[2], 256)
     for (unsigned i = 0; i < 3; i++)
         CHECK(STEP(quiet) == 0 && !unit.line.pulls.bav);
     CHECK(STEP(((struct second_levels){ false, false, 16 })) == 5);
-    CHECK(second_unit_step(&unit, quiet, false, memory[0], 255, memory[1], memory[2]) == 11);
+    CHECK(second_unit_step(&unit, quiet, false, memory[0], 255, memory[1], memory[2], 256) == 11);
+    CHECK(second_unit_step(&unit, quiet, false, memory[0], 256, memory[1], memory[2], 255) == 11);
     CHECK(STEP(quiet) == 0 && unit.line.pulls.bav);
     CHECK(STEP(bav) == 0 && unit.line.pulls.bav && unit.phase == SECOND_SELECTING);
     CHECK(STEP(bav) == 0 && unit.line.pulls.bav);
@@ -582,14 +583,15 @@ static void check_null(void)
     CHECK(!second_controller_look(&c).may_start);
 }
 
-static uint8_t lent[3][256];
+static uint8_t lent[2][256], lent_output[SECOND_SCREEN_SIZE];
 
 static void unit_see(struct second_unit *unit, bool bav_low, bool hsk_low, uint8_t nibble,
                      bool busy)
 {
     struct second_levels seen = { bav_low, hsk_low, nibble };
 
-    CHECK(second_unit_step(unit, seen, busy, lent[0], 256, lent[1], lent[2]) == 0);
+    CHECK(second_unit_step(unit, seen, busy, lent[0], 256, lent[1], lent_output,
+                           sizeof lent_output) == 0);
 }
 
 /* A unit asked by hand; it stands in the round where HSK was seen high. */
@@ -669,6 +671,189 @@ static void check_waiting(void)
     CHECK(unit.mode == SECOND_CLOSED && unit.phase == SECOND_SITTING_OUT);
 }
 
+/* ---- The screen of a video unit ---------------------------------------- */
+
+enum { COLUMNS = SECOND_COLUMNS, SCREEN = SECOND_SCREEN_SIZE };
+
+/* A cell of the pattern: no blank, and unlike those around it. */
+static uint8_t cell(unsigned row, unsigned column)
+{
+    return (uint8_t)(0x21 + (column + 11 * row) % 94);
+}
+
+static void paint(uint8_t *cells)
+{
+    for (unsigned i = 0; i < SCREEN; i++)
+        cells[i] = cell(i / COLUMNS, i % COLUMNS);
+}
+
+/* What must be there: the pattern, with rows of it moved, blanks and bytes. */
+static uint8_t wanted[SCREEN];
+
+static void rows_from(unsigned first, unsigned last, unsigned from)
+{
+    for (unsigned row = first; row <= last; row++)
+        for (unsigned column = 0; column < COLUMNS; column++)
+            wanted[row * COLUMNS + column] = cell(row - first + from, column);
+}
+
+static void cells_from(unsigned row, unsigned column, unsigned count, unsigned from)
+{
+    for (unsigned i = 0; i < count; i++)
+        wanted[row * COLUMNS + column + i] = cell(row, from + i);
+}
+
+static void blank(unsigned row, unsigned column, unsigned count)
+{
+    memset(wanted + row * COLUMNS + column, ' ', count);
+}
+
+/* The cells stay, but for what has been put into `wanted`. */
+static struct second_screen screen;
+static uint8_t cells[SCREEN + 1];
+
+#define ESC "\x1B"
+#define TEXT(literal) (const uint8_t *)(literal), sizeof(literal) - 1
+
+/* A painted screen after the first text, with the cursor there. */
+static void set_up(const uint8_t *text, size_t length, uint8_t row, uint8_t column)
+{
+    const uint8_t cursor[] = { 0x1B, '=', row, column };
+
+    second_screen_clear(&screen, cells);
+    second_screen_write(&screen, cells, text, length);
+    second_screen_write(&screen, cells, cursor, sizeof cursor);
+    CHECK(screen.row == row && screen.column == column);
+    paint(cells);
+    paint(wanted);
+}
+
+static bool is_at(const uint8_t *text, size_t length, uint8_t row, uint8_t column)
+{
+    second_screen_write(&screen, cells, text, length);
+    return screen.row == row && screen.column == column
+        && memcmp(cells, wanted, SCREEN) == 0;
+}
+
+static void check_screen(void)
+{
+    static const struct { const char *text; uint8_t length, count; } skipped[] = {
+        { ESC "6", 2, 24 }, { ESC "7", 2, 24 }, { ESC "K", 2, 24 }, { ESC "L", 2, 24 },
+        { ESC "0" ESC "6", 4, 23 }, { ESC "2" ESC "7", 4, 23 },
+        { ESC "0" ESC "2" ESC "K", 6, 22 }, { ESC "2" ESC "0" ESC "L", 6, 22 },
+        { ESC ".", 2, 1 }, { ESC "G", 2, 1 }, { ESC "C", 2, 1 }, { ESC "P", 2, 1 },
+        { ESC "S", 2, 2 }, { ESC "B", 2, 9 }, { ESC "D", 2, 0 }, { ESC "d", 2, 0 },
+        { ESC "*", 2, 0 }, { ESC "O", 2, 0 }, { ESC ESC, 2, 0 }, { ESC "\n", 2, 0 },
+    };
+
+    /* 3.1: power up. */
+    memset(cells, 'x', sizeof cells);
+    second_screen_clear(&screen, cells);
+    memset(wanted, ' ', SCREEN);
+    CHECK(is_at(NULL, 0, 0, 0) && screen.scrolls && screen.wraps && !screen.asked);
+    CHECK(screen.first == 0 && screen.last == 23 && cells[SCREEN] == 'x');
+
+    /* A character; at the end of a line; at the end of the page. */
+    set_up(NULL, 0, 4, 78);
+    wanted[4 * COLUMNS + 78] = 'a';
+    CHECK(is_at(TEXT("a"), 4, 79));
+    wanted[4 * COLUMNS + 79] = 0xFF;
+    CHECK(is_at(TEXT("\xFF"), 5, 0));
+    set_up(NULL, 0, 23, 79);
+    rows_from(0, 22, 1);
+    wanted[22 * COLUMNS + 79] = 'a';
+    blank(23, 0, 80);
+    CHECK(is_at(TEXT("a"), 23, 0));
+    set_up(TEXT(ESC "m" ESC "0"), 23, 79);
+    wanted[23 * COLUMNS + 79] = 'a';
+    CHECK(is_at(TEXT("a"), 1, 0));
+    set_up(TEXT(ESC "4"), 23, 79);
+    wanted[23 * COLUMNS + 79] = 'b';
+    CHECK(is_at(TEXT("ab"), 23, 79));
+
+    /* Backspace and forward space. */
+    set_up(NULL, 0, 3, 1);
+    CHECK(is_at(TEXT("\b"), 3, 0) && is_at(TEXT("\b"), 2, 79));
+    CHECK(is_at(TEXT("\f"), 3, 0) && is_at(TEXT("\f"), 3, 1));
+    set_up(TEXT(ESC "0" ESC "2"), 1, 0);
+    CHECK(is_at(TEXT("\b"), 22, 79) && is_at(TEXT("\f"), 1, 0));
+    set_up(TEXT(ESC "4"), 3, 0);
+    CHECK(is_at(TEXT("\b"), 3, 0) && is_at(TEXT(ESC "=\x03\x4F\f"), 3, 79));
+
+    /* Line feed, line up, carriage return. */
+    set_up(NULL, 0, 22, 7);
+    CHECK(is_at(TEXT("\n"), 23, 7));
+    rows_from(0, 22, 1);
+    blank(23, 0, 80);
+    CHECK(is_at(TEXT("\n"), 23, 7) && is_at(TEXT("\r"), 23, 0));
+    set_up(TEXT(ESC "0" ESC "2"), 22, 7);
+    rows_from(1, 21, 2);
+    blank(22, 0, 80);
+    CHECK(is_at(TEXT("\n"), 22, 7));
+    set_up(TEXT(ESC "m" ESC "2"), 22, 7);
+    CHECK(is_at(TEXT("\n"), 0, 7) && is_at(TEXT("\v"), 22, 7) && is_at(TEXT("\v"), 21, 7));
+    set_up(TEXT(ESC "0"), 1, 7);
+    rows_from(2, 23, 1);
+    blank(1, 0, 80);
+    CHECK(is_at(TEXT("\v"), 1, 7));
+
+    /* Erase page; codes that do nothing. */
+    set_up(TEXT(ESC "0" ESC "2"), 5, 7);
+    CHECK(is_at(TEXT("\0\a\t\x0E\x11\x13\x15\x1A\x1C\x1E"), 5, 7));
+    blank(1, 0, 22 * 80);
+    CHECK(is_at(TEXT("\x1F"), 1, 0));
+
+    /* Characters and lines inserted and deleted. */
+    set_up(NULL, 0, 6, 70);
+    cells_from(6, 71, 9, 70);
+    blank(6, 70, 1);
+    CHECK(is_at(TEXT(ESC "Q"), 6, 70));
+    set_up(NULL, 0, 6, 70);
+    cells_from(6, 70, 9, 71);
+    blank(6, 79, 1);
+    CHECK(is_at(TEXT(ESC "W"), 6, 70));
+    set_up(TEXT(ESC "2"), 6, 70);
+    rows_from(7, 22, 6);
+    blank(6, 0, 80);
+    CHECK(is_at(TEXT(ESC "E"), 6, 70));
+    set_up(TEXT(ESC "2"), 6, 70);
+    rows_from(6, 21, 7);
+    blank(22, 0, 80);
+    CHECK(is_at(TEXT(ESC "R"), 6, 0));
+
+    /* To the end of the line and of the page. */
+    set_up(TEXT(ESC "2"), 22, 79);
+    blank(22, 79, 1);
+    CHECK(is_at(TEXT(ESC "Y"), 22, 79));
+    set_up(TEXT(ESC "2"), 6, 70);
+    blank(6, 70, 10);
+    CHECK(is_at(TEXT(ESC "T"), 6, 70));
+    blank(7, 0, 16 * 80);
+    CHECK(is_at(TEXT(ESC "Y"), 6, 70));
+
+    /* Set cursor: out of range, on a protected line; arguments are no codes. */
+    set_up(NULL, 0, 6, 70);
+    CHECK(is_at(TEXT(ESC "=\x18\x00"), 6, 70) && is_at(TEXT(ESC "=\x00\x50"), 6, 70));
+    CHECK(is_at(TEXT(ESC "=\x1B\x1B"), 6, 70) && is_at(TEXT(ESC "=\x17\x1B"), 23, 27));
+    CHECK(is_at(TEXT(ESC "2"), 22, 27) && is_at(TEXT(ESC "3"), 22, 27));
+    CHECK(is_at(TEXT(ESC "=\x00\x1F"), 0, 31) && is_at(TEXT(ESC "0"), 1, 31));
+    CHECK(is_at(TEXT(ESC "=\x00\x05"), 1, 5) && is_at(TEXT(ESC "1"), 1, 5));
+
+    /* Skipped, with arguments that are escapes. */
+    for (unsigned i = 0; i < LENGTH(skipped); i++) {
+        uint8_t text[32];
+
+        set_up(NULL, 0, 6, 70);
+        memset(text, 0x1B, sizeof text);
+        memcpy(text, skipped[i].text, skipped[i].length);
+        CHECK(is_at(text, (size_t)skipped[i].length + skipped[i].count, 6, 70));
+        CHECK(!second_screen_look(&screen).reading);
+        wanted[6 * COLUMNS + 70] = 'M';
+        CHECK(is_at(TEXT("M"), 6, 71));
+    }
+    CHECK(cells[SCREEN] == 'x');
+}
+
 /* ---- Totality ---------------------------------------------------------- */
 
 static uint32_t random_state = 1;
@@ -679,36 +864,155 @@ static uint32_t draw(uint32_t below)
     return (random_state >> 8) % below;
 }
 
+/* A text in two parts leaves what it leaves in one, whatever stands in it. */
+static void check_cuts(unsigned texts)
+{
+    static const uint8_t often[] = "\x1B\x1B\x1B\x1B=0123456789.GBCKLPDdSMmQWERTY\b\n\v\f\r\x1F\x16\x4F";
+    static uint8_t other[SCREEN];
+    struct second_screen whole;
+
+    second_screen_clear(&screen, cells);
+    second_screen_clear(&whole, other);
+    while (texts-- > 0) {
+        uint8_t text[40];
+        size_t length = draw(41), cut = draw((uint32_t)length + 1);
+
+        for (size_t i = 0; i < length; i++)
+            text[i] = (uint8_t)(draw(4) == 0 ? draw(256) : often[draw(sizeof often)]);
+        second_screen_write(&screen, cells, text, cut);
+        second_screen_write(&screen, cells, text + cut, length - cut);
+        for (size_t i = 0; i < length; i++)
+            second_screen_byte(&whole, other, text[i]);
+        CHECK(memcmp(cells, other, SCREEN) == 0);
+        CHECK(memcmp(&screen, &whole, sizeof whole) == 0);
+        CHECK(screen.first <= screen.row && screen.row <= screen.last && screen.column < COLUMNS);
+    }
+}
+
+/* The unit's checks in their order, on the bus. */
+static void check_video(void)
+{
+    static const struct {
+        uint8_t data[4];
+        uint8_t length, status, accepted;
+        uint16_t buffer_length;
+    } openings[] = {
+        { { 0x81, 0, 0x40 }, 2, 0x02, 0, 3 }, { { 0x81, 0, 0x20 }, 3, 0x13, 0, 3 },
+        { { 0x81, 0, 0x60 }, 3, 0x15, 0, 3 }, { { 0x50, 0, 0x40 }, 3, 0x15, 0, 4 },
+        { { 0x81, 0, 0xE0 }, 3, 0x11, 0, 3 }, { { 0x50, 0, 0xA0 }, 3, 0x11, 0, 4 },
+        { { 0x81, 0, 0xC0, 'R' }, 4, 0x0C, 0, 4 }, { { 0x50, 0, 0xC0, 'R' }, 4, 0x0C, 0, 3 },
+        { { 0x50, 0, 0xC0, 'R' }, 4, 0x01, 0, 4 }, { { 0x80, 0, 0x9F }, 3, 0x00, 128, 4 },
+        { { 0x00, 0, 0xC0 }, 3, 0x00, 80, 4 },
+    };
+    static uint8_t data[257];
+    struct rig rig;
+    struct second_station *station = &rig.stations[3];
+    struct second_unit *unit = &station->unit;
+
+    for (unsigned i = 0; i < LENGTH(openings); i++) {
+        rig_make(&rig, 200, 20);
+        CHECK(second_unit_make(unit, 33, 20) == 0);
+        CHECK(rig_status(&rig, 33, 0x00, openings[i].buffer_length, openings[i].data,
+                         openings[i].length) == openings[i].status);
+        CHECK(unit->accepted == openings[i].accepted);
+        CHECK(station->output[0] == (openings[i].status == 0 ? ' ' : 0));
+    }
+
+    /* Open in update mode: text, a pending address, reads with small buffers. */
+    CHECK(rig_status(&rig, 33, 0x04, 0, TEXT(ESC "=\x05\x07" ESC)) == 0);
+    CHECK(second_screen_look(&unit->screen).reading);
+    CHECK(rig_status(&rig, 33, 0x03, 80, NULL, 0) == 0 && rig.wired == 6);
+    CHECK(rig_status(&rig, 33, 0x04, 0, TEXT("9Hi")) == 0 && unit->screen.asked);
+    CHECK(memcmp(station->output + 5 * COLUMNS + 6, " Hi ", 4) == 0);
+    CHECK(rig_status(&rig, 33, 0x03, 80, NULL, 0) == 0 && !unit->screen.asked);
+    CHECK(wire_is(&rig, (const uint8_t[]){ 2, 0, 5, 9, 0 }, 5));
+    CHECK(rig_status(&rig, 33, 0x03, 80, NULL, 0) == 0);
+    CHECK(wire_is(&rig, (const uint8_t[]){ 0, 0, 0 }, 3));
+    CHECK(rig_status(&rig, 33, 0x04, 0, TEXT(ESC "9")) == 0);
+    CHECK(rig_status(&rig, 33, 0x03, 1, NULL, 0) == 0 && !unit->screen.asked);
+    CHECK(wire_is(&rig, (const uint8_t[]){ 1, 0, 5, 0 }, 4));
+    CHECK(rig_status(&rig, 33, 0x04, 0, TEXT(ESC "9")) == 0);
+    CHECK(rig_status(&rig, 33, 0x03, 0, NULL, 0) == 0 && !unit->screen.asked);
+    CHECK(rig.wired == 6);
+
+    /* 08 and 09 are not supported; over 256 bytes; the poll; the host's calls. */
+    CHECK(rig_status(&rig, 33, 0x08, 0, NULL, 0) == 0x0D);
+    CHECK(rig_status(&rig, 33, 0x09, 0, data, 257) == 0x0D);
+    CHECK(rig_status(&rig, 33, 0x04, 0, data, 257) == 0x08);
+    CHECK(memcmp(station->output + 5 * COLUMNS + 6, " Hi ", 4) == 0);
+    CHECK(rig_status(&rig, 33, 0x00, 4, update_80, 3) == 0x05);
+    CHECK(second_unit_feed(unit, station->input, 'A') == 7 && second_unit_raise(unit) == 7);
+    CHECK(!second_unit_take(unit, station->output, data));
+
+    /* Close keeps all; FF on a closed unit too; open clears; FF clears and closes. */
+    CHECK(rig_status(&rig, 33, 0x04, 0, TEXT(ESC "m" ESC "9" ESC)) == 0);
+    CHECK(rig_status(&rig, 33, 0x01, 0, NULL, 0) == 0);
+    CHECK(rig_status(&rig, 33, 0x01, 0, NULL, 0) == 0x04);
+    CHECK(rig_status(&rig, 33, 0x04, 0, data, 256) == 0x04);
+    CHECK(rig_status(&rig, 33, 0x03, 2, NULL, 0) == 0x04);
+    CHECK(rig_status(&rig, 0, 0xFF, 0, NULL, 0) == 0xFF);
+    CHECK(memcmp(station->output + 5 * COLUMNS + 6, " Hi ", 4) == 0 && unit->screen.asked);
+    CHECK(!unit->screen.scrolls && second_screen_look(&unit->screen).reading);
+    rig_open(&rig, 33, 0x80);
+    CHECK(station->output[5 * COLUMNS + 7] == ' ' && !unit->screen.asked);
+    CHECK(unit->screen.scrolls && !second_screen_look(&unit->screen).reading);
+    CHECK(rig_status(&rig, 33, 0x04, 0, TEXT("Hi" ESC "9")) == 0);
+    CHECK(rig_status(&rig, 33, 0x03, 2, NULL, 0) == 0x0F && unit->screen.asked);
+    CHECK(rig_status(&rig, 33, 0xFF, 0, NULL, 0) == 0xFF);
+    CHECK(unit->mode == SECOND_CLOSED && !unit->screen.asked);
+    CHECK(unit->screen.column == 0 && station->output[0] == ' ');
+    for (unsigned i = 0; i < SCREEN; i++)
+        CHECK(station->output[i] == ' ');
+
+    /* Polled by hand; an address is pending until the last nibble is done. */
+    ask(unit, 33, 0x0A, 0);
+    CHECK(unit->answer_status == 0x0A && unit->total == 6);
+    unit->mode = SECOND_UPDATE;
+    unit->accepted = 80;
+    unit->screen.asked = true;
+    ask(unit, 33, 0x03, 2);
+    answer_nibbles(unit, 9);
+    CHECK(unit->screen.asked && unit->phase == SECOND_RESPONDING);
+    unit_see(unit, false, false, 15, false);
+    ask(unit, 33, 0x03, 2);
+    answer_nibbles(unit, 10);
+    CHECK(!unit->screen.asked && unit->phase == SECOND_SITTING_OUT);
+}
+
 static void check_queue(struct second_queue queue)
 {
     CHECK(queue.count <= SECOND_QUEUE_SIZE);
 }
 
 /* Any levels at any time: no step leaves the state's bounds. */
-static void check_unit_any(unsigned steps)
+static void check_unit_any(uint8_t code, unsigned steps)
 {
-    static uint8_t memory[3][256];
+    static uint8_t memory[2][256], output[SECOND_SCREEN_SIZE + 1];
+    const size_t needed = code == 30 ? SECOND_SCREEN_SIZE : SECOND_QUEUE_SIZE;
     struct second_unit unit;
 
-    CHECK(second_unit_make(&unit, 20, 4) == 0);
+    CHECK(second_unit_make(&unit, code, 4) == 0);
+    output[needed] = 0xEE;
     while (steps-- > 0) {
         struct second_levels seen = { draw(64) != 0, draw(2) != 0, (uint8_t)draw(17) };
         struct second_unit before = unit;
         uint8_t byte;
         int refusal = second_unit_step(&unit, seen, draw(4) == 0, memory[0],
-                                       draw(50) == 0 ? 255 : 256, memory[1], memory[2]);
+                                       draw(50) == 0 ? 255 : 256, memory[1], output,
+                                       draw(50) == 0 ? needed - 1 : needed);
 
         if (refusal != 0)
             CHECK(memcmp(&before, &unit, sizeof unit) == 0);
         if (draw(8) == 0)
             (void)second_unit_feed(&unit, memory[1], (uint8_t)draw(256));
         if (draw(8) == 0)
-            (void)second_unit_take(&unit, memory[2], &byte);
+            (void)second_unit_take(&unit, output, &byte);
         if (draw(8) == 0)
             (void)second_unit_raise(&unit);
         check_queue(unit.input);
         check_queue(unit.output);
         CHECK(unit.line.pulls.nibble <= 15 && unit.phase <= SECOND_SITTING_OUT);
+        CHECK(output[needed] == 0xEE);
     }
 }
 
@@ -791,7 +1095,11 @@ int main(void)
     check_listening();
     check_null();
     check_waiting();
-    check_unit_any(200000);
+    check_screen();
+    check_cuts(20000);
+    check_video();
+    check_unit_any(20, 200000);
+    check_unit_any(30, 200000);
     check_controller_any(200000);
     check_busy(200);
     printf("%s\n", failures == 0 ? "all hold" : "FAILED");

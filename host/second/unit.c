@@ -1,4 +1,4 @@
-/* The serial peripheral: phases, queues and its answers. */
+/* The serial peripheral and the video unit: phases, queues and answers. */
 #include "line.h"
 
 #include <string.h>
@@ -12,7 +12,7 @@ enum {
     DONE = 0x00, OPTION_ERROR = 0x01, TOO_FEW_BYTES = 0x02, NOT_OPEN = 0x04,
     ALREADY_OPEN = 0x05, DATA_TOO_LONG = 0x08, NOT_REQUESTING = 0x0A,
     BUFFER_SIZE_ERROR = 0x0C, UNSUPPORTED = 0x0D, NOT_FOR_WRITE = 0x0E,
-    NOT_FOR_READ = 0x0F, RELATIVE = 0x11, APPEND = 0x13
+    NOT_FOR_READ = 0x0F, RELATIVE = 0x11, APPEND = 0x13, INPUT_MODE = 0x15
 };
 
 /* Kinds of the fixed answer. */
@@ -21,6 +21,7 @@ enum {
     ANSWER_STATUS,
     ANSWER_OPENED,               /* accepted length, record 0 */
     ANSWER_READ,                 /* the bytes leave the queue when all is done */
+    ANSWER_ADDRESS,              /* row, column; pending until all is done */
     ANSWER_POLLED                /* the request is cleared when all is done */
 };
 
@@ -30,8 +31,16 @@ enum {
     DEFAULT_LENGTH = 80,
     LONGEST_LENGTH = 128,
     OPEN_BYTES = 3,
-    OPEN_ANSWER = 4
+    OPEN_ANSWER = 4,
+    ADDRESS_BYTES = 2,
+    VIDEO_FIRST = 30,
+    VIDEO_LAST = 33
 };
+
+static bool is_video(const struct second_unit *unit)
+{
+    return VIDEO_FIRST <= unit->own_code && unit->own_code <= VIDEO_LAST;
+}
 
 int second_unit_make(struct second_unit *unit, uint8_t own_code, uint32_t retry)
 {
@@ -41,6 +50,7 @@ int second_unit_make(struct second_unit *unit, uint8_t own_code, uint32_t retry)
     unit->line.pulls.nibble = SECOND_RELEASED;
     unit->own_code = own_code;
     unit->retry = (uint16_t)retry;
+    second_screen_start(&unit->screen);
     return SECOND_ACCEPTED;
 }
 
@@ -77,7 +87,7 @@ static void queue_put_all(struct second_queue *queue, uint8_t *bytes,
 int second_unit_feed(struct second_unit *unit, uint8_t input[SECOND_QUEUE_SIZE],
                      uint8_t byte)
 {
-    if ((unit->mode & SECOND_INPUT) == 0)
+    if ((unit->mode & SECOND_INPUT) == 0 || is_video(unit))
         return SECOND_NOT_ENABLED;
     if (unit->input.count == SECOND_QUEUE_SIZE)
         return SECOND_QUEUE_FULL;
@@ -133,9 +143,9 @@ static void close_unit(struct second_unit *unit)
     unit->input = (struct second_queue){ 0, 0 };
 }
 
-/* Check 5. */
+/* Check 5. A screen is cleared. */
 static uint8_t open_unit(struct second_unit *unit, const uint8_t *data,
-                         uint16_t length, uint16_t buffer_length)
+                         uint16_t length, uint16_t buffer_length, uint8_t *output)
 {
     uint16_t requested;
     uint8_t mode;
@@ -147,6 +157,8 @@ static uint8_t open_unit(struct second_unit *unit, const uint8_t *data,
     mode = data[2] >> 6;
     if (mode == 0)
         return APPEND;
+    if (mode == SECOND_INPUT && is_video(unit))
+        return INPUT_MODE;
     if ((data[2] & 0x20) != 0)
         return RELATIVE;
     requested = word_of(data);
@@ -158,21 +170,31 @@ static uint8_t open_unit(struct second_unit *unit, const uint8_t *data,
     unit->accepted = requested == 0 ? DEFAULT_LENGTH : (uint8_t)requested;
     unit->answer = ANSWER_OPENED;
     unit->answer_length = OPEN_ANSWER;
+    if (is_video(unit))
+        second_screen_clear(&unit->screen, output);
     return DONE;
 }
 
-/* Check 8: the least of queued, buffer length and accepted length. */
+/*
+ * Check 8: the least of queued, buffer length and accepted length. Of a video
+ * unit only a pending address is read.
+ */
 static uint8_t read_unit(struct second_unit *unit, uint16_t buffer_length)
 {
-    uint16_t count = unit->accepted;
+    uint16_t count = unit->input.count;
 
     if (unit->mode == SECOND_OUTPUT)
         return NOT_FOR_READ;
+    if (!is_video(unit)) {
+        unit->answer = ANSWER_READ;
+    } else if (unit->screen.asked) {
+        unit->answer = ANSWER_ADDRESS;
+        count = ADDRESS_BYTES;
+    }
+    if (count > unit->accepted)
+        count = unit->accepted;
     if (count > buffer_length)
         count = buffer_length;
-    if (count > unit->input.count)
-        count = unit->input.count;
-    unit->answer = ANSWER_READ;
     unit->answer_length = (uint8_t)count;
     return DONE;
 }
@@ -181,6 +203,10 @@ static uint8_t read_unit(struct second_unit *unit, uint16_t buffer_length)
 static uint8_t write_unit(struct second_unit *unit, const uint8_t *data,
                           uint16_t length, uint8_t *output)
 {
+    if (is_video(unit)) {
+        second_screen_write(&unit->screen, output, data, length);
+        return DONE;
+    }
     if (unit->mode == SECOND_INPUT)
         return NOT_FOR_WRITE;
     if (length > SECOND_QUEUE_SIZE - unit->output.count)
@@ -198,12 +224,13 @@ static uint8_t poll_unit(struct second_unit *unit)
     return DONE;
 }
 
-static bool is_supported(uint8_t command)
+static bool is_supported(const struct second_unit *unit, uint8_t command)
 {
     switch (command) {
-    case OPEN: case CLOSE: case READ: case WRITE:
-    case ENABLE: case DISABLE: case POLL:
+    case OPEN: case CLOSE: case READ: case WRITE: case POLL:
         return true;
+    case ENABLE: case DISABLE:
+        return !is_video(unit);
     default:
         return false;
     }
@@ -217,12 +244,12 @@ static uint8_t answer_command(struct second_unit *unit, const uint8_t *data,
     uint16_t buffer_length = word_of(unit->header + 5);
     uint16_t length = word_of(unit->header + 7);
 
-    if (!is_supported(command))
+    if (!is_supported(unit, command))
         return UNSUPPORTED;
     if (length > SECOND_COMMAND_BUFFER)
         return DATA_TOO_LONG;
     if (command == OPEN)
-        return open_unit(unit, data, length, buffer_length);
+        return open_unit(unit, data, length, buffer_length, output);
     if (command == POLL)
         return poll_unit(unit);
     if (unit->mode == SECOND_CLOSED)
@@ -244,6 +271,15 @@ static uint8_t answer_command(struct second_unit *unit, const uint8_t *data,
     }
 }
 
+/* FF. A screen is cleared where the unit is open. */
+static void reset_unit(struct second_unit *unit, uint8_t *output)
+{
+    if (is_video(unit) && unit->mode != SECOND_CLOSED)
+        second_screen_clear(&unit->screen, output);
+    close_unit(unit);
+    unit->output = (struct second_queue){ 0, 0 };
+}
+
 /*
  * The last command nibble is taken: effects happen and the answer is fixed.
  * Device code 0: only FE and FF act. Neither of them draws a response.
@@ -255,8 +291,7 @@ static void act(struct second_unit *unit, const uint8_t *data, uint8_t *output)
     unit->answer = ANSWER_NONE;
     unit->answer_length = 0;
     if (command == BUS_RESET) {
-        close_unit(unit);
-        unit->output = (struct second_queue){ 0, 0 };
+        reset_unit(unit, output);
     } else if (command != NULL_OPERATION && unit->header[0] != 0) {
         unit->answer = ANSWER_STATUS;
         unit->answer_status = answer_command(unit, data, output);
@@ -331,6 +366,8 @@ static uint8_t response_byte(const struct second_unit *unit, uint32_t at,
         return unit->answer_status;
     if (unit->answer == ANSWER_READ)
         return input[(uint8_t)(unit->input.head + at)];
+    if (unit->answer == ANSWER_ADDRESS)
+        return at == 0 ? unit->screen.row : unit->screen.column;
     return at == 0 ? unit->accepted : 0;
 }
 
@@ -339,6 +376,8 @@ static void end_responding(struct second_unit *unit)
 {
     if (unit->answer == ANSWER_READ)
         queue_drop(&unit->input, unit->answer_length);
+    else if (unit->answer == ANSWER_ADDRESS)
+        unit->screen.asked = false;
     else if (unit->answer == ANSWER_POLLED)
         unit->requesting = false;
     sit_out(unit);
@@ -386,16 +425,22 @@ static void see_bav_high(struct second_unit *unit, bool was_pulling)
         unit->line.pulls.bav = true;
 }
 
+/* What a unit writes to: the cells of its screen, or its output queue. */
+static size_t output_needed(const struct second_unit *unit)
+{
+    return is_video(unit) ? SECOND_SCREEN_SIZE : SECOND_QUEUE_SIZE;
+}
+
 int second_unit_step(struct second_unit *unit, struct second_levels seen, bool busy,
                      uint8_t *command, size_t command_length,
                      uint8_t input[SECOND_QUEUE_SIZE],
-                     uint8_t output[SECOND_QUEUE_SIZE])
+                     uint8_t *output, size_t output_length)
 {
     bool was_pulling = unit->line.pulls.bav;
 
     if (seen.nibble > 15)
         return SECOND_OUT_OF_RANGE;
-    if (command_length < SECOND_COMMAND_BUFFER)
+    if (command_length < SECOND_COMMAND_BUFFER || output_length < output_needed(unit))
         return SECOND_BUFFER_TOO_SHORT;
     /* A request's pull is released at the first HSK low of a later round. */
     unit->line.pulls.bav = was_pulling && !seen.hsk_low;

@@ -1,4 +1,4 @@
-// Scripts that are read and dumps that are written.
+// Scripts that are read, and dumps and screens that are written.
 use libc::STDERR_FILENO;
 
 // Reads a script and ends its last line; 0 where it cannot be had whole, which is said.
@@ -33,19 +33,20 @@ pub fn load(name: &[u8], text: &mut [u8]) -> usize {
     0
 }
 
-// The descriptor of the dump that a word names; 0 where none does, -1 where it cannot be had. What is no dump is not overwritten.
-pub fn open_dump(i: usize) -> i32 {
+// The descriptor of the file that a word names, for a dump or for screens; 0 where none does, -1 where it cannot be had. What holds anything
+// else is not overwritten.
+pub fn open(i: usize, is_screen: bool) -> i32 {
     if i == 0 {
         return 0;
     }
     let mut name = [0u8; 4096];
     let n = os::arg(i, &mut name);
     let word = &name[..n];
-    if is_other(word) {
+    if is_other(word, is_screen) {
         page::show(STDERR_FILENO, word);
         page::say(
             STDERR_FILENO,
-            b": this file is no waveform, and is left as it is\n",
+            b": this file holds something else, and is left as it is\n",
         );
         return -1;
     }
@@ -56,15 +57,18 @@ pub fn open_dump(i: usize) -> i32 {
     file
 }
 
-// Whether there is a file of this name that is no dump.
-fn is_other(name: &[u8]) -> bool {
+// Whether there is a file of this name that holds something else.
+fn is_other(name: &[u8], is_screen: bool) -> bool {
     let old = os::open_read(name);
     if old < 0 {
         return false;
     }
-    let mut front = [0u8; 64];
+    let mut front = [0u8; 256];
     let k = io::read_full(old, &mut front);
     libc::close(old);
+    if is_screen {
+        return !picture::screen::is_screen(&front[..k]);
+    }
     !picture::dump::is_dump(&front[..k])
 }
 

@@ -3,11 +3,13 @@ pub mod files;
 
 use libc::STDERR_FILENO;
 
-// What the words behind `run` ask for: how many scripts, whether frames are pictured, and which word names the dump, 0 for none.
+// What the words behind `run` ask for: how many scripts, whether frames are pictured, and which words name the files of the dump and of the
+// screens, 0 for none.
 pub struct Wanted {
     pub scripts: usize,
     pub pictured: u64,
     pub dump: usize,
+    pub screen: usize,
     pub is_wrong: bool,
 }
 
@@ -17,6 +19,7 @@ pub fn words() -> Wanted {
         scripts: 0,
         pictured: 0,
         dump: 0,
+        screen: 0,
         is_wrong: false,
     };
     let n = os::arg_count();
@@ -31,8 +34,8 @@ pub fn words() -> Wanted {
 // What only all of them together show to be wrong.
 fn checked(w: Wanted, n: usize) -> Wanted {
     let mut next = w;
-    if n <= w.dump {
-        next.is_wrong = wrong(b"hexbus: --vcd names no file", b"");
+    if (n <= w.dump) | (n <= w.screen) {
+        next.is_wrong = wrong(b"hexbus: the last option names no file", b"");
         return next;
     }
     if w.is_wrong {
@@ -40,8 +43,10 @@ fn checked(w: Wanted, n: usize) -> Wanted {
     }
     if w.scripts == 0 {
         next.is_wrong = wrong(b"hexbus: no script is named", b"");
-    } else if (0 < w.dump) & (1 < w.scripts) {
-        next.is_wrong = wrong(b"hexbus: --vcd is for one script", b"");
+    } else if (0 < w.dump) | (0 < w.screen) {
+        if 1 < w.scripts {
+            next.is_wrong = wrong(b"hexbus: --vcd and --screen are for one script", b"");
+        }
     }
     next
 }
@@ -51,9 +56,9 @@ fn with_word(w: Wanted, i: usize) -> Wanted {
     let n = os::arg(i, &mut name);
     let word = &name[..n];
     let mut next = w;
-    if w.dump == i {
+    if (w.dump == i) | (w.screen == i) {
         if is_option(word) {
-            next.is_wrong = wrong(b"hexbus: --vcd names an option as its file: ", word);
+            next.is_wrong = wrong(b"hexbus: an option stands where a file should: ", word);
         }
         return next;
     }
@@ -61,6 +66,8 @@ fn with_word(w: Wanted, i: usize) -> Wanted {
         next.pictured = 1;
     } else if word::is(word, b"--vcd") {
         next.dump = i % 1000000 + 1;
+    } else if word::is(word, b"--screen") {
+        next.screen = i % 1000000 + 1;
     } else if is_option(word) {
         next.is_wrong = wrong(b"hexbus: no such option: ", word);
     } else {

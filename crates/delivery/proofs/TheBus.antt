@@ -26,7 +26,7 @@ use Rattle.inside.proofs.Calls.{input-length}
 use Rattle.kind.specs.Kinds.{kindOf, isShort}
 use Rattle.kind.proofs.Laws.{not-short, lent-most}
 use Rattle.kind.specs.declared.Kind.{Kind}
-use Rattle.kind.specs.declared.Kind.the-variants.{Serial as SerialUnit}
+use Rattle.kind.specs.declared.Kind.the-variants.{Serial as SerialUnit, Video as VideoUnit}
 use Rattle.message.proofs.Fields.{below-take, below-drop}
 use Rattle.unit.specs.Unit.{newUnit}
 use Rattle.unit.specs.declared.Unit.{Unit}
@@ -67,6 +67,7 @@ with-all {b} {c} {vs} (u ∷ us) h few =
 -- Each unit as it is made, in memory of any bytes.
 lent-to : (kind : Kind) (x : Inside) → QueueLent x → Lent kind x
 lent-to SerialUnit x q = q
+lent-to VideoUnit x q = tt
 
 new-at : (own retry : ℕ) (m : List ℕ) → (own ≡ 0 → ⊥) → 2432 ≤ length m → Below 256 m → New (stationAt (newUnit own retry) m)
 new-at own retry m coded h b =

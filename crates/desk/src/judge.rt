@@ -4,6 +4,7 @@ use crate::UNREACHED;
 use crate::tell;
 use libc::STDOUT_FILENO;
 use statement::LOG_BYTES;
+use statement::NONE;
 use statement::Numbers;
 use statement::OTHER;
 use statement::Statement;
@@ -48,6 +49,7 @@ fn are_as_found(s: Statement, found: Numbers) -> bool {
 // An expectation of bytes: those of the statement, and those that were found.
 pub fn bytes(
     d: Desk,
+    forms: &[u8],
     name: &[u8],
     text: &[u8],
     wanted: &[u8],
@@ -64,6 +66,9 @@ pub fn bytes(
     if is_early {
         return put(page, end, 5, 0);
     }
+    if form == statement::SCREEN {
+        return row(page, end, forms, d.statement.numbers, found);
+    }
     if found.len() == 0 {
         return put(page, end, 6, 0);
     }
@@ -73,24 +78,37 @@ pub fn bytes(
     page::put_bytes(page, end, word::front(found, 64))
 }
 
-// Whether the bytes are all that were found; of a buffer that was lent the first, with the rest as it was lent.
-fn is_found(form: u64, wanted: &[u8], found: &[u8]) -> bool {
-    if (form == statement::BUFFER) | (form == statement::RESPONSE) {
-        return word::is(wanted, word::front(found, wanted.len())) & is_as_lent(found, wanted.len());
-    }
-    word::is(wanted, found)
+// The row of a screen in the statement that would have held.
+fn row(page: &mut [u8; 8192], n: usize, forms: &[u8], named: Numbers, found: &[u8]) -> usize {
+    let mut numbers = named;
+    numbers.third = NONE;
+    let end = fault::statement(page, n, forms, statement::SCREEN, numbers);
+    page::quoted(page, end, word::front(found, end_of(found, 0, b' ')))
 }
 
-// Whether every byte from a place on is still EE.
-fn is_as_lent(s: &[u8], from: usize) -> bool {
+// Whether the bytes are all that were found; of a buffer that was lent the first, with the rest as it was lent, and of the row of a screen
+// the first, with blanks behind them.
+fn is_found(form: u64, wanted: &[u8], found: &[u8]) -> bool {
+    let n = wanted.len();
+    let rest = match form {
+        statement::BUFFER..=statement::RESPONSE => 0xEE,
+        statement::SCREEN => b' ',
+        _ => return word::is(wanted, found),
+    };
+    word::is(wanted, word::front(found, n)) & (end_of(found, n, rest) == n)
+}
+
+// How many bytes there are up to the last that is not the one meant, those from a place on; that place where there is none.
+fn end_of(s: &[u8], from: usize, b: u8) -> usize {
+    let mut end = from;
     let mut i = from;
     while i < s.len() {
-        if s[i] != 0xEE {
-            return false;
+        if s[i] != b {
+            end = i + 1;
         }
         i += 1;
     }
-    true
+    end
 }
 
 // What the last statement came to must be expected by this one, or it is a failure.

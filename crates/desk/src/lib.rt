@@ -70,10 +70,11 @@ pub struct Desk {
     pub pending: u64,
     pub pending_line: u64,
     pub pending_start: usize,
-    // The descriptor that is written to, 0 for none; that of the dump, 0 for none, and whether it could not be written.
+    // The descriptor that is written to, 0 for none; that of the dump, 0 for none, and whether it or the screens could not
+    // be written.
     pub out: i32,
     pub dump: i32,
-    pub is_dump_lost: bool,
+    pub is_lost: bool,
     // Whether frames are pictured, and how many columns stand on the strip.
     pub is_pictured: bool,
     pub columns: usize,
@@ -136,7 +137,7 @@ pub fn start(logged: usize) -> Desk {
         pending_start: 0,
         out: 1,
         dump: 0,
-        is_dump_lost: false,
+        is_lost: false,
         is_pictured: false,
         columns: 0,
     }

@@ -68,6 +68,36 @@ pub fn party(p: Plan, rows: &[u64; 256], code: u64) -> u64 {
     find(p, rows, code)
 }
 
+// Where the party stands that a statement speaks of: that of a screen, or of the code that is its first number.
+pub fn subject(p: Plan, s: Statement, rows: &[u64; 256]) -> u64 {
+    let what = need(s.form);
+    let n = s.numbers;
+    if b'v' <= what {
+        return screen(p, rows, n.at((what - b'v') as usize));
+    }
+    party(p, rows, n.first)
+}
+
+// Where the screen with a code stands, NONE for the only one; 16 where there is none, 17 where there are several.
+pub fn screen(p: Plan, rows: &[u64; 256], code: u64) -> u64 {
+    let n = (p.count % 17) as usize;
+    let mut place = 16u64;
+    let mut i = 0usize;
+    while i < n {
+        let own = rows[UNIT_CODES + i];
+        if is_screen(own) & (statement::or(code, own) == own) {
+            place = if place == 16 { i as u64 } else { 17 };
+        }
+        i += 1;
+    }
+    place
+}
+
+// Whether the unit with a code is a screen.
+pub fn is_screen(code: u64) -> bool {
+    (30 <= code) & (code <= 33)
+}
+
 // Where a number stands among so many of a row; 16 where it does not.
 fn place_of(rows: &[u64; 256], row: usize, count: u64, number: u64) -> u64 {
     let n = (count % 17) as usize;
@@ -82,10 +112,11 @@ fn place_of(rows: &[u64; 256], row: usize, count: u64, number: u64) -> u64 {
 }
 
 // What each form needs, a letter for each: c no unit yet, u room for a unit, s room for a stand-in, k a unit with its code, p a unit or
-// the controller, i a stand-in, a an answer for one, b and q that rounds are run, q for a party too, r and e a repeat and its end.
+// the controller, i a stand-in, a an answer for one, b and q that rounds are run, q for a party too, r and e a repeat and its end, v to x a
+// screen, whose code is its first, second or third number.
 fn need(form: u64) -> u8 {
     word::letter(
-        b"cusa--b---kkkpp-pbbbbqre--------------kkk---kkp-k-i-",
+        b"cusa--b---kkkpp-pbbbbqre---v-----------kkk---kkp-k-iwx-",
         (form % 64) as usize,
     )
 }
@@ -110,9 +141,19 @@ pub fn against(p: Plan, s: Statement, rows: &[u64; 256]) -> u64 {
         } else {
             5
         },
+        b'v'..=b'x' => unseen(subject(p, s, rows), s.bytes),
         b'r' => unless(!is_repeat, 7),
         b'e' => unless(is_repeat, 8),
         _ => 0,
+    }
+}
+
+// Why nothing can be said of the screen at a place, or of a row of it with so many bytes; 0 where it can.
+fn unseen(place: u64, bytes: u64) -> u64 {
+    match place {
+        16 => 12,
+        17 => 13,
+        _ => unless(bytes <= 80, 14),
     }
 }
 
@@ -182,6 +223,9 @@ pub fn reason(out: i32, why: u64) {
 |the line is too long: at most 4,096 bytes
 |a repeat has no end before the script's
 |the script has no statement
+|no such screen on the bus: a unit with a code from 30 to 33 is one
+|the bus has several screens: of CODE says which
+|a row of a screen has at most 80 bytes
 ",
             b'|',
             why,

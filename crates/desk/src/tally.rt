@@ -37,17 +37,17 @@ pub fn played(t: Tally, d: Desk, name: &[u8]) -> Tally {
         d.failed,
         0,
     );
-    if d.is_dump_lost {
+    if d.is_lost {
         page::say(
             STDERR_FILENO,
-            b"hexbus: the waveform could not be written\n",
+            b"hexbus: a file that was asked for could not be written\n",
         );
     }
     Tally {
         held: t.held % 1000000000 + d.held % 1000000000,
         failed: t.failed % 1000000000 + d.failed % 1000000000,
         logged: d.logged,
-        is_bad: t.is_bad | d.is_dump_lost | (0 < d.failed),
+        is_bad: t.is_bad | d.is_lost | (0 < d.failed),
     }
 }
 

@@ -1,5 +1,6 @@
 // What is said of a run.
 use crate::Desk;
+use statement::Numbers;
 use statement::RING_BYTES;
 use statement::TAKEN_BYTES;
 
@@ -55,6 +56,8 @@ const REFUSAL: u64 = 23;
 // The first of the meanings of a refusal.
 const MEANINGS: u64 = 24;
 
+const CURSOR: u64 = 39;
+
 // Says words with numbers among them. @ stands for the round, # and the other signs (page) for the next of the numbers.
 pub fn say(d: Desk, which: u64, first: u64, second: u64, third: u64) {
     let list = b"          holds
@@ -83,10 +86,10 @@ pub fn say(d: Desk, which: u64, first: u64, second: u64, third: u64) {
 |0A is not submitted; polls are the ring's
 |the ring is full
 ||the input queue is full
-|not open for input or update
+|not open for input or update, or a screen
 |the code is not in the ring or not marked
 |the response buffer is under the buffer length
-";
+|@cursor # #|, page mode|, scroll mode|, wrap off|, wrap on||, top line protected||, bottom line protected||, its address is pending||, inside a sequence";
     let words = word::piece(list, b'|', which);
     if word::letter(words, 0) == b'@' {
         page::tell(d.out, words, d.round, first, second, third);
@@ -116,6 +119,17 @@ fn meaning(form: u64, number: u64) -> u64 {
         },
         _ => if number < 9 { 5 + number } else { 14 },
     }
+}
+
+// What a look at a screen has found: its cursor, and what is so or not so of it.
+pub fn screen(d: Desk, looks: Numbers) {
+    say(d, CURSOR, looks.first, looks.second, 0);
+    let mut i = 0usize;
+    while i < 6 {
+        say(d, CURSOR + 1 + 2 * i as u64 + looks.at(2 + i) % 2, 0, 0, 0);
+        i += 1;
+    }
+    say(d, END, 0, 0, 0);
 }
 
 // Received bytes, the first of them.

@@ -12,12 +12,13 @@ use Rattle.kind.specs.Kinds.{kindOf, isShort}
 use Rattle.kind.specs.declared.Kind.{Kind}
 use Rattle.line.specs.declared.Lines.{Lines}
 use Rattle.message.specs.Answer.{Answer, gives, refused}
+use Rattle.screen.specs.declared.Screen.{Screen}
 use Rattle.unit.specs.Calls.{stepping, bufferAfter, outputAfter}
 use Rattle.unit.specs.Unit.{unitStep, unitBuffer, unitOutput}
 use Rattle.unit.specs.declared.Unit.{Unit}
 use Rattle.unitwords.specs.Unit.{openingNumber, loaded, savedIn}
 use Rattle.words.specs.Words.{bit, number}
-use Rattle.gateway.specs.Unit.{unitAfter, takenNumber, takenWords, acceptedOf, looksWords}
+use Rattle.gateway.specs.Unit.{unitAfter, takenNumber, takenWords, acceptedOf, looksWords, isReading, screenLooks}
 
 pub given : {a : Answer Unit} {v : Unit} (ws : List ℕ) {after : List ℕ} → gives v ≡ a → after ≡ savedIn ws v → (0 ≡ number a) × (after ≡ unitAfter a ws)
 given ws p q = (ap number p, q ∙ ap (λ (a : Answer Unit). unitAfter a ws) p)
@@ -64,3 +65,13 @@ pub looked : (l : Looks) {opening accepted enabled requesting : ℕ}
     → requesting ≡ bit (l .requesting)
     → opening ∷ accepted ∷ l .input ∷ l .output ∷ enabled ∷ requesting ∷ [] ≡ looksWords l
 looked l p q r s = λ i. p i ∷ q i ∷ l .input ∷ l .output ∷ r i ∷ s i ∷ []
+
+pub looked-at : (s : Screen) {scrolls wraps top bottom asked reading : ℕ}
+    → scrolls ≡ bit (s .scrolls)
+    → wraps ≡ bit (s .wraps)
+    → top ≡ bit (s .top)
+    → bottom ≡ bit (s .bottom)
+    → asked ≡ bit (s .asked)
+    → reading ≡ bit (isReading (s .sequence))
+    → s .row ∷ s .column ∷ scrolls ∷ wraps ∷ top ∷ bottom ∷ asked ∷ reading ∷ [] ≡ screenLooks s
+looked-at s p q r t u v = λ i. s .row ∷ s .column ∷ p i ∷ q i ∷ r i ∷ t i ∷ u i ∷ v i ∷ []

@@ -1,7 +1,7 @@
 -- The calls of a unit from C: what each returns, and what it leaves in the words that hold the unit.
 use Prim.Native.Nat.{ℕ}
 use mathlib.Core.Path.{_≡_}
-use mathlib.Core.Bool.{Bool}
+use mathlib.Core.Bool.{Bool, true, false}
 use mathlib.Core.List.{List, [], _∷_}
 use Rattle.host.specs.Calls.{making, feeding, inputAfter, taking, raising}
 use Rattle.host.specs.declared.Looks.{Looks}
@@ -9,6 +9,9 @@ use Rattle.host.specs.declared.Taken.{Taken}
 use Rattle.host.specs.declared.Taken.the-variants.{Byte, Nothing}
 use Rattle.line.specs.declared.Lines.{Lines}
 use Rattle.message.specs.Answer.{Answer, gives, refused}
+use Rattle.screen.specs.declared.Screen.{Screen}
+use Rattle.screen.specs.declared.Sequence.{Sequence}
+use Rattle.screen.specs.declared.Sequence.the-variants.{Plain, Escape, Row, Column, Skips}
 use Rattle.serial.specs.declared.Opening.{Opening}
 use Rattle.serial.specs.declared.Opening.the-variants.{Closed, OpenFor}
 use Rattle.unit.specs.Calls.{stepping, bufferAfter, outputAfter}
@@ -48,6 +51,19 @@ acceptedOf (OpenFor m accepted) = accepted
 abbrev pub looksWords : Looks → List ℕ
 looksWords l =
     openingNumber (l .opening) ∷ acceptedOf (l .opening) ∷ l .input ∷ l .output ∷ bit (l .enabled) ∷ bit (l .requesting) ∷ []
+
+-- Looking at a screen, in eight words: the cursor's row and column; scroll mode, else page mode; whether lines wrap; whether the top and the
+-- bottom line are protected; whether the cursor's address is asked for; whether a sequence is being read.
+abbrev pub isReading : Sequence → Bool
+isReading Plain = false
+isReading Escape = true
+isReading Row = true
+isReading (Column row) = true
+isReading (Skips n) = true
+
+abbrev pub screenLooks : Screen → List ℕ
+screenLooks s =
+    s .row ∷ s .column ∷ bit (s .scrolls) ∷ bit (s .wraps) ∷ bit (s .top) ∷ bit (s .bottom) ∷ bit (s .asked) ∷ bit (isReading (s .sequence)) ∷ []
 
 -- What each call promises, for all words: what it returns, the words after it, and every byte that it was lent.
 abbrev pub UnitMade : ℕ → ℕ → List ℕ → ℕ → List ℕ → Type 0

@@ -4,12 +4,13 @@ ghost use Rattle.host.specs.Calls.{looksOf};
 ghost use Rattle.unit.specs.Unit.{pullsOf};
 ghost use Rattle.unitwords.specs.Unit.{loaded};
 ghost use Rattle.words.specs.Words.{linesNumber};
-ghost use Rattle.gateway.specs.Unit.{linesOf, acceptedOf, looksWords, UnitMade, UnitStepped, UnitFed, UnitTaken, UnitRaised};
+ghost use Rattle.gateway.specs.Unit.{linesOf, acceptedOf, looksWords, isReading, screenLooks, UnitMade, UnitStepped, UnitFed, UnitTaken, UnitRaised};
 use host::Fed;
 use host::Made;
 use host::Raised;
 use host::Taken;
 use line::Lines;
+use screen::Sequence;
 use serial::Opening;
 use unitwords::OWN;
 use unitwords::Words;
@@ -126,6 +127,37 @@ pub extern "C" fn hexbus_unit_look(unit: &Words, answer: &mut [u32; 6])
         words::bit(l.enabled),
         words::bit(l.requesting),
     ];
+}
+
+// Looks at a unit's screen.
+#[no_mangle]
+pub extern "C" fn hexbus_screen_look(unit: &Words, answer: &mut [u32; 8])
+    ensures { λ _. ⌜ now (answer .exit) ≡ screenLooks (loaded (now (unit .entry)) .serial .screen) ⌝ }
+{
+    let s = unitwords::load_screen(unit);
+    let q = s.sequence;
+    *answer = [
+        s.row as u32,
+        s.column as u32,
+        words::bit(s.scrolls),
+        words::bit(s.wraps),
+        words::bit(s.top),
+        words::bit(s.bottom),
+        words::bit(s.asked),
+        words::bit(is_reading(q)),
+    ];
+}
+
+fn is_reading(q: Sequence) -> bool
+    ensures { λ r. ⌜ r ≡ isReading q ⌝ }
+{
+    match q {
+        Sequence::Plain => false,
+        Sequence::Escape => true,
+        Sequence::Row => true,
+        Sequence::Column(_) => true,
+        Sequence::Skips(_) => true,
+    }
 }
 
 fn accepted(o: Opening) -> u32

@@ -49,14 +49,16 @@ fn done(page: &mut [u8; 8192]) -> bool {
 fn help(forms: &[u8]) -> bool {
     page::say(
         STDOUT_FILENO,
-        b"hexbus run SCRIPT.. [--lines] [--vcd FILE]   plays scripts on a bus of a controller, units and stand-ins; - is standard input
-    --lines      pictures each frame on the terminal
-    --vcd FILE   writes the lines of one script as a value change dump, one time unit to a round
-hexbus help                                  prints this
+        b"hexbus run SCRIPT.. [--lines] [--vcd FILE] [--screen FILE]   plays scripts on a bus of a controller, units and stand-ins; - is standard input
+    --lines         pictures each frame on the terminal
+    --vcd FILE      writes the lines of one script as a value change dump, one time unit to a round
+    --screen FILE   writes the screens of one script as they are at its end, 24 lines each
+hexbus help                                                  prints this
 
 A script has one statement to a line; # begins a comment. Device codes (CODE) and counts (N) are decimal; commands, statuses (BYTE) and
-BYTES hexadecimal, as 41 or 41*300 or 00+300 (counting up), or text in quotes. COMMAND is a code, or open close read write enable disable
-null reset. What stands in brackets may be left out; | stands between words one of which is meant. In a repeat, $ is the number of the pass.
+BYTES hexadecimal, as 41 or 41*300 or 00+300 (counting up), or text in quotes, several behind each other. COMMAND is a code, or open close
+read write enable disable null reset. What stands in brackets may be left out; | stands between words one of which is meant. In a repeat, $
+is the number of the pass.
 
 ",
     );
@@ -90,7 +92,7 @@ fn scripts(forms: &[u8], w: Wanted, text: &mut [u8; 1048577], bytes: &mut [u8; 1
     };
     let mut i = 2usize;
     while i < n {
-        if i != w.dump {
+        if (i != w.dump) & (i != w.screen) {
             t = named(forms, w, i, t, text, bytes);
         }
         i += 1;
@@ -116,13 +118,18 @@ fn named(
     let length = files::load(word, text);
     let script = word::front(text, length);
     let dump = playable(forms, w, word, script, bytes);
-    if dump < 0 {
+    let screen = if dump < 0 {
+        -1
+    } else {
+        files::open(w.screen, true)
+    };
+    if screen < 0 {
         return tally::not_run(t, bytes, word);
     }
     let mut d = desk::start(t.logged);
     d.dump = dump;
     d.is_pictured = 0 < w.pictured;
-    tally::played(t, whole(forms, word, script, d, bytes), word)
+    tally::played(t, whole(forms, word, script, d, screen, bytes), word)
 }
 
 // A script is played only if every line of it can be, and its dump can be written: the descriptor of that, 0 for none; -1 for a script that
@@ -138,7 +145,7 @@ fn playable(forms: &[u8], w: Wanted, name: &[u8], text: &[u8], bytes: &mut [u8; 
         page::say(STDOUT_FILENO, b": nothing was run\n\n");
         return -1;
     }
-    let dump = files::open_dump(w.dump);
+    let dump = files::open(w.dump, false);
     if 0 <= dump {
         page::show(STDOUT_FILENO, name);
         page::say(STDOUT_FILENO, b"\n");
@@ -146,12 +153,19 @@ fn playable(forms: &[u8], w: Wanted, name: &[u8], text: &[u8], bytes: &mut [u8; 
     dump
 }
 
-// Plays a script.
-fn whole(forms: &[u8], name: &[u8], text: &[u8], first: Desk, bytes: &mut [u8; 159744]) -> Desk {
+// Plays a script. Its screens are written to a file at its end, 0 for none.
+fn whole(
+    forms: &[u8],
+    name: &[u8],
+    text: &[u8],
+    first: Desk,
+    screen: i32,
+    bytes: &mut [u8; 159744],
+) -> Desk {
     let mut rows = [0u64; 256];
     let mut response = [0u8; 65536];
     let mut memory = [0xEEu8; 38912];
-    steps(
+    let d = steps(
         forms,
         name,
         text,
@@ -160,7 +174,12 @@ fn whole(forms: &[u8], name: &[u8], text: &[u8], first: Desk, bytes: &mut [u8; 1
         bytes,
         &mut response,
         &mut memory,
-    )
+    );
+    written(d, screen, &rows, &memory)
+}
+
+fn written(d: Desk, screen: i32, rows: &[u64; 256], memory: &[u8; 38912]) -> Desk {
+    play::found::write_screens(d, screen, rows, memory)
 }
 
 // Step by step.

@@ -3,6 +3,7 @@ pub mod Calls
 pub mod Ors
 pub mod Queues
 pub mod SerialUnit
+pub mod VideoUnit
 pub mod Lawful
 pub mod Round
 pub mod Written

@@ -1,6 +1,8 @@
--- An or, by one side; and either way of a test.
+-- An or, by one side; either way of a test; and a command with its code written out.
+use Prim.Native.Nat.{ℕ}
 use mathlib.Core.Path.{_≡_, refl, sym, _∙_, ap}
 use mathlib.Core.Bool.{Bool, true, false, cond, _||_, false≢true}
+use Rattle.header.specs.declared.Command.{Command}
 use Rattle.serial.specs.declared.Verdict.{Verdict}
 
 -- One that holds, by one side where the other does not.
@@ -24,3 +26,6 @@ or-second false b e = e
 pub by-test : (P : Verdict → Type 0) (t : Bool) (v w : Verdict) → (t ≡ true → P v) → (t ≡ false → P w) → P (cond t v w)
 by-test P true v w p q = p refl
 by-test P false v w p q = q refl
+
+abbrev pub withCode : Command → ℕ → Command
+withCode c code = record { device = c .device; command = code; «logical_unit» = c .«logical_unit»; «record_number» = c .«record_number»; «buffer_length» = c .«buffer_length» }

@@ -13,7 +13,7 @@ use Rattle.field.specs.Field.{Below}
 use Rattle.frame.specs.Frame.{pollOf}
 use Rattle.header.specs.declared.Command.{Command}
 use Rattle.host.specs.Calls.{takingIn}
-use Rattle.kind.specs.Kinds.{verdictOf, checksOf, isFed}
+use Rattle.kind.specs.Kinds.{verdictOf, checksOf, resetOf, isFed}
 use Rattle.kind.specs.declared.Kind.{Kind}
 use Rattle.message.specs.Answer.{Answer, gives, refused, kept}
 use Rattle.message.proofs.Fields.{below-take, below-set}
@@ -26,10 +26,10 @@ use Rattle.reply.specs.Reply.{isSilent, replyStatus}
 use Rattle.serial.specs.Serial.{applied, withInput, withRequest}
 use Rattle.serial.specs.Verdict.{says, status, pollBy}
 use Rattle.serial.specs.declared.Effect.{Effect}
-use Rattle.serial.specs.declared.Effect.the-variants.{Keeps, Opens, Closes, Resets, Enables, Disables, Stores}
+use Rattle.serial.specs.declared.Effect.the-variants.{Keeps, Opens, Closes, Resets, Enables, Disables, Stores, OpensScreen, ResetsScreen, Shows}
 use Rattle.serial.specs.declared.Mode.{Mode}
 use Rattle.serial.specs.declared.Reply.{Reply}
-use Rattle.serial.specs.declared.Reply.the-variants.{Silent, Status, Opened, Bytes, Polled}
+use Rattle.serial.specs.declared.Reply.the-variants.{Silent, Status, Opened, Bytes, Address, Polled}
 use Rattle.serial.specs.declared.Serial.{Serial}
 use Rattle.serial.specs.declared.Verdict.{Verdict}
 use Rattle.whole.specs.Back.{Answered}
@@ -39,16 +39,16 @@ use Rattle.inside.specs.Lawful.{QueueLent, QueueFit, isEnding, LawfulBy}
 use Rattle.inside.proofs.Ors.{or-first, or-second, by-test}
 
 -- Checks 1 and 2, of every kind: at code 0 there is silence, and nothing but a reset acts.
-zero-silent : (kind : Kind) (x : Inside) (c : Command) (n : ℕ) (d : List ℕ) → c .device ≡ 0 → isSilent (replyOf kind x c n d) ≡ true
+pub zero-silent : (kind : Kind) (x : Inside) (c : Command) (n : ℕ) (d : List ℕ) → c .device ≡ 0 → isSilent (replyOf kind x c n d) ≡ true
 zero-silent kind x c n d e = by (eqb (c .command) 0xFE) (eqb (c .command) 0xFF) (eqb (c .device) 0) (eq-eqb (c .device) 0 e)
   where
-    by : (a b t : Bool) → t ≡ true → isSilent (cond a (says Silent Keeps) (cond b (says Silent Resets) (cond t (says Silent Keeps) (checksOf kind (x .state) c n d))) .reply) ≡ true
+    by : (a b t : Bool) → t ≡ true → isSilent (cond a (says Silent Keeps) (cond b (says Silent (resetOf kind (x .state))) (cond t (says Silent Keeps) (checksOf kind (x .state) c n d))) .reply) ≡ true
     by true b t z = refl
     by false true t z = refl
     by false false true z = refl
     by false false false z = absurd (false≢true z)
 
-zero-keeps : (kind : Kind) (x : Inside) (c : Command) (n : ℕ) (d : List ℕ) → c .device ≡ 0 → eqb (c .command) 0xFF ≡ false → taken kind x c n d ≡ x
+pub zero-keeps : (kind : Kind) (x : Inside) (c : Command) (n : ℕ) (d : List ℕ) → c .device ≡ 0 → eqb (c .command) 0xFF ≡ false → taken kind x c n d ≡ x
 zero-keeps kind x c n d e f = by (eqb (c .command) 0xFE) refl
   where
     by : (a : Bool) → eqb (c .command) 0xFE ≡ a → taken kind x c n d ≡ x
@@ -74,6 +74,7 @@ Holds x Silent = Unit
 Holds x (Status number) = Unit
 Holds x (Opened accepted) = Unit
 Holds x (Bytes n) = n ≤ held (x .state .input)
+Holds x (Address n row column) = Unit
 Holds x Polled = Unit
 
 -- A verdict whose response is one, fits, and stands after its effect on data e.
@@ -217,6 +218,7 @@ grown-stands x y (Bytes n) g h =
     let l : length old ≡ held (x .state .input) = length-contents (x .input) (x .state .input) in
     let c = g .count in
     (ap (take n) (g .grown) ∙ take-append-le n old (g .fed) (omega arith), omega arith)
+grown-stands x y (Address n row column) g h = (refl, tt)
 grown-stands x y Polled g h = (refl, tt)
 
 -- A request only while service is enabled.
@@ -231,6 +233,9 @@ served-applied s Resets d h = λ x. absurd (false≢true x)
 served-applied s Enables d h = λ x. refl
 served-applied s Disables d h = λ x. absurd (false≢true x)
 served-applied s Stores d h = h
+served-applied s (OpensScreen m accepted) d h = h
+served-applied s ResetsScreen d h = λ x. absurd (false≢true x)
+served-applied s Shows d h = h
 
 served-called : (kind : Kind) (x : Inside) (call : HostCall) → Served (x .state) → Served (called kind call x .state)
 served-called kind x (feeds b h) s = by (isFed kind (x .state .opening)) (eqb (room (x .state .input)) 0)
@@ -258,6 +263,7 @@ fit-ended x Silent f = f
 fit-ended x (Status number) f = f
 fit-ended x (Opened accepted) f = f
 fit-ended x (Bytes n) f = f
+fit-ended x (Address n row column) f = f
 fit-ended x Polled f = (f .0, λ e. absurd (false≢true e))
 
 all-stands : (kind : Kind) (x : Inside) (r : Reply) (calls : List HostCall) → QueueFit x → Holds x r
@@ -310,15 +316,16 @@ request-kept s c d not-ending = record {
     ends : {t : Bool} → isEnding (c .command) ≡ true → t ≡ s .requesting
     ends e = absurd (true≢false (sym e ∙ not-ending))
 
--- A kind is lawful whose checks give nothing but these, and that answers a poll as all do.
+-- A kind is lawful whose checks give nothing but these, that answers a poll as a serial unit does, and that is reset so.
 module _
     (kind : Kind) (checks : (s : Serial) (c : Command) (P : Verdict → Type 0) → Each s c P → (n : ℕ) (d : List ℕ) → P (checksOf kind s c n d))
     (polls : (s : Serial) (own : ℕ) → checksOf kind s (pollOf own .command) 0 [] .reply ≡ pollBy (s .enabled) (s .requesting) .reply)
+    (reset : (s : Serial) → resetOf kind s ≡ Resets)
   where
     verdicts : (s : Serial) (c : Command) (P : Verdict → Type 0) → Each s c P → (n : ℕ) (d : List ℕ) → P (verdictOf kind s c n d)
     verdicts s c P each n d =
         by-test P (eqb (c .command) 0xFE) _ _ (λ _. each .silent) (λ _.
-        by-test P (eqb (c .command) 0xFF) _ _ (λ e. each .resets e) (λ _.
+        by-test P (eqb (c .command) 0xFF) _ _ (λ e. subst (λ (effect : Effect). P (says Silent effect)) (sym (reset s)) (each .resets e)) (λ _.
         by-test P (eqb (c .device) 0) _ _ (λ _. each .silent) (λ _. checks s c P each n d)))
 
     poll-reply : (x : Inside) (own : ℕ) → (own ≡ 0 → ⊥) → replyOf kind x (pollOf own .command) 0 [] ≡ pollBy (isServed x) (hasRequest x) .reply

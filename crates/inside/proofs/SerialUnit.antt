@@ -4,7 +4,7 @@ use native.Mathlib.Nat.{min-le-left, min-le-right, le-trans}
 use mathlib.Core.Bool.{Bool, true, false, _&&_}
 use mathlib.Core.List.{List, [], _∷_}
 use mathlib.Core.Path.{_≡_, refl}
-use borrow.Author.Tests.{ltb-false}
+use borrow.Author.Tests.{eqb-true}
 use lib.Dec.{ltb, eqb, lit<}
 use lib.ListN.{getD}
 use Rattle.field.specs.Field.{valueOf}
@@ -13,7 +13,8 @@ use Rattle.header.specs.declared.Command.{Command}
 use Rattle.kind.specs.Kinds.{checksOf}
 use Rattle.kind.specs.declared.Kind.the-variants.{Serial as SerialUnit}
 use Rattle.queue.specs.Queue.{held, room}
-use Rattle.rs232.specs.Checks.{modeOf, acceptedOf, openBy, readBy, writeBy, openedBy, commandBy, supported}
+use Rattle.rs232.proofs.Laws.{opens, status-below}
+use Rattle.rs232.specs.Checks.{modeOf, acceptedOf, openStatus, openBy, readBy, writeBy, openedBy, commandBy, supported}
 use Rattle.serial.specs.Verdict.{says, pollBy}
 use Rattle.serial.specs.declared.Effect.the-variants.{Keeps}
 use Rattle.serial.specs.declared.Mode.{Mode}
@@ -31,12 +32,10 @@ use Rattle.inside.proofs.Queues.{queues-lawful, Each}
 module _ (s : Serial) (c : Command) (P : Verdict → Type 0) (each : Each s c P) where
   each-open : (n requested attributes : ℕ) → P (openBy (c .«buffer_length») n requested attributes)
   each-open n requested attributes =
-      by-test P (ltb n 3) _ _ (λ _. each .refuses 0x02 (lit< tt)) (λ _.
-      by-test P (eqb (attributes / 64) 0) _ _ (λ _. each .refuses 0x13 (lit< tt)) (λ _.
-      by-test P (eqb (attributes / 32 % 2) 1) _ _ (λ _. each .refuses 0x11 (lit< tt)) (λ _.
-      by-test P (ltb 128 requested) _ _ (λ _. each .refuses 0x0C (lit< tt)) (λ _.
-      by-test P (ltb (c .«buffer_length») 4) _ _ (λ _. each .refuses 0x0C (lit< tt)) (λ e.
-      by-test P (ltb 3 n) _ _ (λ _. each .refuses 0x01 (lit< tt)) (λ _. each .opens (modeOf attributes) (acceptedOf requested) (ltb-false (c .«buffer_length») 4 e)))))))
+      let number = openStatus 0x00 (c .«buffer_length») n requested attributes in
+      by-test P (eqb number 0) _ _
+      (λ e. each .opens (modeOf attributes) (acceptedOf requested) (opens 0x00 (c .«buffer_length») n requested attributes (eqb-true number 0 e) .has-room))
+      (λ _. each .refuses number (status-below 0x00 (c .«buffer_length») n requested attributes (lit< tt)))
 
   each-bytes : (accepted : ℕ) → P (says (Bytes (min (held (s .input)) (min (c .«buffer_length») accepted))) Keeps)
   each-bytes accepted =
@@ -87,4 +86,4 @@ serial-polls s own = by (s .opening)
     by (OpenFor m accepted) = refl
 
 pub serial-lawful : Lawful SerialUnit
-serial-lawful = queues-lawful SerialUnit serial-checks serial-polls
+serial-lawful = queues-lawful SerialUnit serial-checks serial-polls (λ s. refl)

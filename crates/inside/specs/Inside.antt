@@ -11,7 +11,7 @@ use Rattle.queue.specs.Queue.{contents}
 use Rattle.reply.specs.Reply.{replyData}
 use Rattle.serial.specs.Serial.{applied, outputAfter, finished}
 use Rattle.serial.specs.declared.Reply.{Reply}
-use Rattle.serial.specs.declared.Reply.the-variants.{Silent, Status, Opened, Bytes, Polled}
+use Rattle.serial.specs.declared.Reply.the-variants.{Silent, Status, Opened, Bytes, Address, Polled}
 use Rattle.serial.specs.declared.Serial.{Serial}
 use Rattle.whole.specs.Whole.{storedOf}
 
@@ -61,6 +61,7 @@ clears Silent = false
 clears (Status number) = false
 clears (Opened accepted) = false
 clears (Bytes n) = false
+clears (Address n row column) = false
 clears Polled = true
 
 -- The same of the unit with a code, for a command with its whole data.

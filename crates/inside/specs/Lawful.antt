@@ -10,8 +10,9 @@ use Rattle.field.specs.Field.{Below}
 use Rattle.frame.specs.Frame.{pollOf}
 use Rattle.header.specs.declared.Command.{Command}
 use Rattle.kind.specs.declared.Kind.{Kind}
-use Rattle.kind.specs.declared.Kind.the-variants.{Serial as SerialUnit}
+use Rattle.kind.specs.declared.Kind.the-variants.{Serial as SerialUnit, Video as VideoUnit}
 use Rattle.reply.specs.Reply.{isSilent, replyStatus}
+use Rattle.screen.specs.Screen.{On}
 use Rattle.serial.specs.Serial.{newSerial}
 use Rattle.serial.specs.declared.Reply.{Reply}
 use Rattle.whole.specs.Back.{Answered}
@@ -26,12 +27,18 @@ QueueLent x = (length (x .input) ≡ 256) × Below 256 (x .input)
 abbrev pub QueueFit : Inside → Type 0
 QueueFit x = QueueLent x × (hasRequest x ≡ true → isServed x ≡ true)
 
--- By kind: the memory that a unit is lent, and what holds inside it.
+-- A video unit never has service or a request, and its cursor is on an unprotected line.
+abbrev pub ScreenFit : Inside → Type 0
+ScreenFit x = On (x .state .screen) × ((isServed x ≡ false) × (hasRequest x ≡ false))
+
+-- By kind: the memory that a unit is lent beside what a step asks for, and what holds inside it.
 abbrev pub Lent : Kind → Inside → Type 0
 Lent SerialUnit = QueueLent
+Lent VideoUnit = λ (x : Inside). Unit
 
 abbrev pub Fit : Kind → Inside → Type 0
 Fit SerialUnit = QueueFit
+Fit VideoUnit = ScreenFit
 
 -- The commands that end a request.
 abbrev pub isEnding : ℕ → Bool

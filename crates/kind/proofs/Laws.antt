@@ -6,15 +6,11 @@ use borrow.Author.Tests.{le-ltb, ltb-false}
 use lib.Dec.{ltb, lit≤}
 use Rattle.kind.specs.Kinds.{lentTo, isShort}
 use Rattle.kind.specs.declared.Kind.{Kind}
-use Rattle.kind.specs.declared.Kind.the-variants.{Serial}
+use Rattle.kind.specs.declared.Kind.the-variants.{Serial, Video}
 
 neither : (a b : Bool) → (a || b) ≡ false → (a ≡ false) × (b ≡ false)
 neither false b e = (refl, e)
 neither true b e = (e, cc)
-
--- There is one kind, so that a match on it tests nothing.
-pub one-kind : (kind : Kind) → Serial ≡ kind
-one-kind Serial = refl
 
 -- Memory that is long enough has room for a command, and for what is written to the unit.
 pub roomy : (kind : Kind) (room lent : ℕ) → isShort kind room lent ≡ false → 256 ≤ room
@@ -29,3 +25,4 @@ not-short kind room lent h k = rw (le-ltb room 256 h, le-ltb lent (lentTo kind) 
 -- What a bus lends is enough for every kind.
 pub lent-most : (kind : Kind) → lentTo kind ≤ 1920
 lent-most Serial = lit≤ tt
+lent-most Video = lit≤ tt

@@ -128,6 +128,42 @@ pub fn put_bytes(page: &mut [u8; 8192], n: usize, s: &[u8]) -> usize {
     at
 }
 
+// The same as a script has them: letters as text in quotes, each other byte in hexadecimal.
+pub fn quoted(page: &mut [u8; 8192], n: usize, s: &[u8]) -> usize {
+    let mut at = n;
+    let mut is_text = false;
+    let mut i = 0;
+    while i < s.len() {
+        let was_text = is_text;
+        is_text = is_letter(s[i]) & (s[i] != b'"');
+        at = next_quoted(page, at, was_text, is_text, s[i]);
+        i += 1;
+    }
+    if is_text { letter(page, at, b'"') } else { at }
+}
+
+fn next_quoted(page: &mut [u8; 8192], n: usize, was_text: bool, is_text: bool, b: u8) -> usize {
+    let mut at = n;
+    if was_text & !is_text {
+        at = letter(page, at, b'"');
+    }
+    if is_text {
+        at = if was_text {
+            at
+        } else {
+            words(page, at, b" \"")
+        };
+        return letter(page, at, b);
+    }
+    at = letter(page, at, b' ');
+    hex(page, at, b)
+}
+
+// Whether a byte is a letter of ASCII, a sign or a blank.
+pub fn is_letter(b: u8) -> bool {
+    (b' ' <= b) & (b < 127)
+}
+
 // A byte as two digits, upper case as in the papers.
 pub fn hex(page: &mut [u8; 8192], n: usize, b: u8) -> usize {
     let at = letter(page, n, digit(b / 16));

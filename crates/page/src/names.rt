@@ -19,7 +19,7 @@ pub fn sign(page: &mut [u8; 8192], n: usize, b: u8, number: u64) -> usize {
             page,
             n,
             byte,
-            b"00 normal operation completion\n01 device/file option error\n02 attribute error\n04 file/device not open error\n05 file/device already open\n08 data/file too long error\n0A not requesting service\n0C buffer size error\n0D unsupported command error\n0E file not opened for write\n0F file not opened for read\n11 file type (relative/sequential) not supported\n13 append mode not supported\nFF bus time out error\n",
+            b"00 normal operation completion\n01 device/file option error\n02 attribute error\n04 file/device not open error\n05 file/device already open\n08 data/file too long error\n0A not requesting service\n0C buffer size error\n0D unsupported command error\n0E file not opened for write\n0F file not opened for read\n11 file type (relative/sequential) not supported\n13 append mode not supported\n15 input mode not supported\nFF bus time out error\n",
         ),
         b'&' => named(
             page,

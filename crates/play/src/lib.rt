@@ -71,7 +71,7 @@ pub fn ended(
 // for a `do`, m a unit more, s nobody, for what is set stands on the desk alone.
 fn actor(form: u64) -> u8 {
     word::letter(
-        b"cmssccdsscpppsssprrrrt------------------------------",
+        b"cmssccdsscpppsssprrrrt---------------------------------",
         (form % 64) as usize,
     )
 }
@@ -218,7 +218,7 @@ pub fn concluded<'a>(
     rows: &[u64; 256],
     bytes: &mut [u8; 159744],
     response: &'a [u8; 65536],
-    memory: &'a [u8; 12288],
+    memory: &'a [u8; 38912],
 ) -> Desk {
     let s = d.statement;
     let form = s.form;
@@ -226,6 +226,7 @@ pub fn concluded<'a>(
     match form {
         statement::DO => next = submits(d, rows),
         statement::CONTROLLER..=statement::STEP => next = acted(d, rows, bytes),
+        statement::SHOW_SCREEN => found::show_screen(d, found, rows, memory),
         statement::REPEAT..=statement::SHOW_FAILURES => next = shown(d, bytes, response),
         statement::STATUS..=statement::STANDS => {
             next = found::expected(forms, name, text, d, found, rows, bytes, response, memory)

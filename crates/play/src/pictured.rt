@@ -56,7 +56,7 @@ fn dumped(d: Desk, rows: &[u64; 256], bytes: &mut [u8; 159744], after: &[u8; 22]
         (d.plan.count % 17) as usize,
         (d.plan.stand_ins % 5) as usize,
     );
-    next.is_dump_lost = next.is_dump_lost | !ok;
+    next.is_lost = next.is_lost | !ok;
     next
 }
 
@@ -95,7 +95,7 @@ fn head(d: Desk, rows: &[u64; 256], marks: &[u8; 22]) -> Desk {
         marks,
     );
     let mut next = d;
-    next.is_dump_lost = d.is_dump_lost | !ok;
+    next.is_lost = d.is_lost | !ok;
     next
 }
 
@@ -110,7 +110,7 @@ pub fn end(d: Desk, rows: &[u64; 256]) -> Desk {
         next = head(d, rows, &marks);
     }
     let ok = picture::dump::end(d.dump, d.round % desk::FOR_EVER + 1);
-    next.is_dump_lost = next.is_dump_lost | !ok;
+    next.is_lost = next.is_lost | !ok;
     next
 }
 

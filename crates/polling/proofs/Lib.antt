@@ -12,3 +12,4 @@ pub mod Demand3
 pub mod Chain
 pub mod Beginning
 pub mod Joined
+pub mod Screens

@@ -7,3 +7,4 @@ pub mod Beyond
 pub mod Chain
 pub mod Beginning
 pub mod Joined
+pub mod Screens

@@ -1,6 +1,6 @@
 // The nibbles of a unit's response, from its reply and its input queue.
 ghost use mathlib.Core.Path.{_≡_};
-ghost use mathlib.Core.List.{_++_};
+ghost use mathlib.Core.List.{[], _∷_, _++_};
 ghost use Prim.Native.Nat.{min, _≤_};
 ghost use lib.ListN.{getD, take};
 ghost use Rattle.field.specs.Field.{field};
@@ -21,6 +21,7 @@ pub fn is_silent(r: Reply) -> bool
         Reply::Status(_) => false,
         Reply::Opened(_) => false,
         Reply::Bytes(_) => false,
+        Reply::Address(_, _, _) => false,
         Reply::Polled => false,
     }
 }
@@ -48,6 +49,7 @@ fn length_of(r: Reply, q: Queue) -> usize
         Reply::Status(_) => 0,
         Reply::Opened(_) => 4,
         Reply::Bytes(n) => least(n as usize, q.len()),
+        Reply::Address(n, _, _) => least(n as usize, 2),
         Reply::Polled => 0,
     }
 }
@@ -66,6 +68,7 @@ fn status_of(r: Reply) -> u8
         Reply::Status(number) => number,
         Reply::Opened(_) => 0x00,
         Reply::Bytes(_) => 0x00,
+        Reply::Address(_, _, _) => 0x00,
         Reply::Polled => 0x00,
     }
 }
@@ -90,6 +93,7 @@ fn item(r: Reply, q: Queue, input: &[u8; 256], j: usize) -> u8
         Reply::Status(_) => 255,
         Reply::Opened(accepted) => opened_item(accepted, j),
         Reply::Bytes(n) => queued_item(n, q, input, j),
+        Reply::Address(n, row, column) => address_item(n, row, column, j),
         Reply::Polled => 255,
     }
 }
@@ -112,6 +116,19 @@ fn queued_item(n: u16, q: Queue, input: &[u8; 256], j: usize) -> u8
     let most = least(n as usize, q.len());
     if j < most {
         return q.at(input, j);
+    }
+    255
+}
+
+fn address_item(n: u8, row: u8, column: u8, j: usize) -> u8
+    ensures { λ b. ⌜ b ≡ getD (take n (row ∷ column ∷ [])) j 255 ⌝ }
+{
+    let size = least(n as usize, 2);
+    if j < size {
+        if j == 1 {
+            return column;
+        }
+        return row;
     }
     255
 }

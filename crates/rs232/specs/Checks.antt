@@ -26,23 +26,42 @@ modeOf attributes = cond (eqb (attributes / 64) 1) Input (cond (eqb (attributes 
 abbrev pub acceptedOf : ℕ → ℕ
 acceptedOf requested = cond (eqb requested 0) 80 requested
 
--- An open with n bytes of data, in a unit that is closed: under 3 data bytes 02; append mode 13; relative bit set 11; requested
--- length over 128, or the buffer length field under 4, 0C; option bytes present 01. Success answers four data bytes.
+-- What an open's data asks for: the requested length in its first two bytes, the attributes in the third.
+abbrev pub requestedIn : List ℕ → ℕ
+requestedIn d = valueOf (getD d 0 0 ∷ getD d 1 0 ∷ [])
+
+abbrev pub attributesIn : List ℕ → ℕ
+attributesIn d = getD d 2 0
+
+-- The status of an open with n bytes of data, in a closed unit of any kind: under 3 data bytes 02; append mode 13; a mode that its kind does
+-- not open for, the status that refuses it, or 0; relative bit set 11; requested length over 128, or the buffer length field under 4, 0C;
+-- option bytes present 01.
+abbrev pub openStatus : ℕ → ℕ → ℕ → ℕ → ℕ → ℕ
+openStatus refused buffer n requested attributes =
+    cond (ltb n 3) 0x02
+    (cond (eqb (attributes / 64) 0) 0x13
+    (cond (ltb 0 refused) refused
+    (cond (eqb (attributes / 32 % 2) 1) 0x11
+    (cond (ltb 128 requested) 0x0C
+    (cond (ltb buffer 4) 0x0C
+    (cond (ltb 3 n) 0x01 0x00))))))
+
+-- A serial unit opens for input, output and update. Success answers four data bytes.
 abbrev pub openBy : ℕ → ℕ → ℕ → ℕ → Verdict
 openBy buffer n requested attributes =
-    cond (ltb n 3) (status 0x02)
-    (cond (eqb (attributes / 64) 0) (status 0x13)
-    (cond (eqb (attributes / 32 % 2) 1) (status 0x11)
-    (cond (ltb 128 requested) (status 0x0C)
-    (cond (ltb buffer 4) (status 0x0C)
-    (cond (ltb 3 n) (status 0x01)
-    (says (Opened (acceptedOf requested)) (Opens (modeOf attributes) (acceptedOf requested))))))))
+    cond (eqb (openStatus 0 buffer n requested attributes) 0)
+    (says (Opened (acceptedOf requested)) (Opens (modeOf attributes) (acceptedOf requested)))
+    (status (openStatus 0 buffer n requested attributes))
 
--- Read: opened for output 0F. Else the oldest bytes, as many as the least of queued, buffer length and accepted length.
+-- How many bytes a read answers: the least of those that there are, buffer length and accepted length.
+abbrev pub readLength : ℕ → ℕ → ℕ → ℕ
+readLength n buffer accepted = min n (min buffer accepted)
+
+-- Read: opened for output 0F. Else the oldest bytes.
 abbrev pub readBy : Mode → ℕ → ℕ → ℕ → Verdict
-readBy Input accepted buffer queued = says (Bytes (min queued (min buffer accepted))) Keeps
+readBy Input accepted buffer queued = says (Bytes (readLength queued buffer accepted)) Keeps
 readBy Output accepted buffer queued = status 0x0F
-readBy Update accepted buffer queued = says (Bytes (min queued (min buffer accepted))) Keeps
+readBy Update accepted buffer queued = says (Bytes (readLength queued buffer accepted)) Keeps
 
 -- Write: opened for input 0E; more than the output room 08 and none stored; else all stored.
 abbrev pub writeBy : Mode → ℕ → ℕ → Verdict
@@ -62,7 +81,7 @@ openedBy m accepted s c n =
 -- 5: open, already open 05. 6: all others but the poll, not open 04.
 abbrev pub closedBy : Serial → Command → ℕ → List ℕ → Verdict
 closedBy s c n d =
-    cond (eqb (c .command) 0x00) (openBy (c .«buffer_length») n (valueOf (getD d 0 0 ∷ getD d 1 0 ∷ [])) (getD d 2 0))
+    cond (eqb (c .command) 0x00) (openBy (c .«buffer_length») n (requestedIn d) (attributesIn d))
     (cond (eqb (c .command) 0x0A) (pollBy (s .enabled) (s .requesting)) (status 0x04))
 
 abbrev pub commandBy : Opening → Serial → Command → ℕ → List ℕ → Verdict

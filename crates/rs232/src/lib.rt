@@ -5,7 +5,7 @@ ghost use mathlib.Core.List.{[]};
 ghost use Prim.Native.Nat.{min};
 ghost use lib.ListN.{getD};
 ghost use Rattle.serial.specs.Verdict.{says, status};
-ghost use Rattle.rs232.specs.Checks.{modeOf, acceptedOf, openBy, readBy, writeBy, openedBy, closedBy, commandBy, supported, checked, takesBytes};
+ghost use Rattle.rs232.specs.Checks.{modeOf, acceptedOf, requestedIn, attributesIn, openStatus, openBy, readLength, readBy, writeBy, openedBy, closedBy, commandBy, supported, checked, takesBytes};
 use header::Command;
 use serial::Effect;
 use serial::Mode;
@@ -40,6 +40,85 @@ pub fn takes_bytes(opening: Opening) -> bool
             Mode::Update => true,
         },
     }
+}
+
+// What an open's data asks for: the length, and the attributes.
+pub fn requested(data: &[u8]) -> u16
+    ensures { λ r. ⌜ r ≡ requestedIn (now («data» .entry)) ⌝ }
+{
+    field::value_of(at(data, 0), at(data, 1))
+}
+
+pub fn attributes(data: &[u8]) -> u8
+    ensures { λ r. ⌜ r ≡ attributesIn (now («data» .entry)) ⌝ }
+{
+    at(data, 2)
+}
+
+// The status of an open with n bytes of data, in a closed unit of any kind. `refused` is the status of a mode that the kind does not open for,
+// or 0.
+pub fn open_status(refused: u8, buffer: u16, n: usize, requested: u16, attributes: u8) -> u8
+    ensures { λ r. ⌜ r ≡ openStatus refused buffer n requested attributes ⌝ }
+{
+    let is_short = n < 3;
+    if is_short {
+        return 0x02;
+    }
+    let is_append = attributes / 64 == 0;
+    if is_append {
+        return 0x13;
+    }
+    let is_refused = 0 < refused;
+    if is_refused {
+        return refused;
+    }
+    let is_relative = attributes / 32 % 2 == 1;
+    if is_relative {
+        return 0x11;
+    }
+    let is_over = 128 < requested;
+    if is_over {
+        return 0x0C;
+    }
+    let has_no_buffer = buffer < 4;
+    if has_no_buffer {
+        return 0x0C;
+    }
+    let has_options = 3 < n;
+    if has_options {
+        return 0x01;
+    }
+    0x00
+}
+
+// The mode that attributes ask for, if not append.
+pub fn mode_of(attributes: u8) -> Mode
+    ensures { λ r. ⌜ r ≡ modeOf attributes ⌝ }
+{
+    let is_input = attributes / 64 == 1;
+    if is_input {
+        return Mode::Input;
+    }
+    let is_output = attributes / 64 == 2;
+    if is_output {
+        return Mode::Output;
+    }
+    Mode::Update
+}
+
+// The length that is accepted where this is requested.
+pub fn accepted_of(requested: u8) -> u8
+    ensures { λ r. ⌜ r ≡ acceptedOf requested ⌝ }
+{
+    let is_default = requested == 0;
+    if is_default { 80 } else { requested }
+}
+
+// How many bytes a read answers, where there are so many.
+pub fn read_length(n: usize, buffer: u16, accepted: u8) -> u16
+    ensures { λ r. ⌜ r ≡ readLength n buffer accepted ⌝ }
+{
+    least(n, least(buffer as usize, accepted as usize)) as u16
 }
 
 fn is_supported(code: u8) -> bool
@@ -87,8 +166,7 @@ fn by_closed(s: Serial, c: Command, n: usize, data: &[u8]) -> Verdict
 {
     let is_open = c.command == 0x00;
     if is_open {
-        let requested = field::value_of(at(data, 0), at(data, 1));
-        return open(c.buffer_length, n, requested, at(data, 2));
+        return open(c.buffer_length, n, requested(data), attributes(data));
     }
     let is_poll = c.command == 0x0A;
     if is_poll {
@@ -132,55 +210,15 @@ fn by_open(s: Serial, c: Command, n: usize, m: Mode, accepted: u8) -> Verdict
 fn open(buffer: u16, n: usize, requested: u16, attributes: u8) -> Verdict
     ensures { λ r. ⌜ r ≡ openBy buffer n requested attributes ⌝ }
 {
-    let is_short = n < 3;
-    if is_short {
-        return serial::status(0x02);
+    let status = open_status(0, buffer, n, requested, attributes);
+    if status == 0 {
+        let accepted = accepted_of(requested as u8);
+        return serial::says(
+            Reply::Opened(accepted),
+            Effect::Opens(mode_of(attributes), accepted),
+        );
     }
-    let is_append = attributes / 64 == 0;
-    if is_append {
-        return serial::status(0x13);
-    }
-    let is_relative = attributes / 32 % 2 == 1;
-    if is_relative {
-        return serial::status(0x11);
-    }
-    if 128 < requested {
-        return serial::status(0x0C);
-    }
-    let has_no_buffer = buffer < 4;
-    if has_no_buffer {
-        return serial::status(0x0C);
-    }
-    let has_options = 3 < n;
-    if has_options {
-        return serial::status(0x01);
-    }
-    let accepted = accepted_of(requested as u8);
-    serial::says(
-        Reply::Opened(accepted),
-        Effect::Opens(mode_of(attributes), accepted),
-    )
-}
-
-fn mode_of(attributes: u8) -> Mode
-    ensures { λ r. ⌜ r ≡ modeOf attributes ⌝ }
-{
-    let is_input = attributes / 64 == 1;
-    if is_input {
-        return Mode::Input;
-    }
-    let is_output = attributes / 64 == 2;
-    if is_output {
-        return Mode::Output;
-    }
-    Mode::Update
-}
-
-fn accepted_of(requested: u8) -> u8
-    ensures { λ r. ⌜ r ≡ acceptedOf requested ⌝ }
-{
-    let is_default = requested == 0;
-    if is_default { 80 } else { requested }
+    serial::status(status)
 }
 
 fn read(m: Mode, accepted: u8, buffer: u16, queued: usize) -> Verdict
@@ -188,22 +226,15 @@ fn read(m: Mode, accepted: u8, buffer: u16, queued: usize) -> Verdict
 {
     match m {
         Mode::Input => serial::says(
-            Reply::Bytes(oldest(queued, buffer, accepted)),
+            Reply::Bytes(read_length(queued, buffer, accepted)),
             Effect::Keeps,
         ),
         Mode::Output => serial::status(0x0F),
         Mode::Update => serial::says(
-            Reply::Bytes(oldest(queued, buffer, accepted)),
+            Reply::Bytes(read_length(queued, buffer, accepted)),
             Effect::Keeps,
         ),
     }
-}
-
-// As many bytes as the least of queued, buffer length and accepted length.
-fn oldest(queued: usize, buffer: u16, accepted: u8) -> u16
-    ensures { λ r. ⌜ r ≡ min queued (min buffer accepted) ⌝ }
-{
-    least(queued, least(buffer as usize, accepted as usize)) as u16
 }
 
 fn least(a: usize, b: usize) -> usize

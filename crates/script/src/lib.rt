@@ -40,6 +40,7 @@ end
 show units
 show ring
 show data
+show screen CODE
 show lines
 show failures
 say WORDS
@@ -64,6 +65,8 @@ expect lines [bav] [hsk] [nibble 0-15]
 expect buffer CODE [BYTES]
 expect response [BYTES]
 expect heard CODE|any [BYTES]
+expect screen 0-23 [of CODE] [BYTES]
+expect cursor 0-23 0-79 [of CODE]
 expect controller [free] [submitted]
 ",
     )

@@ -2,9 +2,11 @@
 // There are no lines in it, and no kind of unit.
 ghost use mathlib.Core.Path.{_≡_};
 ghost use mathlib.Core.List.{[]};
+ghost use Rattle.screen.specs.Text.{cleared};
 ghost use Rattle.serial.specs.Serial.{newSerial, applied, outputAfter, finished};
 ghost use Rattle.serial.specs.Verdict.{says, status, pollBy};
 use queue::Queue;
+use screen::Screen;
 
 // What an open unit is open for.
 pub enum Mode {
@@ -26,6 +28,8 @@ pub struct Serial {
     pub requesting: bool,
     pub input: Queue,
     pub output: Queue,
+    // Of a video unit; in all others it stays as it is.
+    pub screen: Screen,
 }
 
 // The response to a command, fixed when its last nibble is taken.
@@ -38,6 +42,8 @@ pub enum Reply {
     Opened(u8),
     // Status 00 with so many of the input queue's oldest bytes, which leave it when the response is done.
     Bytes(u16),
+    // Status 00 with so many bytes of the cursor's row and column, which is asked for no longer when the response is done.
+    Address(u8, u8, u8),
     // Status 00 to a poll. The request is cleared when the response is done.
     Polled,
 }
@@ -52,6 +58,12 @@ pub enum Effect {
     Disables,
     // Its data goes into the output queue.
     Stores,
+    // Opens a video unit, and clears its screen.
+    OpensScreen(Mode, u8),
+    // Closes a video unit, and clears its screen.
+    ResetsScreen,
+    // Its data goes to the screen.
+    Shows,
 }
 
 // What a unit answers to a command, and what the command does to it.
@@ -61,18 +73,20 @@ pub struct Verdict {
 }
 
 impl Serial {
-    // A new unit: closed, not enabled, its queues empty.
+    // A new unit: closed, not enabled, its queues empty, its screen as open and reset leave one.
     pub fn new() -> Serial
         ensures { λ r. ⌜ r ≡ newSerial ⌝ }
     {
         let input = Queue::new();
         let output = Queue::new();
+        let screen = Screen::new();
         Serial {
             opening: Opening::Closed,
             enabled: false,
             requesting: false,
             input,
             output,
+            screen,
         }
     }
 
@@ -88,6 +102,9 @@ impl Serial {
             Effect::Enables => enabled(self),
             Effect::Disables => disabled(self),
             Effect::Stores => stored(self, data, output),
+            Effect::OpensScreen(m, accepted) => opened_screen(self, m, accepted, output),
+            Effect::ResetsScreen => reset_screen(output),
+            Effect::Shows => shown(self, data, output),
         }
     }
 
@@ -100,6 +117,7 @@ impl Serial {
             Reply::Status(_) => self,
             Reply::Opened(_) => self,
             Reply::Bytes(n) => shortened(self, n),
+            Reply::Address(_, _, _) => addressed(self),
             Reply::Polled => heard(self),
         }
     }
@@ -110,12 +128,14 @@ fn opened(s: Serial, m: Mode, accepted: u8) -> Serial
 {
     let input = s.input;
     let output = s.output;
+    let screen = s.screen;
     Serial {
         opening: Opening::OpenFor(m, accepted),
         enabled: s.enabled,
         requesting: s.requesting,
         input,
         output,
+        screen,
     }
 }
 
@@ -124,12 +144,14 @@ fn closed(s: Serial) -> Serial
 {
     let input = Queue::new();
     let output = s.output;
+    let screen = s.screen;
     Serial {
         opening: Opening::Closed,
         enabled: false,
         requesting: false,
         input,
         output,
+        screen,
     }
 }
 
@@ -157,6 +179,42 @@ fn stored(s: Serial, data: &[u8], output: &mut [u8]) -> Serial
     let longer = q.push_all(output, data);
     let mut t = s;
     t.output = longer;
+    t
+}
+
+fn opened_screen(s: Serial, m: Mode, accepted: u8, output: &mut [u8]) -> Serial
+    ensures { λ r. ⌜ (r ≡ applied s (Effect.OpensScreen m accepted) []) × (now (output .exit) ≡ outputAfter s (Effect.OpensScreen m accepted) [] (now (output .entry))) ⌝ }
+{
+    text::clear(output);
+    let mut t = opened(s, m, accepted);
+    let blank = Screen::new();
+    t.screen = blank;
+    t
+}
+
+fn reset_screen(output: &mut [u8]) -> Serial
+    ensures { λ r. ⌜ (r ≡ newSerial) × (now (output .exit) ≡ cleared (now (output .entry))) ⌝ }
+{
+    text::clear(output);
+    Serial::new()
+}
+
+fn shown(s: Serial, data: &[u8], output: &mut [u8]) -> Serial
+    ensures { λ r. ⌜ (r ≡ applied s Effect.Shows (now («data» .entry))) × (now (output .exit) ≡ outputAfter s Effect.Shows (now («data» .entry)) (now (output .entry))) ⌝ }
+{
+    let next = text::show(s.screen, data, output);
+    let mut t = s;
+    t.screen = next;
+    t
+}
+
+fn addressed(s: Serial) -> Serial
+    ensures { λ r. ⌜ r ≡ finished s (Reply.Address 0 0 0) ⌝ }
+{
+    let screen = s.screen;
+    let answered = screen.answered();
+    let mut t = s;
+    t.screen = answered;
     t
 }
 

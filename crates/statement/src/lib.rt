@@ -62,58 +62,64 @@ pub const SHOW_RING: u64 = 25;
 
 pub const SHOW_DATA: u64 = 26;
 
-pub const SHOW_LINES: u64 = 27;
+pub const SHOW_SCREEN: u64 = 27;
 
-pub const SHOW_FAILURES: u64 = 28;
+pub const SHOW_LINES: u64 = 28;
 
-pub const SAY: u64 = 29;
+pub const SHOW_FAILURES: u64 = 29;
 
-pub const STATUS: u64 = 30;
+pub const SAY: u64 = 30;
 
-pub const RECEIVED: u64 = 31;
+pub const STATUS: u64 = 31;
 
-pub const TAKEN: u64 = 32;
+pub const RECEIVED: u64 = 32;
 
-pub const RING: u64 = 33;
+pub const TAKEN: u64 = 33;
 
-pub const REQUEST: u64 = 34;
+pub const RING: u64 = 34;
 
-pub const REQUESTS: u64 = 35;
+pub const REQUEST: u64 = 35;
 
-pub const REFUSAL: u64 = 36;
+pub const REQUESTS: u64 = 36;
 
-pub const UNREACHED: u64 = 37;
+pub const REFUSAL: u64 = 37;
 
-pub const TURNS: u64 = 38;
+pub const UNREACHED: u64 = 38;
 
-pub const WAITED: u64 = 39;
+pub const TURNS: u64 = 39;
 
-pub const QUEUED: u64 = 40;
+pub const WAITED: u64 = 40;
 
-pub const IS_QUIET: u64 = 41;
+pub const QUEUED: u64 = 41;
 
-pub const ROUND: u64 = 42;
+pub const IS_QUIET: u64 = 42;
 
-pub const ROUNDS: u64 = 43;
+pub const ROUND: u64 = 43;
 
-pub const LOOKS: u64 = 44;
+pub const ROUNDS: u64 = 44;
 
-pub const PHASE: u64 = 45;
+pub const LOOKS: u64 = 45;
 
-pub const PULLS: u64 = 46;
+pub const PHASE: u64 = 46;
 
-pub const LINES: u64 = 47;
+pub const PULLS: u64 = 47;
 
-pub const BUFFER: u64 = 48;
+pub const LINES: u64 = 48;
 
-pub const RESPONSE: u64 = 49;
+pub const BUFFER: u64 = 49;
 
-pub const HEARD: u64 = 50;
+pub const RESPONSE: u64 = 50;
 
-pub const STANDS: u64 = 51;
+pub const HEARD: u64 = 51;
+
+pub const SCREEN: u64 = 52;
+
+pub const CURSOR: u64 = 53;
+
+pub const STANDS: u64 = 54;
 
 // How many forms there are; a line without a statement.
-pub const BLANK: u64 = 52;
+pub const BLANK: u64 = 55;
 
 // Where, among the bytes that are lent, those of the command that was submitted last begin, behind those of a statement; behind them the
 // answers of stand-ins and what these have heard, 1,024 bytes each, the strip of a picture, bytes that were taken, the entries of the ring,
@@ -133,6 +139,11 @@ pub const RING_BYTES: usize = 140032;
 pub const MARK_BYTES: usize = 140288;
 
 pub const LOG_BYTES: usize = 143360;
+
+// How many bytes the bus lends for each unit, and where among them the cells of a screen begin.
+pub const UNIT_MEMORY: usize = 2432;
+
+pub const CELLS: usize = 512;
 
 // Where, in the rows of numbers that are lent, the codes of units begin, by their place, and those of stand-ins, 0 for one of every code.
 // Behind them is what there is of each host (desk), and of each stand-in (stand_in).

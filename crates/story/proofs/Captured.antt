@@ -2,10 +2,8 @@
 use mathlib.Core.Path.{_≡_, refl, _∙_, ap}
 use mathlib.Core.List.{List, [], map}
 use Rattle.delivery.proofs.Demand2.{demand-2}
-use Rattle.delivery.specs.Lists.{none, also}
 use Rattle.delivery.specs.Run.{start}
 use Rattle.kind.specs.Kinds.{kindOf}
-use Rattle.message.proofs.Fields.{zeros-below}
 use Rattle.ring.specs.Ring.{live}
 use Rattle.ring.specs.declared.Entry.{Entry}
 use Rattle.story.specs.Captured.{codes, first, script, last, run, Seen, inOrder, papers, Holds, holds, atLast, ringAtLast, Story, Meets}
@@ -14,7 +12,7 @@ use Rattle.story.proofs.Script.{Played, play, at, plays, quiet-start}
 pub meets : Meets
 unfolding kindOf
 meets =
-    let quiet = quiet-start codes refl (also (refl, (refl, zeros-below 256)) (also (refl, (refl, zeros-below 256)) (also (refl, (refl, zeros-below 256)) none))) in
+    let quiet = quiet-start codes refl in
     (quiet, demand-2 first last quiet run)
 
 -- All that is computed of the whole run, in one pass.
@@ -33,7 +31,7 @@ shown = refl
 pub story : Story
 unfolding kindOf
 story =
-    let whole : shownBy (at run) ≡ record { frames = papers; units = atLast; ring = ringAtLast } = ap shownBy (plays script {w = first} start) ∙ shown in
+    let whole : shownBy (at run) ≡ record { frames = papers; units = atLast; ring = ringAtLast } = ap shownBy (plays script {w = first} (meets .0) start) ∙ shown in
     record {
       frames = ap (λ (x : Shown). x .frames) whole;
       read = refl;

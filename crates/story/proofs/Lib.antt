@@ -2,3 +2,4 @@ pub mod Script
 pub mod Captured
 pub mod Premises
 pub mod Turns
+pub mod Panel

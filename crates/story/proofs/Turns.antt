@@ -8,12 +8,10 @@ use lib.ListN.{length, getD, length-append}
 use Rattle.controller.specs.Controller.{isIdle}
 use Rattle.controller.specs.declared.Controller.{Controller}
 use Rattle.delivery.specs.Calls.{inFrame, running}
-use Rattle.delivery.specs.Lists.{none, also}
 use Rattle.delivery.specs.Run.{start}
 use Rattle.delivery.specs.World.{World}
 use Rattle.frame.specs.declared.Frame.{Frame}
 use Rattle.kind.specs.Kinds.{kindOf}
-use Rattle.message.proofs.Fields.{zeros-below}
 use Rattle.polling.proofs.Chain.{services-then}
 use Rattle.polling.proofs.OnTheBus.{run-moves}
 use Rattle.polling.proofs.Turns.{none-counted, one-counted}
@@ -189,7 +187,7 @@ met =
     let way = calm-on 22 (onTheWay 100) (isCalm 22 itsTurn isOver) {v = raised} start tt (ap (λ (t : Tested). t .is-calm) tests) in
     let calm = calm-on 22 itsTurn isOver (runOn (onTheWay 100) {w = raised} start) (way .0) (way .1) in
     record {
-      quiet = quiet-start codes refl (also (refl, (refl, zeros-below 256)) (also (refl, (refl, zeros-below 256)) (also (refl, (refl, zeros-below 256)) (also (refl, (refl, zeros-below 256)) none))));
+      quiet = quiet-start codes refl;
       run = runOn joining {w = quietBus codes} start;
       more = runOn itsTurn (runOn (onTheWay 100) {w = raised} start);
       coded = is-on 22 (raised .units) (ap (λ (t : Tested). t .is-on-it) tests);

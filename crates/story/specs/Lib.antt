@@ -1,3 +1,4 @@
 pub mod Script
 pub mod Captured
 pub mod Turns
+pub mod Panel

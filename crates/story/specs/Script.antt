@@ -5,8 +5,8 @@ use mathlib.Core.Bool.{Bool, true, false, _&&_, false≢true}
 use mathlib.Core.List.{List, [], _∷_, map}
 use borrow.Author.Tests.{ltb-true}
 use lib.Dec.{ltb, lit<}
-use lib.ListN.{length}
-use Rattle.bus.specs.Bus.{newStation}
+use lib.ListN.{length, replicate}
+use Rattle.bus.specs.declared.Station.{Station}
 use Rattle.controller.specs.Controller.{newController}
 use Rattle.delivery.specs.Calls.{Call, submits, called}
 use Rattle.delivery.specs.Run.{Run, a-round, a-call}
@@ -14,11 +14,16 @@ use Rattle.delivery.specs.World.{World, Busy, round}
 use Rattle.field.specs.Field.{Below}
 use Rattle.header.specs.Header.{InRange}
 use Rattle.header.specs.declared.Command.{Command}
+use Rattle.kind.specs.Kinds.{kindOf, lentTo}
 use Rattle.unit.specs.Unit.{newUnit}
 
--- A quiet start: new units with these codes. The time-out is 8 and every retry count 4, the least that the papers allow.
+-- A quiet start: new units with these codes, each lent what its kind needs; before anything is written to it, that memory holds 2A everywhere.
+-- The time-out is 8 and every retry count 4, the least that the papers allow.
+abbrev pub stationOf : ℕ → Station
+stationOf own = record { unit = newUnit own 4; buffer = replicate 256 0; input = replicate 256 0; output = replicate (lentTo (kindOf own)) 0x2A }
+
 abbrev pub quietBus : List ℕ → World
-quietBus codes = record { controller = newController 8; units = map (λ (own : ℕ). newStation (newUnit own 4)) codes; lent = []; response = [] }
+quietBus codes = record { controller = newController 8; units = map stationOf codes; lent = []; response = [] }
 
 -- So many rounds with these hosts busy, or a call.
 pub data Doing : Type 0 where

@@ -5,6 +5,8 @@ use host::Raised;
 use host::Taken;
 use line::Lines;
 use phase::Phase;
+use screen::Screen;
+use screen::Sequence;
 use serial::Mode;
 use serial::Opening;
 use statement::Doing;
@@ -210,8 +212,12 @@ fn after(u: Unit, stepped: Stepped) -> Acted {
     }
 }
 
-// The numbers that an expectation finds of a unit: what it pulls, its phase, its queues, or all that its host may look at.
+// The numbers that an expectation finds of a unit: its screen, what it pulls, its phase, its queues, or all that its host may look at.
 pub fn looks(u: Unit, form: u64) -> Numbers {
+    if (form == statement::SHOW_SCREEN) | (form == statement::CURSOR) {
+        let s = u.serial;
+        return on_screen(s.screen);
+    }
     let l = unit::pulls(u);
     let looks = host::look(u);
     let phase = phase(u);
@@ -245,6 +251,25 @@ pub fn looks(u: Unit, form: u64) -> Numbers {
             n.seventh = statement::flag(looks.requesting);
         }
     }
+    n
+}
+
+// Row and column of the cursor, then 1 for what is so and 0 for what is not: scroll mode, wrap, top and bottom line protected, an address
+// that is pending, a sequence that is being read.
+fn on_screen(s: Screen) -> Numbers {
+    let sequence = s.sequence;
+    let mut n = Numbers::none();
+    n.first = s.row as u64;
+    n.second = s.column as u64;
+    n.third = s.scrolls as u64;
+    n.fourth = s.wraps as u64;
+    n.fifth = s.top as u64;
+    n.sixth = s.bottom as u64;
+    n.seventh = s.asked as u64;
+    n.eighth = match sequence {
+        Sequence::Plain => 0,
+        _ => 1,
+    };
     n
 }
 

@@ -1,16 +1,18 @@
 -- What was loaded and is saved changes no word.
-use Prim.Native.Nat.{ℕ, zero, suc, _%_, _<_}
+use Prim.Native.Nat.{ℕ, zero, suc, _/_, _%_, _<_}
 use native.Mathlib.Omega.{arith}
 use mathlib.Core.Path.{_≡_, refl, _∙_, ap}
 use mathlib.Core.Bool.{Bool, true, false, cond}
-use mathlib.Core.List.{List}
+use mathlib.Core.List.{List, [], _∷_}
 use lib.Dec.{eqb}
+use Rattle.screen.specs.declared.Sequence.the-variants.{Plain, Escape, Row, Column, Skips}
 use Rattle.serial.specs.declared.Reply.the-variants.{Silent, Status, Opened, Bytes, Polled}
-use Rattle.words.specs.Words.{at, numberIn, tagOf, tagIn}
+use Rattle.serial.specs.declared.Serial.{Serial}
+use Rattle.words.specs.Words.{at, written, _≔_, numberIn, flagIn, tagOf, tagIn}
 use Rattle.words.proofs.Laws.{again, none-of, tag-again, tag-below, tag-is, tag-meant, unchanged}
-use Rattle.unitwords.specs.Unit.{openingOf, openingNumber, acceptedIn, loadedSerial, serialIn, replyOf, replyTag, valueIn, phaseBy, loadedPhase, phaseIn, loaded, settingsIn}
+use Rattle.unitwords.specs.Unit.{openingOf, openingNumber, acceptedIn, sequenceOf, sequenceTag, argumentIn, loadedScreen, screenIn, loadedSerial, commonIn, serialIn, addressOf, addressIn, replyOf, replyTag, valueIn, phaseBy, loadedPhase, phaseIn, loaded, settingsIn}
 use Rattle.unitwords.specs.RoundTrip.{SavedLoaded}
-use Rattle.unitwords.specs.Layout.{PHASE}
+use Rattle.unitwords.specs.Layout.{OPENING, ACCEPTED, ENABLED, REQUESTING, «INPUT_HEAD», «INPUT_COUNT», «OUTPUT_HEAD», «OUTPUT_COUNT», PHASE}
 
 opening-again : (word accepted : ℕ) → numberIn 4 word (openingNumber (openingOf word accepted)) ≡ word
 opening-again word accepted = by-mode (word % 4) refl
@@ -31,10 +33,62 @@ accepted-again word accepted = by-mode (eqb (word % 4) 1) (eqb (word % 4) 2) (eq
     by-mode false false true = again 256 accepted
     by-mode false false false = refl
 
-reply-tag : (word value : ℕ) → tagOf 5 word ≡ replyTag (replyOf word value)
-reply-tag word value = tag-is (λ (w : ℕ). replyTag (replyOf w value)) 5 word (λ h. rw (none-of word 5 1 h (omega arith), none-of word 5 2 h (omega arith), none-of word 5 3 h (omega arith), none-of word 5 4 h (omega arith))) same
+reply-tag : (word value : ℕ) → tagOf 6 word ≡ replyTag (replyOf word value)
+reply-tag word value = tag-is (λ (w : ℕ). replyTag (replyOf w value)) 6 word (λ h. rw (none-of word 6 1 h (omega arith), none-of word 6 2 h (omega arith), none-of word 6 3 h (omega arith), none-of word 6 4 h (omega arith), none-of word 6 5 h (omega arith))) same
   where
-    same : (k : ℕ) → k < 5 → replyTag (replyOf k value) ≡ k
+    same : (k : ℕ) → k < 6 → replyTag (replyOf k value) ≡ k
+    same zero h = refl
+    same (suc zero) h = refl
+    same (suc (suc zero)) h = refl
+    same (suc (suc (suc zero))) h = refl
+    same (suc (suc (suc (suc zero)))) h = refl
+    same (suc (suc (suc (suc (suc zero))))) h = refl
+    same (suc (suc (suc (suc (suc (suc k)))))) h = absurd (omega arith)
+
+pub reply-again : (word value : ℕ) → tagIn 6 word (replyTag (replyOf word value)) ≡ word
+reply-again word value = tag-again 6 word (replyTag (replyOf word value)) (reply-tag word value)
+
+address-again : (value : ℕ) → addressIn value (value % 256) ((value / 256) % 256) ((value / 65536) % 256) ≡ value
+address-again value = omega arith
+
+pub value-again : (word value : ℕ) → valueIn value (replyOf word value) ≡ value
+value-again word value = by-tag (eqb word 1) (eqb word 2) (eqb word 3) (eqb word 4) (eqb word 5)
+  where
+    by-tag : (a b c d e : Bool)
+        → valueIn value (cond a (Status (value % 256)) (cond b (Opened (value % 256)) (cond c (Bytes (value % 65536)) (cond d Polled (cond e (addressOf value) Silent))))) ≡ value
+    by-tag true b c d e = again 256 value
+    by-tag false true c d e = again 256 value
+    by-tag false false true d e = again 65536 value
+    by-tag false false false true e = refl
+    by-tag false false false false true = address-again value
+    by-tag false false false false false = refl
+
+settings-again : (ws : List ℕ) → settingsIn ws (loaded ws) ≡ ws
+settings-again ws = simp unchanged
+
+pub common-written : (ws : List ℕ) (s : Serial) {opening accepted enabled requesting inputHead inputCount outputHead outputCount : ℕ}
+    → opening ≡ numberIn 4 (at ws OPENING) (openingNumber (s .opening))
+    → accepted ≡ acceptedIn (at ws ACCEPTED) (s .opening)
+    → enabled ≡ flagIn (at ws ENABLED) (s .enabled)
+    → requesting ≡ flagIn (at ws REQUESTING) (s .requesting)
+    → inputHead ≡ numberIn 256 (at ws «INPUT_HEAD») (s .input .head)
+    → inputCount ≡ numberIn 65536 (at ws «INPUT_COUNT») (s .input .count)
+    → outputHead ≡ numberIn 256 (at ws «OUTPUT_HEAD») (s .output .head)
+    → outputCount ≡ numberIn 65536 (at ws «OUTPUT_COUNT») (s .output .count)
+    → written ws (OPENING ≔ opening ∷ ACCEPTED ≔ accepted ∷ ENABLED ≔ enabled ∷ REQUESTING ≔ requesting ∷ «INPUT_HEAD» ≔ inputHead
+    ∷ «INPUT_COUNT» ≔ inputCount ∷ «OUTPUT_HEAD» ≔ outputHead ∷ «OUTPUT_COUNT» ≔ outputCount ∷ []) ≡ commonIn ws s
+common-written ws s o a e r ih ic oh oc = λ i.
+    written ws (OPENING ≔ o i ∷ ACCEPTED ≔ a i ∷ ENABLED ≔ e i ∷ REQUESTING ≔ r i ∷ «INPUT_HEAD» ≔ ih i
+    ∷ «INPUT_COUNT» ≔ ic i ∷ «OUTPUT_HEAD» ≔ oh i ∷ «OUTPUT_COUNT» ≔ oc i ∷ [])
+
+common-again : (ws : List ℕ) → commonIn ws (loadedSerial ws) ≡ ws
+common-again ws = simp (unchanged, opening-again, accepted-again)
+
+-- A screen.
+sequence-tag : (word argument : ℕ) → tagOf 5 word ≡ sequenceTag (sequenceOf word argument)
+sequence-tag word argument = tag-is (λ (w : ℕ). sequenceTag (sequenceOf w argument)) 5 word (λ h. rw (none-of word 5 1 h (omega arith), none-of word 5 2 h (omega arith), none-of word 5 3 h (omega arith), none-of word 5 4 h (omega arith))) same
+  where
+    same : (k : ℕ) → k < 5 → sequenceTag (sequenceOf k argument) ≡ k
     same zero h = refl
     same (suc zero) h = refl
     same (suc (suc zero)) h = refl
@@ -42,24 +96,24 @@ reply-tag word value = tag-is (λ (w : ℕ). replyTag (replyOf w value)) 5 word 
     same (suc (suc (suc (suc zero)))) h = refl
     same (suc (suc (suc (suc (suc k))))) h = absurd (omega arith)
 
-pub reply-again : (word value : ℕ) → tagIn 5 word (replyTag (replyOf word value)) ≡ word
-reply-again word value = tag-again 5 word (replyTag (replyOf word value)) (reply-tag word value)
+sequence-again : (word argument : ℕ) → tagIn 5 word (sequenceTag (sequenceOf word argument)) ≡ word
+sequence-again word argument = tag-again 5 word (sequenceTag (sequenceOf word argument)) (sequence-tag word argument)
 
-pub value-again : (word value : ℕ) → valueIn value (replyOf word value) ≡ value
-value-again word value = by-tag (eqb word 1) (eqb word 2) (eqb word 3) (eqb word 4)
+argument-again : (word argument : ℕ) → argumentIn argument (sequenceOf word argument) ≡ argument
+argument-again word argument = by-tag (eqb word 1) (eqb word 2) (eqb word 3) (eqb word 4)
   where
-    by-tag : (a b c d : Bool) → valueIn value (cond a (Status (value % 256)) (cond b (Opened (value % 256)) (cond c (Bytes (value % 65536)) (cond d Polled Silent)))) ≡ value
-    by-tag true b c d = again 256 value
-    by-tag false true c d = again 256 value
-    by-tag false false true d = again 65536 value
-    by-tag false false false true = refl
+    by-tag : (a b c d : Bool) → argumentIn argument (cond a Escape (cond b Row (cond c (Column (argument % 256)) (cond d (Skips (argument % 256)) Plain)))) ≡ argument
+    by-tag true b c d = refl
+    by-tag false true c d = refl
+    by-tag false false true d = again 256 argument
+    by-tag false false false true = again 256 argument
     by-tag false false false false = refl
 
-settings-again : (ws : List ℕ) → settingsIn ws (loaded ws) ≡ ws
-settings-again ws = simp unchanged
+screen-again : (ws : List ℕ) → screenIn ws (loadedScreen ws) ≡ ws
+screen-again ws = simp (unchanged, sequence-again, argument-again)
 
 pub serial-again : (ws : List ℕ) → serialIn ws (loadedSerial ws) ≡ ws
-serial-again ws = simp (unchanged, opening-again, accepted-again)
+serial-again ws = ap (λ (l : List ℕ). screenIn l (loadedScreen ws)) (common-again ws) ∙ screen-again ws
 
 -- A phase.
 pub phase-meant : (l : List ℕ) (word : ℕ) → phaseBy word l ≡ phaseBy (tagOf 6 word) l

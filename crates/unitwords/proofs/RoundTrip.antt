@@ -1,5 +1,5 @@
 -- Word by word, what was put there is read again: first the state besides the lines, then each phase.
-use Prim.Native.Nat.{ℕ, _%_}
+use Prim.Native.Nat.{ℕ, _+_, _*_, _/_, _%_, _<_}
 use native.Mathlib.Omega.{arith}
 use mathlib.Core.Path.{_≡_, refl, _∙_, ap, subst⁻¹}
 use mathlib.Core.List.{List}
@@ -7,17 +7,20 @@ use lib.ListN.{replicate}
 use Rattle.phase.specs.declared.Phase.{Phase}
 use Rattle.phase.specs.declared.Phase.the-variants.{Idle, Selecting, Receiving, Responding, SittingOut}
 use Rattle.phase.specs.declared.Progress.the-variants.{Taking, Answered}
+use Rattle.screen.specs.declared.Screen.{Screen}
+use Rattle.screen.specs.declared.Sequence.{Sequence}
+use Rattle.screen.specs.declared.Sequence.the-variants.{Column, Skips}
 use Rattle.serial.specs.declared.Mode.the-variants.{Input, Output, Update}
 use Rattle.serial.specs.declared.Opening.{Opening}
 use Rattle.serial.specs.declared.Reply.{Reply}
-use Rattle.serial.specs.declared.Reply.the-variants.{Status, Opened, Bytes}
+use Rattle.serial.specs.declared.Reply.the-variants.{Status, Opened, Bytes, Address}
 use Rattle.unit.specs.declared.Unit.{Unit}
 use Rattle.words.specs.Words.{at, numberIn, flagOf, flagIn, tagOf, tagIn}
 use Rattle.words.proofs.Laws.{back, flag-back, tag-meant, tag-back, none-of, listener-back, sender-back, command-back, elementsFrom, one-by-one}
-use Rattle.unitwords.specs.Layout.{WORDS, OWN, RETRY, QUIET, ASKING, OPENING, ACCEPTED, ENABLED, REQUESTING, «INPUT_HEAD», «INPUT_COUNT», «OUTPUT_HEAD», «OUTPUT_COUNT», PHASE, EAR, HALF, LOW, DEVICE, COMMAND, «LOGICAL_UNIT», «RECORD_NUMBER», «BUFFER_LENGTH», «DATA_LENGTH», REPLY, VALUE, SENDER, WAIT, NIBBLE, LAST}
-use Rattle.unitwords.specs.Unit.{openingOf, openingNumber, acceptedIn, queueOf, serialIn, replyOf, replyTag, valueIn, phaseBy, loadedPhase, phaseIn, loaded, settingsIn, savedIn}
+use Rattle.unitwords.specs.Layout.{WORDS, OWN, RETRY, QUIET, ASKING, OPENING, ACCEPTED, ENABLED, REQUESTING, «INPUT_HEAD», «INPUT_COUNT», «OUTPUT_HEAD», «OUTPUT_COUNT», PHASE, EAR, HALF, LOW, DEVICE, COMMAND, «LOGICAL_UNIT», «RECORD_NUMBER», «BUFFER_LENGTH», «DATA_LENGTH», REPLY, VALUE, SENDER, WAIT, NIBBLE, LAST, ROW, COLUMN, SCROLLS, WRAPS, TOP, BOTTOM, ASKED, SEQUENCE, ARGUMENT}
+use Rattle.unitwords.specs.Unit.{openingOf, openingNumber, acceptedIn, queueOf, sequenceOf, sequenceTag, argumentIn, serialIn, addressIn, addressOf, replyOf, replyTag, valueIn, phaseBy, loadedPhase, phaseIn, loaded, settingsIn, savedIn}
 use Rattle.unitwords.proofs.Laws.{phase-meant}
-use Rattle.unitwords.specs.RoundTrip.{OpeningFits, closed, opened-for, ReplyFits, silent, status, opened, bytes, polled, PhaseFits, idle, selecting, taking, answered, responding, sitting-out, InRange, LoadedSavedIn, LoadedSaved}
+use Rattle.unitwords.specs.RoundTrip.{OpeningFits, closed, opened-for, ReplyFits, silent, status, opened, bytes, address, polled, PhaseFits, idle, selecting, taking, answered, responding, sitting-out, SequenceFits, plain, escape, at-row, at-column, skips, ScreenFits, InRange, LoadedSavedIn, LoadedSaved}
 
 opening-back : (word accepted : ℕ) (o : Opening) → OpeningFits o → openingOf (numberIn 4 word (openingNumber o)) (acceptedIn accepted o) ≡ o
 opening-back word accepted o closed = rw (back 4 word 0 (omega arith))
@@ -25,18 +28,72 @@ opening-back word accepted o (opened-for {m = Input} {accepted = n} h) = rw (bac
 opening-back word accepted o (opened-for {m = Output} {accepted = n} h) = rw (back 4 word 2 (omega arith), back 256 accepted n h)
 opening-back word accepted o (opened-for {m = Update} {accepted = n} h) = rw (back 4 word 3 (omega arith), back 256 accepted n h)
 
-reply-by : (word value tag : ℕ) → replyOf (tagIn 5 word tag) value ≡ replyOf tag value
-reply-by word value tag = tag-back (λ (t : ℕ). replyOf t value) 5 meant word tag
+reply-by : (word value tag : ℕ) → replyOf (tagIn 6 word tag) value ≡ replyOf tag value
+reply-by word value tag = tag-back (λ (t : ℕ). replyOf t value) 6 meant word tag
   where
-    meant : (w : ℕ) → replyOf w value ≡ replyOf (tagOf 5 w) value
-    meant w = tag-meant (λ (t : ℕ). replyOf t value) 5 w (λ h. rw (none-of w 5 1 h (omega arith), none-of w 5 2 h (omega arith), none-of w 5 3 h (omega arith), none-of w 5 4 h (omega arith)))
+    meant : (w : ℕ) → replyOf w value ≡ replyOf (tagOf 6 w) value
+    meant w = tag-meant (λ (t : ℕ). replyOf t value) 6 w (λ h. rw (none-of w 6 1 h (omega arith), none-of w 6 2 h (omega arith), none-of w 6 3 h (omega arith), none-of w 6 4 h (omega arith), none-of w 6 5 h (omega arith)))
 
-reply-back : (word value : ℕ) (r : Reply) → ReplyFits r → replyOf (tagIn 5 word (replyTag r)) (valueIn value r) ≡ r
+address-back : (word n row column : ℕ) → n < 256 → row < 256 → column < 256 → addressOf (addressIn word n row column) ≡ Address n row column
+address-back word n row column h k l = λ i. Address (count i) (line i) (place i)
+  where
+    count : addressIn word n row column % 256 ≡ n
+    count = omega arith
+
+    line : (addressIn word n row column / 256) % 256 ≡ row
+    line = omega arith
+
+    place : (addressIn word n row column / 65536) % 256 ≡ column
+    place = omega arith
+
+reply-back : (word value : ℕ) (r : Reply) → ReplyFits r → replyOf (tagIn 6 word (replyTag r)) (valueIn value r) ≡ r
 reply-back word value r silent = reply-by word value 0
 reply-back word value r (status {n} h) = reply-by word (numberIn 256 value n) 1 ∙ ap Status (back 256 value n h)
 reply-back word value r (opened {n} h) = reply-by word (numberIn 256 value n) 2 ∙ ap Opened (back 256 value n h)
 reply-back word value r (bytes {n} h) = reply-by word (numberIn 65536 value n) 3 ∙ ap Bytes (back 65536 value n h)
+reply-back word value r (address {n} {row} {column} h k l) = reply-by word (addressIn value n row column) 5 ∙ address-back value n row column h k l
 reply-back word value r polled = reply-by word value 4
+
+sequence-back : (word argument : ℕ) (q : Sequence) → SequenceFits q → sequenceOf (tagIn 5 word (sequenceTag q)) (argumentIn argument q) ≡ q
+sequence-back word argument q fits = by-case q fits
+  where
+    meant : (value w : ℕ) → sequenceOf w value ≡ sequenceOf (tagOf 5 w) value
+    meant value w = tag-meant (λ (t : ℕ). sequenceOf t value) 5 w (λ h. rw (none-of w 5 1 h (omega arith), none-of w 5 2 h (omega arith), none-of w 5 3 h (omega arith), none-of w 5 4 h (omega arith)))
+
+    by-tag : (value tag : ℕ) → sequenceOf (tagIn 5 word tag) value ≡ sequenceOf tag value
+    by-tag value tag = tag-back (λ (t : ℕ). sequenceOf t value) 5 (meant value) word tag
+
+    by-case : (q : Sequence) → SequenceFits q → sequenceOf (tagIn 5 word (sequenceTag q)) (argumentIn argument q) ≡ q
+    by-case q plain = by-tag argument 0
+    by-case q escape = by-tag argument 1
+    by-case q at-row = by-tag argument 2
+    by-case q (at-column {n} h) = by-tag (numberIn 256 argument n) 3 ∙ ap Column (back 256 argument n h)
+    by-case q (skips {n} h) = by-tag (numberIn 256 argument n) 4 ∙ ap Skips (back 256 argument n h)
+
+-- A screen that was put into words.
+abbrev screenBeside : List ℕ → Screen → Screen
+screenBeside ws s = record {
+  row = numberIn 256 (at ws ROW) (s .row) % 256;
+  column = numberIn 256 (at ws COLUMN) (s .column) % 256;
+  scrolls = flagOf (flagIn (at ws SCROLLS) (s .scrolls));
+  wraps = flagOf (flagIn (at ws WRAPS) (s .wraps));
+  top = flagOf (flagIn (at ws TOP) (s .top));
+  bottom = flagOf (flagIn (at ws BOTTOM) (s .bottom));
+  asked = flagOf (flagIn (at ws ASKED) (s .asked));
+  sequence = sequenceOf (tagIn 5 (at ws SEQUENCE) (sequenceTag (s .sequence))) (argumentIn (at ws ARGUMENT) (s .sequence));
+}
+
+screen-back : (ws : List ℕ) (s : Screen) → ScreenFits s → screenBeside ws s ≡ s
+screen-back ws s h = λ i. record {
+  row = back 256 (at ws ROW) (s .row) (h .row) i;
+  column = back 256 (at ws COLUMN) (s .column) (h .column) i;
+  scrolls = flag-back (at ws SCROLLS) (s .scrolls) i;
+  wraps = flag-back (at ws WRAPS) (s .wraps) i;
+  top = flag-back (at ws TOP) (s .top) i;
+  bottom = flag-back (at ws BOTTOM) (s .bottom) i;
+  asked = flag-back (at ws ASKED) (s .asked) i;
+  sequence = sequence-back (at ws SEQUENCE) (at ws ARGUMENT) (s .sequence) (h .sequence) i;
+}
 
 -- A unit of which all but the phase was put into words.
 abbrev beside : List ℕ → Unit → Phase → Unit
@@ -52,6 +109,7 @@ beside ws u p = record {
     requesting = flagOf (flagIn (at ws REQUESTING) (u .serial .requesting));
     input = queueOf (numberIn 256 (at ws «INPUT_HEAD») (u .serial .input .head)) (numberIn 65536 (at ws «INPUT_COUNT») (u .serial .input .count));
     output = queueOf (numberIn 256 (at ws «OUTPUT_HEAD») (u .serial .output .head)) (numberIn 65536 (at ws «OUTPUT_COUNT») (u .serial .output .count));
+    screen = screenBeside ws (u .serial .screen);
   };
 }
 
@@ -68,6 +126,7 @@ beside-back ws u p h e = λ i. record {
     requesting = flag-back (at ws REQUESTING) (u .serial .requesting) i;
     input = record { head = back 256 (at ws «INPUT_HEAD») (u .serial .input .head) (h .input .head) i; count = back 65536 (at ws «INPUT_COUNT») (u .serial .input .count) (h .input .count) i };
     output = record { head = back 256 (at ws «OUTPUT_HEAD») (u .serial .output .head) (h .output .head) i; count = back 65536 (at ws «OUTPUT_COUNT») (u .serial .output .count) (h .output .count) i };
+    screen = screen-back ws (u .serial .screen) (h .screen) i;
   };
 }
 

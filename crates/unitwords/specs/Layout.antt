@@ -1,10 +1,10 @@
--- A unit in 23 words of its caller's memory, each by its name: here, and in the constants of src/lib.rt, which are proved to be the same
+-- A unit in 32 words of its caller's memory, each by its name: here, and in the constants of src/lib.rt, which are proved to be the same
 -- where they are used. What a phase carries stands in words that other phases use too, under other names. A new field takes the next
 -- number, in `WORDS` too, and moves no other.
 use Prim.Native.Nat.{ℕ}
 
 abbrev pub WORDS : ℕ
-WORDS = 23
+WORDS = 32
 
 -- Its settings, its row of rounds with BAV seen high, and its pull of BAV.
 abbrev pub OWN : ℕ
@@ -103,3 +103,32 @@ NEXT = 16
 -- Sitting out: whether the pull of HSK stands.
 abbrev pub LAST : ℕ
 LAST = 14
+
+-- Its screen: the cursor, the modes, the protected lines, whether the cursor's address is asked for, the sequence that is being read and its
+-- argument.
+abbrev pub ROW : ℕ
+ROW = 23
+
+abbrev pub COLUMN : ℕ
+COLUMN = 24
+
+abbrev pub SCROLLS : ℕ
+SCROLLS = 25
+
+abbrev pub WRAPS : ℕ
+WRAPS = 26
+
+abbrev pub TOP : ℕ
+TOP = 27
+
+abbrev pub BOTTOM : ℕ
+BOTTOM = 28
+
+abbrev pub ASKED : ℕ
+ASKED = 29
+
+abbrev pub SEQUENCE : ℕ
+SEQUENCE = 30
+
+abbrev pub ARGUMENT : ℕ
+ARGUMENT = 31

@@ -12,11 +12,14 @@ use Rattle.phase.specs.declared.Progress.the-variants.{Taking, Answered}
 use Rattle.phase.specs.declared.Phase.{Phase}
 use Rattle.phase.specs.declared.Phase.the-variants.{Idle, Selecting, Receiving, Responding, SittingOut}
 use Rattle.queue.specs.declared.Queue.{Queue}
+use Rattle.screen.specs.declared.Screen.{Screen}
+use Rattle.screen.specs.declared.Sequence.{Sequence}
+use Rattle.screen.specs.declared.Sequence.the-variants.{Plain, Escape, Row, Column, Skips}
 use Rattle.serial.specs.declared.Mode.{Mode}
 use Rattle.serial.specs.declared.Opening.{Opening}
 use Rattle.serial.specs.declared.Opening.the-variants.{Closed, OpenFor}
 use Rattle.serial.specs.declared.Reply.{Reply}
-use Rattle.serial.specs.declared.Reply.the-variants.{Silent, Status, Opened, Bytes, Polled}
+use Rattle.serial.specs.declared.Reply.the-variants.{Silent, Status, Opened, Bytes, Address, Polled}
 use Rattle.unit.specs.declared.Unit.{Unit}
 use Rattle.words.specs.Ranges.{SenderFits}
 use Rattle.unitwords.specs.Layout.{WORDS}
@@ -32,6 +35,7 @@ pub data ReplyFits : Reply → Type 0 where
   status : {n : ℕ} → n < 256 → ReplyFits (Status n)
   opened : {n : ℕ} → n < 256 → ReplyFits (Opened n)
   bytes : {n : ℕ} → n < 65536 → ReplyFits (Bytes n)
+  address : {n row column : ℕ} → n < 256 → row < 256 → column < 256 → ReplyFits (Address n row column)
   polled : ReplyFits Polled
 
 pub data PhaseFits : Phase → Type 0 where
@@ -48,6 +52,18 @@ pub record QueueFits (q : Queue) : Type 0 where
   pub head : q .head < 256
   pub count : q .count < 65536
 
+pub data SequenceFits : Sequence → Type 0 where
+  plain : SequenceFits Plain
+  escape : SequenceFits Escape
+  at-row : SequenceFits Row
+  at-column : {n : ℕ} → n < 256 → SequenceFits (Column n)
+  skips : {n : ℕ} → n < 256 → SequenceFits (Skips n)
+
+pub record ScreenFits (s : Screen) : Type 0 where
+  pub row : s .row < 256
+  pub column : s .column < 256
+  pub sequence : SequenceFits (s .sequence)
+
 pub record InRange (u : Unit) : Type 0 where
   pub own : u .own < 256
   pub retry : u .retry < 65536
@@ -56,6 +72,7 @@ pub record InRange (u : Unit) : Type 0 where
   pub opening : OpeningFits (u .serial .opening)
   pub input : QueueFits (u .serial .input)
   pub output : QueueFits (u .serial .output)
+  pub screen : ScreenFits (u .serial .screen)
 
 abbrev pub LoadedSavedIn : Type 0
 LoadedSavedIn = (ws : List ℕ) (u : Unit) → length ws ≡ WORDS → InRange u → loaded (savedIn ws u) ≡ u

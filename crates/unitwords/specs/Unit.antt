@@ -1,5 +1,5 @@
 -- A unit in words: `loaded` says which unit stands there, for all words; `savedIn` what a save makes of the words that were there.
-use Prim.Native.Nat.{ℕ, _%_}
+use Prim.Native.Nat.{ℕ, _+_, _*_, _/_, _%_}
 use mathlib.Core.Bool.{Bool, cond}
 use mathlib.Core.List.{List, [], _∷_}
 use lib.Dec.{eqb}
@@ -13,16 +13,19 @@ use Rattle.phase.specs.declared.Progress.the-variants.{Taking, Answered}
 use Rattle.phase.specs.declared.Phase.{Phase}
 use Rattle.phase.specs.declared.Phase.the-variants.{Idle, Selecting, Receiving, Responding, SittingOut}
 use Rattle.queue.specs.declared.Queue.{Queue}
+use Rattle.screen.specs.declared.Screen.{Screen}
+use Rattle.screen.specs.declared.Sequence.{Sequence}
+use Rattle.screen.specs.declared.Sequence.the-variants.{Plain, Escape, Row, Column, Skips}
 use Rattle.serial.specs.declared.Mode.{Mode}
 use Rattle.serial.specs.declared.Mode.the-variants.{Input, Output, Update}
 use Rattle.serial.specs.declared.Opening.{Opening}
 use Rattle.serial.specs.declared.Opening.the-variants.{Closed, OpenFor}
 use Rattle.serial.specs.declared.Reply.{Reply}
-use Rattle.serial.specs.declared.Reply.the-variants.{Silent, Status, Opened, Bytes, Polled}
+use Rattle.serial.specs.declared.Reply.the-variants.{Silent, Status, Opened, Bytes, Address, Polled}
 use Rattle.serial.specs.declared.Serial.{Serial}
 use Rattle.unit.specs.declared.Unit.{Unit}
 use Rattle.words.specs.Words.{at, written, _≔_, numberIn, flagOf, flagIn, tagIn, listenerOf, listenerIn, senderOf, senderIn, nibbleIn, commandOf}
-use Rattle.unitwords.specs.Layout.{WORDS, OWN, RETRY, QUIET, ASKING, OPENING, ACCEPTED, ENABLED, REQUESTING, «INPUT_HEAD», «INPUT_COUNT», «OUTPUT_HEAD», «OUTPUT_COUNT», PHASE, EAR, HALF, LOW, PLACE, DEVICE, COMMAND, «LOGICAL_UNIT», «RECORD_NUMBER», «BUFFER_LENGTH», «DATA_LENGTH», REPLY, VALUE, SENDER, WAIT, NIBBLE, NEXT, LAST}
+use Rattle.unitwords.specs.Layout.{WORDS, OWN, RETRY, QUIET, ASKING, OPENING, ACCEPTED, ENABLED, REQUESTING, «INPUT_HEAD», «INPUT_COUNT», «OUTPUT_HEAD», «OUTPUT_COUNT», PHASE, EAR, HALF, LOW, PLACE, DEVICE, COMMAND, «LOGICAL_UNIT», «RECORD_NUMBER», «BUFFER_LENGTH», «DATA_LENGTH», REPLY, VALUE, SENDER, WAIT, NIBBLE, NEXT, LAST, ROW, COLUMN, SCROLLS, WRAPS, TOP, BOTTOM, ASKED, SEQUENCE, ARGUMENT}
 
 -- Closed 0, open for input 1, output 2, update 3: two bits, and the word of the accepted length.
 abbrev pub openingOf : ℕ → ℕ → Opening
@@ -47,6 +50,54 @@ acceptedIn word (OpenFor m accepted) = numberIn 256 word accepted
 abbrev pub queueOf : ℕ → ℕ → Queue
 queueOf head count = record { head = head % 256; count = count % 65536 }
 
+-- The sequence that a screen is reading, in the word of its tag and the word of its argument: a row, or how many arguments are still to be
+-- skipped.
+abbrev pub sequenceOf : ℕ → ℕ → Sequence
+sequenceOf word argument =
+    cond (eqb word 1) Escape
+    (cond (eqb word 2) Row (cond (eqb word 3) (Column (argument % 256)) (cond (eqb word 4) (Skips (argument % 256)) Plain)))
+
+abbrev pub sequenceTag : Sequence → ℕ
+sequenceTag Plain = 0
+sequenceTag Escape = 1
+sequenceTag Row = 2
+sequenceTag (Column row) = 3
+sequenceTag (Skips n) = 4
+
+abbrev pub argumentIn : ℕ → Sequence → ℕ
+argumentIn word Plain = word
+argumentIn word Escape = word
+argumentIn word Row = word
+argumentIn word (Column row) = numberIn 256 word row
+argumentIn word (Skips n) = numberIn 256 word n
+
+abbrev pub loadedScreen : List ℕ → Screen
+loadedScreen ws = record {
+  row = at ws ROW % 256;
+  column = at ws COLUMN % 256;
+  scrolls = flagOf (at ws SCROLLS);
+  wraps = flagOf (at ws WRAPS);
+  top = flagOf (at ws TOP);
+  bottom = flagOf (at ws BOTTOM);
+  asked = flagOf (at ws ASKED);
+  sequence = sequenceOf (at ws SEQUENCE) (at ws ARGUMENT);
+}
+
+abbrev pub screenIn : List ℕ → Screen → List ℕ
+screenIn ws s =
+    written ws
+    (ROW ≔ numberIn 256 (at ws ROW) (s .row)
+    ∷ COLUMN ≔ numberIn 256 (at ws COLUMN) (s .column)
+    ∷ SCROLLS ≔ flagIn (at ws SCROLLS) (s .scrolls)
+    ∷ WRAPS ≔ flagIn (at ws WRAPS) (s .wraps)
+    ∷ TOP ≔ flagIn (at ws TOP) (s .top)
+    ∷ BOTTOM ≔ flagIn (at ws BOTTOM) (s .bottom)
+    ∷ ASKED ≔ flagIn (at ws ASKED) (s .asked)
+    ∷ SEQUENCE ≔ tagIn 5 (at ws SEQUENCE) (sequenceTag (s .sequence))
+    ∷ ARGUMENT ≔ argumentIn (at ws ARGUMENT) (s .sequence)
+    ∷ [])
+
+-- Its state besides the lines.
 abbrev pub loadedSerial : List ℕ → Serial
 loadedSerial ws = record {
   opening = openingOf (at ws OPENING) (at ws ACCEPTED);
@@ -54,10 +105,12 @@ loadedSerial ws = record {
   requesting = flagOf (at ws REQUESTING);
   input = queueOf (at ws «INPUT_HEAD») (at ws «INPUT_COUNT»);
   output = queueOf (at ws «OUTPUT_HEAD») (at ws «OUTPUT_COUNT»);
+  screen = loadedScreen ws;
 }
 
-abbrev pub serialIn : List ℕ → Serial → List ℕ
-serialIn ws s =
+-- All of it but the screen, then the screen.
+abbrev pub commonIn : List ℕ → Serial → List ℕ
+commonIn ws s =
     written ws
     (OPENING ≔ numberIn 4 (at ws OPENING) (openingNumber (s .opening))
     ∷ ACCEPTED ≔ acceptedIn (at ws ACCEPTED) (s .opening)
@@ -69,11 +122,22 @@ serialIn ws s =
     ∷ «OUTPUT_COUNT» ≔ numberIn 65536 (at ws «OUTPUT_COUNT») (s .output .count)
     ∷ [])
 
+abbrev pub serialIn : List ℕ → Serial → List ℕ
+serialIn ws s = screenIn (commonIn ws s) (s .screen)
+
+-- How many bytes of the cursor's address are answered, its row and its column, in one word of three bytes.
+abbrev pub addressOf : ℕ → Reply
+addressOf value = Address (value % 256) ((value / 256) % 256) ((value / 65536) % 256)
+
+abbrev pub addressIn : ℕ → ℕ → ℕ → ℕ → ℕ
+addressIn word n row column = numberIn 16777216 word (n + 256 * row + 65536 * column)
+
 -- A reply in the word of its tag and the word of its value.
 abbrev pub replyOf : ℕ → ℕ → Reply
 replyOf word value =
     cond (eqb word 1) (Status (value % 256))
-    (cond (eqb word 2) (Opened (value % 256)) (cond (eqb word 3) (Bytes (value % 65536)) (cond (eqb word 4) Polled Silent)))
+    (cond (eqb word 2) (Opened (value % 256))
+    (cond (eqb word 3) (Bytes (value % 65536)) (cond (eqb word 4) Polled (cond (eqb word 5) (addressOf value) Silent))))
 
 abbrev pub replyTag : Reply → ℕ
 replyTag Silent = 0
@@ -81,6 +145,7 @@ replyTag (Status status) = 1
 replyTag (Opened accepted) = 2
 replyTag (Bytes n) = 3
 replyTag Polled = 4
+replyTag (Address n row column) = 5
 
 abbrev pub valueIn : ℕ → Reply → ℕ
 valueIn word Silent = word
@@ -88,9 +153,10 @@ valueIn word (Status status) = numberIn 256 word status
 valueIn word (Opened accepted) = numberIn 256 word accepted
 valueIn word (Bytes n) = numberIn 65536 word n
 valueIn word Polled = word
+valueIn word (Address n row column) = addressIn word n row column
 
 abbrev pub replyIn : List ℕ → Reply → List ℕ
-replyIn ws reply = written ws (REPLY ≔ tagIn 5 (at ws REPLY) (replyTag reply) ∷ VALUE ≔ valueIn (at ws VALUE) reply ∷ [])
+replyIn ws reply = written ws (REPLY ≔ tagIn 6 (at ws REPLY) (replyTag reply) ∷ VALUE ≔ valueIn (at ws VALUE) reply ∷ [])
 
 -- The header of a command that is being taken, and the rest of it.
 abbrev pub loadedHeader : List ℕ → Header

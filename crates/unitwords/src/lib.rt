@@ -2,7 +2,7 @@
 ghost use mathlib.Core.Path.{_≡_};
 ghost use Prim.Native.Nat.{_≤_};
 ghost use Rattle.words.specs.Words.{numberIn};
-ghost use Rattle.unitwords.specs.Unit.{openingOf, openingNumber, acceptedIn, queueOf, loadedSerial, serialIn, replyOf, replyTag, valueIn, replyIn, loadedHeader, headerIn, loadedPartial, lowIn, partialIn, loadedPhase, listening, sending, phaseIn, movedIn, loaded, settingsIn, savedIn, saved};
+ghost use Rattle.unitwords.specs.Unit.{openingOf, openingNumber, acceptedIn, queueOf, sequenceOf, sequenceTag, argumentIn, loadedScreen, screenIn, loadedSerial, commonIn, serialIn, addressOf, addressIn, replyOf, replyTag, valueIn, replyIn, loadedHeader, headerIn, loadedPartial, lowIn, partialIn, loadedPhase, listening, sending, phaseIn, movedIn, loaded, settingsIn, savedIn, saved};
 use header::Header;
 use line::Listener;
 use line::Sender;
@@ -11,6 +11,8 @@ use phase::Partial;
 use phase::Phase;
 use phase::Progress;
 use queue::Queue;
+use screen::Screen;
+use screen::Sequence;
 use serial::Mode;
 use serial::Opening;
 use serial::Reply;
@@ -18,7 +20,7 @@ use serial::Serial;
 use unit::Unit;
 
 // The words of a unit, by name (specs/Layout.antt).
-pub const WORDS: usize = 23;
+pub const WORDS: usize = 32;
 
 pub type Words = [u32; WORDS];
 
@@ -90,6 +92,26 @@ pub const NEXT: usize = 16;
 // Sitting out: whether the pull of HSK stands.
 pub const LAST: usize = 14;
 
+// Its screen: the cursor, the modes, the protected lines, whether the cursor's address is asked for, the sequence that is being read and its
+// argument.
+pub const ROW: usize = 23;
+
+pub const COLUMN: usize = 24;
+
+pub const SCROLLS: usize = 25;
+
+pub const WRAPS: usize = 26;
+
+pub const TOP: usize = 27;
+
+pub const BOTTOM: usize = 28;
+
+pub const ASKED: usize = 29;
+
+pub const SEQUENCE: usize = 30;
+
+pub const ARGUMENT: usize = 31;
+
 // The unit that stands in the words.
 pub fn load(words: &Words) -> Unit
     ensures { λ r. ⌜ r ≡ loaded (now (words .entry)) ⌝ }
@@ -145,6 +167,23 @@ pub fn load_serial(words: &Words) -> Serial
         requesting: words::flag(words[REQUESTING]),
         input: queue(words[INPUT_HEAD], words[INPUT_COUNT]),
         output: queue(words[OUTPUT_HEAD], words[OUTPUT_COUNT]),
+        screen: load_screen(words),
+    }
+}
+
+// Its screen.
+pub fn load_screen(words: &Words) -> Screen
+    ensures { λ r. ⌜ r ≡ loadedScreen (now (words .entry)) ⌝ }
+{
+    Screen {
+        row: words::number8(words[ROW]),
+        column: words::number8(words[COLUMN]),
+        scrolls: words::flag(words[SCROLLS]),
+        wraps: words::flag(words[WRAPS]),
+        top: words::flag(words[TOP]),
+        bottom: words::flag(words[BOTTOM]),
+        asked: words::flag(words[ASKED]),
+        sequence: sequence(words[SEQUENCE], words[ARGUMENT]),
     }
 }
 
@@ -268,6 +307,14 @@ fn save_settings(words: &mut Words, u: Unit)
 fn save_serial(words: &mut Words, s: Serial)
     ensures { λ _. ⌜ now (words .exit) ≡ serialIn (now (words .entry)) s ⌝ }
 {
+    let screen = s.screen;
+    save_common(words, s);
+    save_screen(words, screen);
+}
+
+fn save_common(words: &mut Words, s: Serial)
+    ensures { λ _. ⌜ now (words .exit) ≡ commonIn (now (words .entry)) s ⌝ }
+{
     let input = s.input;
     let output = s.output;
     let o = s.opening;
@@ -287,6 +334,77 @@ fn save_serial(words: &mut Words, s: Serial)
     words[INPUT_COUNT] = input_count;
     words[OUTPUT_HEAD] = output_head;
     words[OUTPUT_COUNT] = output_count;
+}
+
+fn save_screen(words: &mut Words, s: Screen)
+    ensures { λ _. ⌜ now (words .exit) ≡ screenIn (now (words .entry)) s ⌝ }
+{
+    let q = s.sequence;
+    let row = words::with8(words[ROW], s.row);
+    let column = words::with8(words[COLUMN], s.column);
+    let scrolls = words::with_flag(words[SCROLLS], s.scrolls);
+    let wraps = words::with_flag(words[WRAPS], s.wraps);
+    let top = words::with_flag(words[TOP], s.top);
+    let bottom = words::with_flag(words[BOTTOM], s.bottom);
+    let asked = words::with_flag(words[ASKED], s.asked);
+    let sequence = words::with_tag(words[SEQUENCE], 5, sequence_tag(q));
+    let argument = with_argument(words[ARGUMENT], q);
+    words[ROW] = row;
+    words[COLUMN] = column;
+    words[SCROLLS] = scrolls;
+    words[WRAPS] = wraps;
+    words[TOP] = top;
+    words[BOTTOM] = bottom;
+    words[ASKED] = asked;
+    words[SEQUENCE] = sequence;
+    words[ARGUMENT] = argument;
+}
+
+// The sequence of two words.
+fn sequence(tag: u32, argument: u32) -> Sequence
+    ensures { λ r. ⌜ r ≡ sequenceOf tag argument ⌝ }
+{
+    let is_escape = tag == 1;
+    if is_escape {
+        return Sequence::Escape;
+    }
+    let is_row = tag == 2;
+    if is_row {
+        return Sequence::Row;
+    }
+    let is_column = tag == 3;
+    if is_column {
+        return Sequence::Column(words::number8(argument));
+    }
+    let skips = tag == 4;
+    if skips {
+        return Sequence::Skips(words::number8(argument));
+    }
+    Sequence::Plain
+}
+
+fn sequence_tag(q: Sequence) -> u32
+    ensures { λ n. ⌜ n ≡ sequenceTag q ⌝ }
+{
+    match q {
+        Sequence::Plain => 0,
+        Sequence::Escape => 1,
+        Sequence::Row => 2,
+        Sequence::Column(_) => 3,
+        Sequence::Skips(_) => 4,
+    }
+}
+
+fn with_argument(word: u32, q: Sequence) -> u32
+    ensures { λ n. ⌜ n ≡ argumentIn word q ⌝ }
+{
+    match q {
+        Sequence::Plain => word,
+        Sequence::Escape => word,
+        Sequence::Row => word,
+        Sequence::Column(row) => words::with8(word, row),
+        Sequence::Skips(n) => words::with8(word, n),
+    }
 }
 
 fn opening(word: u32, accepted: u32) -> Opening
@@ -367,7 +485,28 @@ pub fn reply(tag: u32, word: u32) -> Reply
     if is_polled {
         return Reply::Polled;
     }
+    let is_address = tag == 5;
+    if is_address {
+        return address(word);
+    }
     Reply::Silent
+}
+
+fn address(word: u32) -> Reply
+    ensures { λ r. ⌜ r ≡ addressOf word ⌝ }
+{
+    Reply::Address(
+        words::number8(word),
+        words::number8(word / 256),
+        words::number8(word / 65536),
+    )
+}
+
+fn with_address(word: u32, n: u8, row: u8, column: u8) -> u32
+    ensures { λ r. ⌜ r ≡ addressIn word n row column ⌝ }
+{
+    let number = n as u32 + 256 * row as u32 + 65536 * column as u32;
+    word / 16777216 * 16777216 + number
 }
 
 fn reply_tag(r: Reply) -> u32
@@ -379,6 +518,7 @@ fn reply_tag(r: Reply) -> u32
         Reply::Opened(_) => 2,
         Reply::Bytes(_) => 3,
         Reply::Polled => 4,
+        Reply::Address(_, _, _) => 5,
     }
 }
 
@@ -391,13 +531,14 @@ fn with_value(word: u32, r: Reply) -> u32
         Reply::Opened(accepted) => words::with8(word, accepted),
         Reply::Bytes(n) => words::with16(word, n),
         Reply::Polled => word,
+        Reply::Address(n, row, column) => with_address(word, n, row, column),
     }
 }
 
 fn save_reply(words: &mut Words, r: Reply)
     ensures { λ _. ⌜ now (words .exit) ≡ replyIn (now (words .entry)) r ⌝ }
 {
-    let reply = words::with_tag(words[REPLY], 5, reply_tag(r));
+    let reply = words::with_tag(words[REPLY], 6, reply_tag(r));
     let value = with_value(words[VALUE], r);
     words[REPLY] = reply;
     words[VALUE] = value;

@@ -8,7 +8,7 @@ abbrev Inv-loop : tie.InvT-loop
 Inv-loop out forms line words last₀ at₀ k₀ t13 last at k = Unit {0}
 
 abbrev μ-loop : tie.MeasureT-loop
-μ-loop out forms line words last₀ at₀ k₀ t13 last at k = 52 - k
+μ-loop out forms line words last₀ at₀ k₀ t13 last at k = 64 - k
 
 loop-holds : tie.Need-loop-holds Inv-loop μ-loop
 loop-holds c = search needs

@@ -10,7 +10,7 @@ returns : tie.Need-returns
 returns c = simp (c .before .if1 .taken, c .with-serial .ensures)
 
 returns-2 : tie.Need-returns-2
-returns-2 c = search needs
+returns-2 c = simp (c .if1 .left)
 
 pub raise-spec : {M : Type 1} → statement M
 raise-spec = tie.close (tie.spec with-serial-requires returns returns-2)

@@ -1,19 +1,20 @@
--- `kind::kind_of` meets its contract: the kind goes by the class.
-use borrow.Author.Needs.{needs}
-use mathlib.Core.Path.{_∙_, ap}
-use Rattle.kind.specs.Kinds.{kindIn, kindOf}
+-- `kind::kind_of` meets its contract: both ends of the range are tested.
+use borrow.Author.Tests.{le-leb, lt-leb}
+use Rattle.kind.specs.Kinds.{kindOf}
 use Rattle.kind.proofs.kind_of.Statement.{statement}
 use Rattle.kind.proofs.kind_of.Tie as tie
 
-class-of-requires : tie.Need-class-of-requires
-class-of-requires c κs = search needs
-
-kind-in-requires : tie.Need-kind-in-requires
-kind-in-requires c κs = search needs
-
 returns : tie.Need-returns
 unfolding kindOf
-returns c = c .kind-in .ensures ∙ ap kindIn (c .before .class-of .ensures)
+returns c = simp (le-leb, lt-leb, c .before .if1 .taken, c .if2 .taken)
+
+returns-2 : tie.Need-returns-2
+unfolding kindOf
+returns-2 c = simp (le-leb, lt-leb, c .before .if1 .taken, c .if2 .left)
+
+returns-3 : tie.Need-returns-3
+unfolding kindOf
+returns-3 c = simp (le-leb, lt-leb, c .if1 .left)
 
 pub kind-of-spec : {M : Type 1} → statement M
-kind-of-spec = tie.close (tie.spec class-of-requires kind-in-requires returns)
+kind-of-spec = tie.close (tie.spec returns returns-2 returns-3)

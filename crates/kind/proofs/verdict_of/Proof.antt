@@ -9,11 +9,14 @@ says-requires c κs = search needs
 returns : tie.Need-returns
 returns c = simp (c .before .if1 .taken) (c .says .ensures)
 
+reset-of-requires : tie.Need-reset-of-requires
+reset-of-requires c κs = search needs
+
 says-requires-2 : tie.Need-says-requires-2
 says-requires-2 c κs = search needs
 
 returns-2 : tie.Need-returns-2
-returns-2 c = simp (c .before .before .before .if1 .left, c .before .if2 .taken) (c .says2 .ensures)
+returns-2 c = simp (c .before .before .before .before .if1 .left, c .before .before .if2 .taken) (simp (← (c .before .reset-of .ensures)) (c .says2 .ensures))
 
 says-requires-3 : tie.Need-says-requires-3
 says-requires-3 c κs = search needs
@@ -33,6 +36,7 @@ verdict-of-spec =
     (tie.spec
     says-requires
     returns
+    reset-of-requires
     says-requires-2
     returns-2
     says-requires-3

@@ -21,6 +21,12 @@ enum-known-r-2 c = search needs
 queued-item-requires : tie.Need-queued-item-requires
 queued-item-requires c κs = search needs
 
+enum-known-r-3 : tie.Need-enum-known-r-3
+enum-known-r-3 c = search needs
+
+address-item-requires : tie.Need-address-item-requires
+address-item-requires c κs = search needs
+
 enum-told-3 : tie.Need-enum-told-3
 enum-told-3 c = search needs
 
@@ -37,7 +43,10 @@ returns-4 : tie.Need-returns-4
 returns-4 c = simp (c .before .before .r2 .given .1) (c .queued-item .ensures)
 
 returns-5 : tie.Need-returns-5
-returns-5 c = search needs
+returns-5 c = simp (c .before .before .r3 .given .1) (c .address-item .ensures)
+
+returns-6 : tie.Need-returns-6
+returns-6 c = search needs
 
 pub item-spec : {M : Type 1} → statement M
 item-spec =
@@ -49,9 +58,12 @@ item-spec =
     opened-item-requires
     enum-known-r-2
     queued-item-requires
+    enum-known-r-3
+    address-item-requires
     enum-told-3
     returns
     returns-2
     returns-3
     returns-4
-    returns-5)
+    returns-5
+    returns-6)

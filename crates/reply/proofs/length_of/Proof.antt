@@ -25,6 +25,15 @@ len-requires c κs = search needs
 least-requires : tie.Need-least-requires
 least-requires c κs = search needs
 
+enum-known-r-2 : tie.Need-enum-known-r-2
+enum-known-r-2 c = search needs
+
+cast-least-2 : tie.Need-cast-least-2
+cast-least-2 c = search needs
+
+least-requires-2 : tie.Need-least-requires-2
+least-requires-2 c κs = search needs
+
 enum-told-4 : tie.Need-enum-told-4
 enum-told-4 c = search needs
 
@@ -44,7 +53,13 @@ returns-4 c = (
 )
 
 returns-5 : tie.Need-returns-5
-returns-5 c = search needs
+returns-5 c = (
+  simp (c .before .before .r2 .given .1) (c .least2 .ensures),
+  omega (arith, c .least2 .ensures),
+)
+
+returns-6 : tie.Need-returns-6
+returns-6 c = search needs
 
 pub length-of-spec : {M : Type 1} → statement M
 length-of-spec =
@@ -57,9 +72,13 @@ length-of-spec =
     cast-least
     len-requires
     least-requires
+    enum-known-r-2
+    cast-least-2
+    least-requires-2
     enum-told-4
     returns
     returns-2
     returns-3
     returns-4
-    returns-5)
+    returns-5
+    returns-6)

@@ -3,23 +3,17 @@ use borrow.Author.Needs.{needs}
 use Rattle.rs232.proofs.by_closed.Statement.{statement}
 use Rattle.rs232.proofs.by_closed.Tie as tie
 
-at-requires : tie.Need-at-requires
-at-requires c κs = search needs
+requested-requires : tie.Need-requested-requires
+requested-requires c κs = search needs
 
-at-requires-2 : tie.Need-at-requires-2
-at-requires-2 c κs = search needs
-
-value-of-requires : tie.Need-value-of-requires
-value-of-requires c κs = search needs
-
-at-requires-3 : tie.Need-at-requires-3
-at-requires-3 c κs = search needs
+attributes-requires : tie.Need-attributes-requires
+attributes-requires c κs = search needs
 
 open-requires : tie.Need-open-requires
 open-requires c κs = search needs
 
 returns : tie.Need-returns
-returns c = simp (c .before .before .before .before .before .if1 .taken) (simp (← (c .before .before .before .before .at .ensures), ← (c .before .before .before .at2 .ensures), ← (c .before .before .value-of .ensures), ← (c .before .at3 .ensures)) (c .«open» .ensures))
+returns c = simp (c .before .before .before .if1 .taken) (simp (← (c .before .before .requested .ensures), ← (c .before .attributes .ensures)) (c .«open» .ensures))
 
 poll-requires : tie.Need-poll-requires
 poll-requires c κs = search needs
@@ -37,10 +31,8 @@ pub by-closed-spec : {M : Type 1} → statement M
 by-closed-spec =
     tie.close
     (tie.spec
-    at-requires
-    at-requires-2
-    value-of-requires
-    at-requires-3
+    requested-requires
+    attributes-requires
     open-requires
     returns
     poll-requires

@@ -8,7 +8,7 @@ abbrev Inv-loop : tie.InvT-loop
 Inv-loop forms line fit₀ at₀ k₀ fit at k = Unit {0}
 
 abbrev μ-loop : tie.MeasureT-loop
-μ-loop forms line fit₀ at₀ k₀ fit at k = 52 - k
+μ-loop forms line fit₀ at₀ k₀ fit at k = 64 - k
 
 next-requires : tie.Need-next-requires Inv-loop μ-loop
 next-requires c κs = search needs

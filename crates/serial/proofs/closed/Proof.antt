@@ -7,7 +7,7 @@ new-requires : tie.Need-new-requires
 new-requires c κs = search needs
 
 returns : tie.Need-returns
-returns c = simp (c .before .new .ensures)
+returns c = simp (c .before .before .new .ensures)
 
 pub closed-spec : {M : Type 1} → statement M
 closed-spec = tie.close (tie.spec new-requires returns)

@@ -42,8 +42,11 @@ element-copy-out-queue-4 c = search needs
 queue-requires-2 : tie.Need-queue-requires-2
 queue-requires-2 c κs = search needs
 
+load-screen-requires : tie.Need-load-screen-requires
+load-screen-requires c κs = search needs
+
 returns : tie.Need-returns
-returns c = simp (← (c .before .before .before .before .before .before .before .before .before .before .opening .ensures), ← (c .before .before .before .before .before .before .before .before .flag .ensures), ← (c .before .before .before .before .before .before .flag2 .ensures), ← (c .before .before .before .queue .ensures)) (simp (c .queue2 .ensures))
+returns c = simp (← (c .before .before .before .before .before .before .before .before .before .before .before .opening .ensures), ← (c .before .before .before .before .before .before .before .before .before .flag .ensures), ← (c .before .before .before .before .before .before .before .flag2 .ensures), ← (c .before .before .before .before .queue .ensures), ← (c .before .queue2 .ensures)) (simp (c .load-screen .ensures))
 
 pub load-serial-spec : {M : Type 1} → statement M
 load-serial-spec =
@@ -62,4 +65,5 @@ load-serial-spec =
     element-copy-out-queue-3
     element-copy-out-queue-4
     queue-requires-2
+    load-screen-requires
     returns)

@@ -24,8 +24,14 @@ returns-3 c = simp (c .before .before .before .if1 .left, c .before .before .if2
 returns-4 : tie.Need-returns-4
 returns-4 c = simp (c .before .before .before .if1 .left, c .before .before .if2 .left, c .before .if3 .left, c .if4 .taken)
 
+address-requires : tie.Need-address-requires
+address-requires c κs = search needs
+
 returns-5 : tie.Need-returns-5
-returns-5 c = simp (c .before .before .before .if1 .left, c .before .before .if2 .left, c .before .if3 .left, c .if4 .left)
+returns-5 c = simp (c .before .before .before .before .before .if1 .left, c .before .before .before .before .if2 .left, c .before .before .before .if3 .left, c .before .before .if4 .left, c .before .if5 .taken) (c .address .ensures)
+
+returns-6 : tie.Need-returns-6
+returns-6 c = simp (c .before .before .before .before .if1 .left, c .before .before .before .if2 .left, c .before .before .if3 .left, c .before .if4 .left, c .if5 .left)
 
 pub reply-spec : {M : Type 1} → statement M
 reply-spec =
@@ -38,4 +44,6 @@ reply-spec =
     number16-requires
     returns-3
     returns-4
-    returns-5)
+    address-requires
+    returns-5
+    returns-6)

@@ -27,6 +27,12 @@ with16-requires c κs = search needs
 enum-told-2 : tie.Need-enum-told-2
 enum-told-2 c = search needs
 
+enum-known-r-4 : tie.Need-enum-known-r-4
+enum-known-r-4 c = search needs
+
+with-address-requires : tie.Need-with-address-requires
+with-address-requires c κs = search needs
+
 returns : tie.Need-returns
 returns c = search needs
 
@@ -42,6 +48,9 @@ returns-4 c = simp (c .before .before .r3 .given .1) (c .with16 .ensures)
 returns-5 : tie.Need-returns-5
 returns-5 c = search needs
 
+returns-6 : tie.Need-returns-6
+returns-6 c = simp (c .before .before .r4 .given .1) (c .with-address .ensures)
+
 pub with-value-spec : {M : Type 1} → statement M
 with-value-spec =
     tie.close
@@ -54,8 +63,11 @@ with-value-spec =
     enum-known-r-3
     with16-requires
     enum-told-2
+    enum-known-r-4
+    with-address-requires
     returns
     returns-2
     returns-3
     returns-4
-    returns-5)
+    returns-5
+    returns-6)

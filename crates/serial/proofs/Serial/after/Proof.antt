@@ -42,8 +42,29 @@ enum-told-6 c = search needs
 stored-requires : tie.Need-stored-requires
 stored-requires c κs = search needs
 
+enum-known-e-2 : tie.Need-enum-known-e-2
+enum-known-e-2 c = search needs
+
+opened-screen-requires : tie.Need-opened-screen-requires
+opened-screen-requires c κs = search needs
+
+enum-told-7 : tie.Need-enum-told-7
+enum-told-7 c = search needs
+
+reset-screen-requires : tie.Need-reset-screen-requires
+reset-screen-requires c κs = search needs
+
+enum-told-8 : tie.Need-enum-told-8
+enum-told-8 c = search needs
+
+shown-requires : tie.Need-shown-requires
+shown-requires c κs = search needs
+
 returns : tie.Need-returns
-returns c = search needs
+returns c = (
+  simp (c .enum-told .given .1),
+  simp (c .enum-told .given .1),
+)
 
 returns-2 : tie.Need-returns-2
 returns-2 c = (
@@ -58,7 +79,10 @@ returns-3 c = (
 )
 
 returns-4 : tie.Need-returns-4
-returns-4 c = search needs
+returns-4 c = (
+  simp (c .before .enum-told3 .given .1) (c .new .ensures),
+  simp (c .before .enum-told3 .given .1),
+)
 
 returns-5 : tie.Need-returns-5
 returns-5 c = (
@@ -81,6 +105,33 @@ returns-7 c = (
   simp (c .before .before .before .before .enum-told6 .given .1) (c .before .before .stored .ensures .1),
 )
 
+same-length-2 : tie.Need-same-length-2
+same-length-2 c = search needs
+
+returns-8 : tie.Need-returns-8
+returns-8 c = (
+  simp (c .before .before .before .before .before .e2 .given .1) (c .before .before .opened-screen .ensures .0),
+  simp (c .before .before .before .before .before .e2 .given .1) (c .before .before .opened-screen .ensures .1),
+)
+
+same-length-3 : tie.Need-same-length-3
+same-length-3 c = search needs
+
+returns-9 : tie.Need-returns-9
+returns-9 c = (
+  simp (c .before .before .before .before .enum-told7 .given .1) (c .before .before .reset-screen .ensures .0),
+  simp (c .before .before .before .before .enum-told7 .given .1) (c .before .before .reset-screen .ensures .1),
+)
+
+same-length-4 : tie.Need-same-length-4
+same-length-4 c = search needs
+
+returns-10 : tie.Need-returns-10
+returns-10 c = (
+  simp (c .before .before .before .before .enum-told8 .given .1) (c .before .before .shown .ensures .0),
+  simp (c .before .before .before .before .enum-told8 .given .1) (c .before .before .shown .ensures .1),
+)
+
 pub after-spec : {M : Type 1} → statement M
 after-spec =
     tie.close
@@ -98,6 +149,12 @@ after-spec =
     disabled-requires
     enum-told-6
     stored-requires
+    enum-known-e-2
+    opened-screen-requires
+    enum-told-7
+    reset-screen-requires
+    enum-told-8
+    shown-requires
     returns
     returns-2
     returns-3
@@ -105,4 +162,10 @@ after-spec =
     returns-5
     returns-6
     same-length
-    returns-7)
+    returns-7
+    same-length-2
+    returns-8
+    same-length-3
+    returns-9
+    same-length-4
+    returns-10)

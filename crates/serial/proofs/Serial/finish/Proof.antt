@@ -21,23 +21,32 @@ shortened-requires c κs = search needs
 enum-told-4 : tie.Need-enum-told-4
 enum-told-4 c = search needs
 
+addressed-requires : tie.Need-addressed-requires
+addressed-requires c κs = search needs
+
+enum-told-5 : tie.Need-enum-told-5
+enum-told-5 c = search needs
+
 heard-requires : tie.Need-heard-requires
 heard-requires c κs = search needs
 
 returns : tie.Need-returns
-returns c = search needs
+returns c = simp (c .enum-told .given .1)
 
 returns-2 : tie.Need-returns-2
-returns-2 c = search needs
+returns-2 c = simp (c .enum-told2 .given .1)
 
 returns-3 : tie.Need-returns-3
-returns-3 c = search needs
+returns-3 c = simp (c .enum-told3 .given .1)
 
 returns-4 : tie.Need-returns-4
 returns-4 c = simp (c .before .before .r .given .1) (c .shortened .ensures)
 
 returns-5 : tie.Need-returns-5
-returns-5 c = simp (c .before .enum-told4 .given .1) (c .heard .ensures)
+returns-5 c = simp (c .before .enum-told4 .given .1) (c .addressed .ensures)
+
+returns-6 : tie.Need-returns-6
+returns-6 c = simp (c .before .enum-told5 .given .1) (c .heard .ensures)
 
 pub finish-spec : {M : Type 1} → statement M
 finish-spec =
@@ -49,9 +58,12 @@ finish-spec =
     enum-known-r
     shortened-requires
     enum-told-4
+    addressed-requires
+    enum-told-5
     heard-requires
     returns
     returns-2
     returns-3
     returns-4
-    returns-5)
+    returns-5
+    returns-6)

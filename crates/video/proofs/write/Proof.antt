@@ -1,0 +1,45 @@
+-- `video::write` meets its contract: each mode is a case of `writeBy`.
+use borrow.Author.Needs.{needs}
+use Rattle.video.proofs.write.Statement.{statement}
+use Rattle.video.proofs.write.Tie as tie
+
+enum-told : tie.Need-enum-told
+enum-told c = search needs
+
+status-requires : tie.Need-status-requires
+status-requires c κs = search needs
+
+enum-told-2 : tie.Need-enum-told-2
+enum-told-2 c = search needs
+
+says-requires : tie.Need-says-requires
+says-requires c κs = search needs
+
+enum-told-3 : tie.Need-enum-told-3
+enum-told-3 c = search needs
+
+says-requires-2 : tie.Need-says-requires-2
+says-requires-2 c κs = search needs
+
+returns : tie.Need-returns
+returns c = simp (c .before .enum-told .given .1) (c .status .ensures)
+
+returns-2 : tie.Need-returns-2
+returns-2 c = simp (c .before .enum-told2 .given .1) (c .says .ensures)
+
+returns-3 : tie.Need-returns-3
+returns-3 c = simp (c .before .enum-told3 .given .1) (c .says2 .ensures)
+
+pub write-spec : {M : Type 1} → statement M
+write-spec =
+    tie.close
+    (tie.spec
+    enum-told
+    status-requires
+    enum-told-2
+    says-requires
+    enum-told-3
+    says-requires-2
+    returns
+    returns-2
+    returns-3)
