@@ -66,7 +66,7 @@ frame-plain (Waiting f) u seen event lent response after e = absurd (false≢tru
 frame-plain (Sending f i sender wait) u seen event lent response after e = if-plain (sentOf sender (seen .hsk)) (sent (senderNibble sender))
 frame-plain (Listening f ear taken quiet) u seen event lent response after e = all-append (if-plain (takenOf ear (seen .hsk)) (heard (seen .nibble))) (ended-plain u (told event (cond (isSubmitted (f .kind)) after [])))
 
-round-same : (v : World) (busy : Busy) → inFrame (v .controller .stage) ≡ true → All Same (roundMarks v busy)
+pub round-same : (v : World) (busy : Busy) → inFrame (v .controller .stage) ≡ true → All Same (roundMarks v busy)
 round-same v busy e =
     all-map plain-same (all-append (units-plain (levels v) (busy .there) (v .units))
     (frame-plain (v .controller .stage) (round v busy .controller .stage) (levels v) (eventIn (v .controller) (levels v) (busy .here) (v .lent)) (v .lent) (v .response) (round v busy .response) e))

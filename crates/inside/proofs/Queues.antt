@@ -88,7 +88,7 @@ module _ (x : Inside) (c : Command) where
     fits : Answered (dataIn x (v .reply)) (replyStatus (v .reply)) (c .«buffer_length»)
 
   -- No data.
-  bare : (number : ℕ) → number < 256 → Answered [] number (c .«buffer_length»)
+  pub bare : (number : ℕ) → number < 256 → Answered [] number (c .«buffer_length»)
   bare number h = record { bytes = λ i. lit< tt; number = h; short = omega arith; fits = omega arith }
 
   good-status : (number : ℕ) (effect : Effect) → number < 256 → Good (says (Status number) effect)
@@ -104,7 +104,7 @@ module _ (x : Inside) (c : Command) where
   good-polled = record { stands = λ e o. refl; holds = λ e o. tt; fits = bare 0x00 (lit< tt) }
 
   -- An open's four bytes.
-  four-below : (a : ℕ) → Below 256 (a % 256 ∷ a / 256 % 256 ∷ 0 ∷ 0 ∷ [])
+  pub four-below : (a : ℕ) → Below 256 (a % 256 ∷ a / 256 % 256 ∷ 0 ∷ 0 ∷ [])
   four-below a zero = omega arith
   four-below a (suc zero) = omega arith
   four-below a (suc (suc zero)) = lit< tt

@@ -1,14 +1,13 @@
 -- The video unit is lawful: its checks are walked through once. It never has service, so that it holds no request, and its cursor stays on the
 -- unprotected lines.
 use Prim.Native.Nat.{ℕ, zero, suc, _/_, _<_, _≤_}
-use native.Mathlib.Nat.{min-le-left, min-le-right, le-trans}
 use native.Mathlib.Omega.{arith}
 use mathlib.Core.Bool.{Bool, true, false, cond, _&&_, _||_, true≢false, false≢true}
 use mathlib.Core.List.{List, [], _∷_}
 use mathlib.Core.Path.{_≡_, refl, sym, _∙_, ap, subst}
 use borrow.Author.Tests.{eqb-true, ne-eqb}
 use lib.Dec.{ltb, eqb, lit<, lit≤}
-use lib.ListN.{length, take, length-take}
+use lib.ListN.{length-take}
 use Rattle.field.specs.Field.{Below}
 use Rattle.frame.specs.Frame.{pollOf}
 use Rattle.header.specs.declared.Command.{Command}
@@ -38,13 +37,13 @@ use Rattle.serial.specs.declared.Reply.{Reply}
 use Rattle.serial.specs.declared.Reply.the-variants.{Silent, Status, Opened, Bytes, Address, Polled}
 use Rattle.serial.specs.declared.Serial.{Serial}
 use Rattle.serial.specs.declared.Verdict.{Verdict}
-use Rattle.video.specs.Checks.{refusedMode, openBy, addressBy, readBy, writeBy, openedBy, commandBy, supported, resetBy}
+use Rattle.video.specs.Checks.{refusedMode, openBy, addressBy, readBy, writeBy, commandBy, supported, resetBy}
 use Rattle.whole.specs.Back.{Answered}
 use Rattle.inside.specs.Calls.{HostCall, feeds, takes, raises, called, calledAll, stateAfter}
-use Rattle.inside.specs.Inside.{Inside, withState, isServed, hasRequest, replyOf, taken, responded, dataIn, clears}
+use Rattle.inside.specs.Inside.{Inside, withState, hasRequest, replyOf, taken, responded, dataIn, clears}
 use Rattle.inside.specs.Lawful.{ScreenFit, isEnding, Lawful}
 use Rattle.inside.proofs.Ors.{or-first, or-second, by-test, withCode}
-use Rattle.inside.proofs.Queues.{zero-silent, zero-keeps}
+use Rattle.inside.proofs.Queues.{zero-silent, zero-keeps, bare, four-below}
 
 -- The verdicts that it may give to a command in a state.
 record Each (s : Serial) (c : Command) (P : Verdict → Type 0) : Type 0 where
@@ -154,16 +153,6 @@ record Good (x : Inside) (c : Command) (v : Verdict) : Type 0 where
   fits : Answered (dataIn x (v .reply)) (replyStatus (v .reply)) (c .«buffer_length»)
 
 module _ (x : Inside) (c : Command) (on : On (x .state .screen)) where
-  bare : (number : ℕ) → number < 256 → Answered [] number (c .«buffer_length»)
-  bare number h = record { bytes = λ i. lit< tt; number = h; short = omega arith; fits = omega arith }
-
-  four-below : (a : ℕ) → Below 256 (dataIn x (Opened a))
-  four-below a zero = omega arith
-  four-below a (suc zero) = omega arith
-  four-below a (suc (suc zero)) = lit< tt
-  four-below a (suc (suc (suc zero))) = lit< tt
-  four-below a (suc (suc (suc (suc i)))) = lit< tt
-
   two-below : Below 256 (x .state .screen .row ∷ x .state .screen .column ∷ [])
   two-below zero = below-24 (x .state .screen .bottom) (on .above-bottom)
     where
@@ -174,10 +163,10 @@ module _ (x : Inside) (c : Command) (on : On (x .state .screen)) where
   two-below (suc (suc i)) = lit< tt
 
   good-status : (number : ℕ) (effect : Effect) → number < 256 → Good x c (says (Status number) effect)
-  good-status number effect h = record { stands = λ y. refl; fits = bare number h }
+  good-status number effect h = record { stands = λ y. refl; fits = bare x c number h }
 
   good-silent : (effect : Effect) → Good x c (says Silent effect)
-  good-silent effect = record { stands = λ y. refl; fits = bare 0xFF (lit< tt) }
+  good-silent effect = record { stands = λ y. refl; fits = bare x c 0xFF (lit< tt) }
 
   good-address : (n : ℕ) → n ≤ c .«buffer_length» → Good x c (says (Address n (x .state .screen .row) (x .state .screen .column)) Keeps)
   good-address n h =
@@ -190,7 +179,7 @@ module _ (x : Inside) (c : Command) (on : On (x .state .screen)) where
     silent = good-silent Keeps;
     resets = λ _. good-silent ResetsScreen;
     refuses = λ number h. good-status number Keeps h;
-    opened = λ m accepted h. record { stands = λ y. refl; fits = record { bytes = four-below accepted; number = lit< tt; short = omega arith; fits = h } };
+    opened = λ m accepted h. record { stands = λ y. refl; fits = record { bytes = four-below x c accepted; number = lit< tt; short = omega arith; fits = h } };
     closes = λ _. good-status 0x00 Closes (lit< tt);
     addresses = good-address;
     shows = good-status 0x00 Shows (lit< tt);

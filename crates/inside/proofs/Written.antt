@@ -15,7 +15,9 @@ use Rattle.queue.specs.Queue.{room}
 use Rattle.queue.proofs.Laws.{contents-with}
 use Rattle.reply.specs.Reply.{replyStatus}
 use Rattle.rs232.specs.Checks.{commandBy, writeBy}
+use Rattle.screen.proofs.Laws.{cut}
 use Rattle.screen.specs.Text.{withText, cellsAfter}
+use Rattle.screen.specs.declared.Screen.{Screen}
 use Rattle.serial.specs.Serial.{applied, outputAfter}
 use Rattle.serial.specs.Verdict.{says}
 use Rattle.serial.specs.declared.Effect.{Effect}
@@ -31,7 +33,7 @@ use Rattle.serial.specs.declared.Verdict.{Verdict}
 use Rattle.video.specs.Checks.{commandBy as screenBy, writeBy as shownBy}
 use Rattle.whole.specs.Whole.{storedOf}
 use Rattle.inside.specs.Inside.{Inside, takenFor}
-use Rattle.inside.specs.Written.{outgoing, StoredBehind, WrittenBehind, WrittenShown, WrittenNone}
+use Rattle.inside.specs.Written.{outgoing, StoredBehind, WrittenBehind, WrittenShown, WrittenTwice, WrittenNone}
 use Rattle.inside.proofs.Ors.{by-test, withCode}
 
 -- What is inside after an effect.
@@ -133,6 +135,14 @@ written-behind own x c d k l e s = written-by own x c d (kindOf own) (verdict ow
 
 pub written-shown : WrittenShown
 written-shown own x c d k e s = shown-by own x c d (kindOf own) (verdict own x c d) k refl (write-verdict (kindOf own) (x .state) c (length d) (storedOf d) e) s
+
+pub written-twice : WrittenTwice
+written-twice own x c a b k on e first second once =
+    let p = written-shown own x c a k e first in
+    let q = written-shown own (takenFor own x c a) c b k e second in
+    let r = written-shown own x c (a ++ b) k e once in
+    let law = cut (x .state .screen) a b (x .output) on in
+    (q .0 ∙ ap (λ (s : Screen). withText s b) (p .0) ∙ law .0 ∙ sym (r .0), q .1 ∙ (λ i. cellsAfter (p .0 i) b (p .1 i)) ∙ law .1 ∙ sym (r .1))
 
 pub written-none : WrittenNone
 written-none own x c d e s = kept-by own x c d (kindOf own) (verdict own x c d) refl (write-verdict (kindOf own) (x .state) c (length d) (storedOf d) e) s

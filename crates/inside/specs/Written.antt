@@ -10,6 +10,7 @@ use Rattle.kind.specs.declared.Kind.{Kind}
 use Rattle.kind.specs.declared.Kind.the-variants.{Serial as SerialUnit, Video as VideoUnit}
 use Rattle.queue.specs.Queue.{contents, room}
 use Rattle.reply.specs.Reply.{replyStatus}
+use Rattle.screen.specs.Screen.{On}
 use Rattle.screen.specs.Text.{withText, cellsAfter}
 use Rattle.serial.specs.declared.Effect.the-variants.{Stores}
 use Rattle.inside.specs.Inside.{Inside, taken, replyFor, takenFor}
@@ -45,6 +46,20 @@ WrittenShown =
     → c .command ≡ 0x04
     → replyStatus (replyFor own x c d) ≡ 0x00
     → (takenFor own x c d .state .screen ≡ withText (x .state .screen) d) × (takenFor own x c d .output ≡ cellsAfter (x .state .screen) d (x .output))
+
+-- Change request P13: "Writing a text in two writes cut inside an escape sequence gives the screen that one write gives". So it is for every
+-- cut, where all three writes are accepted and the cursor is where one can be, as in every run (`Fit`).
+abbrev pub WrittenTwice : Type 0
+WrittenTwice =
+    (own : ℕ) (x : Inside) (c : Command) (a b : List ℕ)
+    → kindOf own ≡ VideoUnit
+    → On (x .state .screen)
+    → c .command ≡ 0x04
+    → replyStatus (replyFor own x c a) ≡ 0x00
+    → replyStatus (replyFor own (takenFor own x c a) c b) ≡ 0x00
+    → replyStatus (replyFor own x c (a ++ b)) ≡ 0x00
+    → let twice = takenFor own (takenFor own x c a) c b in
+    let once = takenFor own x c (a ++ b) in (twice .state .screen ≡ once .state .screen) × (twice .output ≡ once .output)
 
 -- A write with any other answer, or with none, leaves all that is inside the unit.
 abbrev pub WrittenNone : Type 0

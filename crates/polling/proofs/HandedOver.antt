@@ -52,15 +52,15 @@ settled-in : {l : Capture} {own : ℕ} (p : Part l own) (x : Inside) → Has (se
 settled-in {l} {own = own} p x h = has-all (settled-once l own (p .inside)) (subst (Has (settled x)) (sym (p .in-order .1)) (has-left (p .in-order .0) h))
 
 -- The application is told once in a frame, at its end, behind the whole command.
-abbrev Told : Event → Act → Type 0
+abbrev pub Told : Event → Act → Type 0
 Told end (sent n) = Unit
 Told end (heard n) = Unit
 Told end (told e buffer) = e ≡ end
 
-abbrev endOf : Capture → Answerer → Event
+abbrev pub endOf : Capture → Answerer → Event
 endOf l a = eventTold (l .frame .kind) (l .frame .command .device) (statusBy l a) (length (dataBy l a))
 
-told-once : (l : Capture) (a : Answerer) → All (Told (endOf l a)) (actsOf l a)
+pub told-once : (l : Capture) (a : Answerer) → All (Told (endOf l a)) (actsOf l a)
 told-once l a = all-append (all-mapped sent (λ n. tt) (message l)) (all-append (all-mapped heard (λ n. tt) (heardBy l a)) (also refl none))
 
 abbrev isTold : List Act → Bool
@@ -79,7 +79,7 @@ told-last (n ∷ ns) (x ∷ row) more rest q here = absurd (false≢true (ap isT
 told-last (n ∷ ns) (x ∷ row) more rest q (there h) = let less = told-last ns row more rest (ap tail q) h in omega arith
 
 -- Who answers.
-spoken-by : {l : Capture} {own : ℕ} {x : Inside} {codes : List ℕ} → One (Speaks l own x) (Hushes l) codes → (code : ℕ) × Speaks l own x code
+pub spoken-by : {l : Capture} {own : ℕ} {x : Inside} {codes : List ℕ} → One (Speaks l own x) (Hushes l) codes → (code : ℕ) × Speaks l own x code
 spoken-by (this {x = code} p a) = (code, p)
 spoken-by (that q o) = spoken-by o
 

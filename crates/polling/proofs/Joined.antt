@@ -9,15 +9,15 @@ use lib.Dec.{eqb, ltb, leb·suc-suc}
 use lib.ListN.{length}
 use Rattle.controller.specs.declared.Controller.{Controller}
 use Rattle.delivery.specs.Calls.{Call, host, submits as submitsTo, acknowledges as acknowledgesTo, lends, lendsUnit, called, inFrame, running}
-use Rattle.delivery.specs.Demand2.{Answerer, nobody, unit, Answers, Hushes, Speaks, Ended as Complete, Delivered, all-ended, one-runs, TellsEnds, nothing, of-a-frame, message, replyTo, statusBy, dataBy, heardBy, eventTold, actsOf}
-use Rattle.delivery.specs.Lists.{All, none, also, One, this, that, Has, here, there}
-use Rattle.delivery.specs.Log.{Act, sent, heard, told, settled, Mark, begins, acts, does as did, asks, submitted, roundMarks, callMarks, toldIn, log, Capture, withMark as noted, cutAll, framesOf, actIn, actsIn, deedsIn}
+use Rattle.delivery.specs.Demand2.{Answerer, nobody, unit, Answers, Speaks, Ended as Complete, Delivered, all-ended, one-runs, TellsEnds, nothing, of-a-frame, replyTo, statusBy, dataBy, eventTold}
+use Rattle.delivery.specs.Lists.{also, that, Has, here, there}
+use Rattle.delivery.specs.Log.{Act, told, settled, Mark, begins, acts, does as did, asks, submitted, roundMarks, callMarks, log, Capture, withMark as noted, cutAll, framesOf, actIn, actsIn, deedsIn}
 use Rattle.delivery.specs.Run.{QuietStart, Run, start, a-round, a-call, codesOf}
-use Rattle.delivery.specs.World.{World, Busy, levels, round, outcome}
-use Rattle.delivery.proofs.Captured.{Frames, at-rest, in-one, frame-plain, frames-run}
+use Rattle.delivery.specs.World.{World, Busy, round, outcome}
+use Rattle.delivery.proofs.Captured.{Frames, at-rest, in-one, round-same, frames-run}
 use Rattle.delivery.proofs.Demand2.{demand-2}
-use Rattle.delivery.proofs.Lists.{all-map, has-all, has-left, has-right}
-use Rattle.delivery.proofs.Logs.{Same, plain-same, all-append, units-plain, grown, acts-append, deeds-append, cut-append, cut-same}
+use Rattle.delivery.proofs.Lists.{has-all, has-left, has-right}
+use Rattle.delivery.proofs.Logs.{grown, acts-append, deeds-append, cut-append, cut-same}
 use Rattle.delivery.proofs.Promised.{Moment}
 use Rattle.delivery.proofs.Running.{frame-running, isFrame, firstOf}
 use Rattle.frame.specs.declared.Frame.{Frame}
@@ -25,7 +25,6 @@ use Rattle.frame.specs.declared.Kind.{Kind}
 use Rattle.frame.specs.declared.Kind.the-variants.{Submitted, Poll, Null}
 use Rattle.frame.specs.declared.Stage.{Stage}
 use Rattle.frame.specs.declared.Stage.the-variants.{Free, Resting, Waiting, Sending, Listening}
-use Rattle.inside.specs.Inside.{Inside}
 use Rattle.reply.specs.Reply.{replyStatus}
 use Rattle.ring.specs.Ring.{entryOf, live, ringOf, placeOf, isIn, cutAt, joined, removed, turned, markAt, withMark}
 use Rattle.ring.specs.declared.Entry.{Entry}
@@ -39,6 +38,7 @@ use Rattle.polling.specs.History.{isDone, isEnabling}
 use Rattle.polling.specs.Joined.{JoinsNow, JoinsOnly, Accepted, JoinedByAnswer, Refusers}
 use Rattle.polling.specs.Moves.{Move, submits, acknowledges, after, inRing, told as toldBy, eventOf}
 use Rattle.polling.proofs.Does.{none-runs, Does, keeps, accepts, serves, frame-ends, clears, does}
+use Rattle.polling.proofs.HandedOver.{told-once, spoken-by}
 use Rattle.polling.proofs.OnTheBus.{addressed-own}
 use Rattle.polling.proofs.Turns.{short-joined, short-removed, short-marked, short-turned}
 
@@ -214,29 +214,10 @@ cut-on (submitted k d response ∷ ms) p = cut-on ms (noted-on (submitted k d re
 log-on : {own : ℕ} (before more : List Mark) → Answered own (framesOf before) → Answered own (framesOf (before ++ more))
 log-on {own} before more p = subst (Answered own) (sym (cut-append [] before more)) (cut-on more p)
 
--- What is told at the end of a frame stands in it, once.
-abbrev Told : Event → Act → Type 0
-Told end (sent n) = Unit
-Told end (heard n) = Unit
-Told end (told e buffer) = e ≡ end
-
-all-mapped : {P : Act → Type 0} (f : ℕ → Act) → ((n : ℕ) → P (f n)) → (ns : List ℕ) → All P (map f ns)
-all-mapped f p [] = none
-all-mapped f p (n ∷ ns) = also (p n) (all-mapped f p ns)
-
-abbrev endOf : Capture → Answerer → Event
-endOf l a = eventTold (l .frame .kind) (l .frame .command .device) (statusBy l a) (length (dataBy l a))
-
-told-once : (l : Capture) (a : Answerer) → All (Told (endOf l a)) (actsOf l a)
-told-once l a = all-append (all-mapped sent (λ n. tt) (message l)) (all-append (all-mapped heard (λ n. tt) (heardBy l a)) (also refl none))
-
+-- What is told at the end of a frame stands in it.
 acts-has : {a : Act} {ms : List Mark} → Has (acts a) ms → Has a (actsIn ms)
 acts-has here = here
 acts-has (there {y = m} h) = has-right (actIn m) (acts-has h)
-
-spoken-by : {l : Capture} {own : ℕ} {x : Inside} {codes : List ℕ} → One (Speaks l own x) (Hushes l) codes → (code : ℕ) × Speaks l own x code
-spoken-by (this {x = code} p a) = (code, p)
-spoken-by (that q o) = spoken-by o
 
 -- An enabling that has ended, and was told with 00: its unit has answered so.
 ended-accepted : (own count : ℕ) (buffer codes : List ℕ) (l : Capture) → isEnabling own (l .frame) → (own ≡ 0 → ⊥) → Complete codes l
@@ -287,11 +268,6 @@ module _ {w v : World} (q : QuietStart w) (r : Run w v) (busy : Busy) (own : ℕ
   in-frame : inFrame (v .controller .stage) ≡ true
   in-frame = runs-frame (v .controller .stage) ∙ ap isFrame (j .runs)
 
-  same : All Same marks
-  same =
-      all-map plain-same (all-append (units-plain (levels v) (busy .there) (v .units))
-      (frame-plain (v .controller .stage) (next .controller .stage) (levels v) (toldIn v busy) (v .lent) (v .response) (next .response) in-frame))
-
   tells : TellsEnds (outcome v busy) marks → (buffer : List ℕ) × Has (acts (told (Ended 0x00 (j .count)) buffer)) marks
   tells (nothing given) = absurd (false≢true (ap isDone (sym (ap toldBy given) ∙ j .told)))
   tells (of-a-frame e buffer given h) = (buffer, subst (λ (x : Event). Has (acts (told x buffer)) marks) (sym (ap toldBy given) ∙ j .told) h)
@@ -299,7 +275,7 @@ module _ {w v : World} (q : QuietStart w) (r : Run w v) (busy : Busy) (own : ℕ
   by-frames : {T : Moment} {ls : List Capture} → Frames T v ls → Delivers (cutAll ls marks) → Answered own (cutAll ls marks)
   by-frames (at-rest e a) k = absurd (true≢false (sym in-frame ∙ e))
   by-frames (in-one {l = l} {ls = ls} s a) k =
-      let now : cutAll (l ∷ ls) marks ≡ grown l marks ∷ ls = cut-same l ls same in
+      let now : cutAll (l ∷ ls) marks ≡ grown l marks ∷ ls = cut-same l ls (round-same v busy in-frame) in
       let over : inFrame (next .controller .stage) ≡ false = runs-frame (next .controller .stage) ∙ ap isFrame (j .over) in
       let complete : Complete (codesOf (next .units)) (grown l marks) = first-ended over (subst Delivers now k) in
       let frame : j .frame ≡ l .frame = ap (firstOf (l .frame)) (sym (j .runs) ∙ frame-running (s .frame)) in
