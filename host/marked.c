@@ -59,7 +59,7 @@ static bool answers(hexbus_event e, uint8_t status, const uint8_t *data, size_t 
 static void opening(const char *name, uint8_t length, uint8_t attributes, size_t n, uint8_t status)
 {
     const uint8_t data[3] = { length, 0, attributes };
-    const uint8_t accepted[4] = { (uint8_t)(length == 0 ? 80 : length), 0, 0, 0 };
+    const uint8_t accepted[4] = { (uint8_t)(length == 0 ? 128 : length), 0, 0, 0 };
     hexbus_event e;
 
     make_bus();

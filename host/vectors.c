@@ -157,7 +157,10 @@ static bool untouched_from(const struct lent *m, size_t n)
 
 /* ---- Messages ---------------------------------------------------------- */
 
-/* A command's five fields, or a response's status; data; bytes. The first four: source document 000, 7.1 and 7.2. */
+/*
+ * A command's five fields, or a response's status; data; bytes. The first four: source document 000, 7.1 and 7.2. As messages they hold, but no
+ * unit answers 7.1 so: its options are refused, and a requested length of 0 accepts 128 (02, P5), not 80.
+ */
 static const struct row messages[] = {
     { "command 20 00 1 0 4", "00 00 80 42 3D 34 38 30 30 2C 50 3D 4F", "14 00 01 00 00 04 00 0D 00 00 00 80 42 3D 34 38 30 30 2C 50 3D 4F" },
     { "response 00", "50 00 00 00", "04 00 50 00 00 00 00" },
@@ -465,11 +468,31 @@ static const struct row unit_rows[] = {
     { "frame 14 00 00 00 00 FF FF 03 00 01 00 DF", " 04 00 01 00 00 00 00 in 155", "update 1 in 0 out 0" },
     { "frame 14 00 00 00 00 00 00 00 00", " 00 00 05 in 99", NULL }, { "frame 14 01 00 00 00 00 00 00 00", " 00 00 00 in 99", "closed 0 in 0 out 0" },
     /* open for input, for output */
-    { "frame 14 00 00 00 00 04 00 03 00 00 00 40", " 04 00 50 00 00 00 00 in 155", "input 80 in 0 out 0" },
+    { "frame 14 00 00 00 00 04 00 03 00 00 00 40", " 04 00 80 00 00 00 00 in 155", "input 128 in 0 out 0" },
     { "frame 14 04 00 00 00 00 00 01 00 41", " 00 00 0E in 107", NULL }, { "frame 14 04 00 00 00 00 00 00 00", " 00 00 0E in 99", NULL },
     { "frame 14 01 00 00 00 00 00 00 00", " 00 00 00 in 99", "closed 0 in 0 out 0" },
     { "frame 14 00 00 00 00 04 00 03 00 50 00 80", " 04 00 50 00 00 00 00 in 155", "output 80 in 0 out 0" },
     { "feed 41", "7", NULL }, { "raise", "7", NULL },
+    { "frame 14 01 00 00 00 00 00 00 00", " 00 00 00 in 99", "closed 0 in 0 out 0" },
+    /* requested length 0 (02, P5): 128 bytes are read at once, the 129th is not; 80 by name is 80; buffer 3 and an option byte as before */
+    { "frame 14 00 00 00 00 03 00 03 00 00 00 C0", " 00 00 0C in 123", NULL },
+    { "frame 14 00 00 00 00 04 00 04 00 00 00 C0 42", " 00 00 01 in 131", NULL },
+    { "frame 14 00 00 00 00 04 00 03 00 00 00 C0", " 04 00 80 00 00 00 00 in 155", "update 128 in 0 out 0" },
+    { "feed 100*20", "0", "update 128 in 100 out 0" },
+    { "frame 14 03 00 00 00 80 00 00 00", " 64 00 100*20 00 in 899", "update 128 in 0 out 0" },
+    { "feed 100*20", "0", "update 128 in 100 out 0" },
+    { "frame 14 03 00 00 00 50 00 00 00", " 50 00 80*20 00 in 739", "update 128 in 20 out 0" },
+    { "frame 14 03 00 00 00 50 00 00 00", " 14 00 20*70 00 in 259", "update 128 in 0 out 0" },
+    { "feed 128*20", "0", "update 128 in 128 out 0" },
+    { "frame 14 03 00 00 00 FF FF 00 00", " 80 00 128*20 00 in 1123", "update 128 in 0 out 0" },
+    { "feed 129*20", "0", "update 128 in 129 out 0" },
+    { "frame 14 03 00 00 00 FF FF 00 00", " 80 00 128*20 00 in 1123", "update 128 in 1 out 0" },
+    { "frame 14 03 00 00 00 FF FF 00 00", " 01 00 A0 00 in 107", "update 128 in 0 out 0" },
+    { "frame 14 01 00 00 00 00 00 00 00", " 00 00 00 in 99", "closed 0 in 0 out 0" },
+    { "frame 14 00 00 00 00 04 00 03 00 50 00 40", " 04 00 50 00 00 00 00 in 155", "input 80 in 0 out 0" },
+    { "feed 100*20", "0", "input 80 in 100 out 0" },
+    { "frame 14 03 00 00 00 80 00 00 00", " 50 00 80*20 00 in 739", "input 80 in 20 out 0" },
+    { "frame 14 03 00 00 00 80 00 00 00", " 14 00 20*70 00 in 259", "input 80 in 0 out 0" },
     { "frame 14 01 00 00 00 00 00 00 00", " 00 00 00 in 99", "closed 0 in 0 out 0" },
     /* data of 256 and more: all is handshaken; 0D goes before 08 */
     { "frame 14 0D 00 00 00 00 00 00 01 256*00", " 00 00 0D in 2147", NULL }, { "frame 14 0D 00 00 00 00 00 01 01 257*00", " 00 00 0D in 2155", NULL },
@@ -830,7 +853,7 @@ static const struct row video_rows[] = {
     { "cells", "blank", NULL }, { "frame 1E 00 00 00 00 00 00 00 00", " 00 00 05 in 99", NULL },
     { "frame 1E 00 " DATA_257, " 00 00 08 in 2155", NULL },
     { "frame 1E 01 00 00 00 00 00 02 00 41 42", " 00 00 00 in 115", "closed 0 in 0 out 0 at 0 0" },
-    { "frame 1E 00 00 00 00 04 00 03 00 00 00 DF", OPENED_30, "update 80 in 0 out 0 at 0 0" },
+    { "frame 1E 00 00 00 00 04 00 03 00 00 00 DF", " 04 00 80 00 00 00 00 in 155", "update 128 in 0 out 0 at 0 0" },
     { "frame 1E 01" ZEROS, " 00 00 00 in 99", "closed 0 in 0 out 0 at 0 0" }, { "paint", "", NULL },
     { "frame 1E 00 00 00 00 FF FF 03 00 80 00 9F", " 04 00 80 00 00 00 00 in 155", "output 128 in 0 out 0 at 0 0" }, { "cells", "blank", NULL },
     /* write (4.2.4): the text goes to the screen when its last nibble is taken; over 256 bytes none does */

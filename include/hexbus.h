@@ -101,7 +101,8 @@ enum {
     HEXBUS_UPDATE = 3
 };
 
-/* What may be looked at in a unit: open and for what, the accepted length (0 while closed), queued bytes; enabled and requesting, 0 or 1. */
+/* What may be looked at in a unit: open and for what, the accepted length (0 while closed), queued bytes; enabled and requesting, 0 or 1.
+ * A read brings at most the accepted length. It is what the open requests, 1 to 128; an open that requests 0 is accepted with 128. */
 typedef struct {
     uint32_t opening;
     uint32_t accepted_length;

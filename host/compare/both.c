@@ -202,6 +202,7 @@ static bool step_unit(struct station *s, const struct call *c, bool bav, bool hs
     size_t lent = c->output_lacks != 0 ? needed - 1 - (c->output_lacks - 1u) % needed : c->exact_room ? needed : SCREEN_ROOM;
     struct memory *one = &s->lib_lent, *two = &s->two_lent;
     uint32_t before[HEXBUS_UNIT_WORDS], answer;
+    bool was_closed = s->two.mode == SECOND_CLOSED;
     int other;
 
     if (!ready_unit(s, c->garble, before))
@@ -209,6 +210,10 @@ static bool step_unit(struct station *s, const struct call *c, bool bav, bool hs
     answer = hexbus_unit_step(&s->lib.unit, bav, hsk, nibble, busy, one->command.bytes, room, one->input.bytes, one->output.bytes,
                               lent);
     other = second_unit_step(&s->two, seen, busy && broken != FORGETS_BUSY, two->command.bytes, room, two->input.bytes, two->output.bytes, lent);
+    if (broken == TAKES_0_FOR_80 && was_closed && s->two.mode != SECOND_CLOSED && two->command.bytes[0] == 0)
+        s->two.accepted = 80;
+    if (broken == ANSWERS_80 && s->two.answer_length > 80)
+        s->two.answer_length = 80;
     if (broken == CLEARS_UNUSED_BITS)
         s->lib.unit.word[UNIT_ASKING] &= FLAG;
     if (broken == WRITES_A_TAG_AGAIN && s->lib.unit.word[UNIT_PHASE] >= PHASES)

@@ -42,7 +42,7 @@ static inline uint8_t random_byte(void)
 
 /* What is done wrong on purpose. */
 enum broken_by { NOTHING, FORGETS_BUSY, LATE_TIME_OUT, FEEDS_OTHER_BYTE, CLEARS_UNUSED_BITS, WRITES_PAST_A_BUFFER, LOOKS_AT_UNUSED_BITS,
-                 WRITES_A_TAG_AGAIN, FORGETS_A_SEQUENCE, KEEPS_AN_ADDRESS, WRITES_PAST_A_SCREEN };
+                 WRITES_A_TAG_AGAIN, FORGETS_A_SEQUENCE, KEEPS_AN_ADDRESS, WRITES_PAST_A_SCREEN, TAKES_0_FOR_80, ANSWERS_80 };
 
 #ifdef BROKEN
 extern enum broken_by broken;

@@ -25,7 +25,7 @@ struct second_command random_command(const struct trial *t, const struct bench *
     k.command = random_command_code(known ? b->station[at].two.mode != SECOND_CLOSED : one_in(2));
     k.logical_unit = random_byte();
     k.record = (uint16_t)random_word();
-    k.buffer_length = (uint16_t)(one_in(6) ? below(300) : below(9));
+    k.buffer_length = (uint16_t)(one_in(k.command == 0x03 ? 2 : 6) ? below(300) : below(9));
     if (t->eager && t->kind == ONE_CONTROLLER) {
         k.device = random_byte();
         k.command = one_in(9) ? k.command : 0x08;
@@ -415,7 +415,7 @@ static void random_start(struct start *f, uint8_t code)
     f->mode = (uint8_t)(one_in(3) ? below(4) : SECOND_UPDATE);
     if (f->mode == SECOND_CLOSED)
         return;
-    f->accepted = (uint8_t)(1 + below(128));
+    f->accepted = (uint8_t)(one_in(2) ? 128 : 1 + below(128));
     f->enabled = one_in(2);
     f->requesting = f->enabled && one_in(2);
     f->input_head = random_byte();

@@ -207,7 +207,7 @@ static void check_open(void)
         { { 0x50, 0, 0x00 }, 3, 0x13, 0, 4 },              /* M5 */
         { { 0x50, 0, 0xE0 }, 3, 0x11, 0, 4 },              /* M5 */
         { { 0x50, 0, 0x20 }, 3, 0x13, 0, 4 },              /* append before relative */
-        { { 0x00, 0, 0x40 }, 3, 0x00, 80, 4 },             /* M6 */
+        { { 0x00, 0, 0x40 }, 3, 0x00, 128, 4 },            /* M6 with P5 */
         { { 0x80, 0, 0x80 }, 3, 0x00, 128, 4 },            /* M6 */
         { { 0x81, 0, 0xC0 }, 3, 0x0C, 0, 4 },              /* M6 */
         { { 0x00, 1, 0xC0 }, 3, 0x0C, 0, 4 },
@@ -256,7 +256,7 @@ static void check_read(void)
     rig_make(&rig, 200, 20);
     CHECK(second_unit_feed(&station->unit, station->input, 0x41) == 7);
     CHECK(rig_status(&rig, 20, 0x03, 5, NULL, 0) == 0x04);
-    rig_open(&rig, 20, 0xC0);
+    CHECK(rig_status(&rig, 20, 0x00, 4, update_80, 3) == 0);
     feed(station, "ABC");
     event = rig_send(&rig, 20, 0x03, 5, NULL, 0);
     CHECK(event.what == SECOND_ENDED && event.value == 0 && event.count == 3);
@@ -275,6 +275,19 @@ static void check_read(void)
     event = rig_send(&rig, 20, 0x03, 300, NULL, 0);
     CHECK(event.count == 80 && rig.response[79] == 79);
     CHECK(second_unit_look(&station->unit).input_count == 176);
+
+    /* Opened with 0, a record of 100 bytes is read at once (P5), and of 129 bytes 128. */
+    CHECK(rig_status(&rig, 20, 0x01, 0, NULL, 0) == 0);
+    rig_open(&rig, 20, 0x40);
+    for (unsigned i = 0; i < 100; i++)
+        CHECK(second_unit_feed(&station->unit, station->input, (uint8_t)(i + 1)) == 0);
+    event = rig_send(&rig, 20, 0x03, 128, NULL, 0);
+    CHECK(event.count == 100 && rig.response[0] == 1 && rig.response[99] == 100);
+    for (unsigned i = 0; i < 129; i++)
+        CHECK(second_unit_feed(&station->unit, station->input, (uint8_t)i) == 0);
+    event = rig_send(&rig, 20, 0x03, 300, NULL, 0);
+    CHECK(event.count == 128 && rig.response[127] == 127);
+    CHECK(second_unit_look(&station->unit).input_count == 1);
 
     /* M8. Close: the input queue is emptied. */
     CHECK(rig_status(&rig, 20, 0x01, 0, NULL, 0) == 0);
@@ -902,7 +915,7 @@ static void check_video(void)
         { { 0x81, 0, 0xE0 }, 3, 0x11, 0, 3 }, { { 0x50, 0, 0xA0 }, 3, 0x11, 0, 4 },
         { { 0x81, 0, 0xC0, 'R' }, 4, 0x0C, 0, 4 }, { { 0x50, 0, 0xC0, 'R' }, 4, 0x0C, 0, 3 },
         { { 0x50, 0, 0xC0, 'R' }, 4, 0x01, 0, 4 }, { { 0x80, 0, 0x9F }, 3, 0x00, 128, 4 },
-        { { 0x00, 0, 0xC0 }, 3, 0x00, 80, 4 },
+        { { 0x00, 0, 0xC0 }, 3, 0x00, 128, 4 },
     };
     static uint8_t data[257];
     struct rig rig;

@@ -28,7 +28,7 @@ enum {
 enum {
     RETRY_LEAST = 4,
     RETRY_MOST = 65535,
-    DEFAULT_LENGTH = 80,
+    DEFAULT_LENGTH = 128,        /* document 02, P5; 000 and document 01 had 80 */
     LONGEST_LENGTH = 128,
     OPEN_BYTES = 3,
     OPEN_ANSWER = 4,

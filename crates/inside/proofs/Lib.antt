@@ -7,3 +7,4 @@ pub mod VideoUnit
 pub mod Lawful
 pub mod Round
 pub mod Written
+pub mod Read

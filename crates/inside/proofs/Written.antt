@@ -37,7 +37,7 @@ use Rattle.inside.specs.Written.{outgoing, StoredBehind, WrittenBehind, 
 use Rattle.inside.proofs.Ors.{by-test, withCode}
 
 -- What is inside after an effect.
-abbrev by-effect : Inside → List ℕ → Effect → Inside
+abbrev pub by-effect : Inside → List ℕ → Effect → Inside
 by-effect x d effect = record { state = applied (x .state) effect d; input = x .input; output = outputAfter (x .state) effect d (x .output) }
 
 pub stored-behind : StoredBehind
@@ -88,13 +88,13 @@ write-checked VideoUnit s c n d =
 write-verdict : (kind : Kind) (s : Serial) (c : Command) (n : ℕ) (d : List ℕ) → c .command ≡ 0x04 → Write n (room (s .output)) kind (verdictOf kind s c n d)
 write-verdict kind s c n d e = subst (λ (code : ℕ). Write n (room (s .output)) kind (verdictOf kind s (withCode c code) n d)) (sym e) (write-checked kind s c n d)
 
-module _ (own : ℕ) (x : Inside) (c : Command) (d : List ℕ) where
-  abbrev verdict : Verdict
-  verdict = verdictOf (kindOf own) (x .state) c (length d) (storedOf d)
+-- Data of up to 256 bytes is stored as a whole.
+pub whole : (d : List ℕ) → length d ≤ 256 → storedOf d ≡ d
+whole d short = ap (λ (t : Bool). cond t [] d) (le-ltb 256 (length d) short)
 
-  -- Data of up to 256 bytes is stored as a whole.
-  whole : length d ≤ 256 → storedOf d ≡ d
-  whole short = ap (λ (t : Bool). cond t [] d) (le-ltb 256 (length d) short)
+module _ (own : ℕ) (x : Inside) (c : Command) (d : List ℕ) where
+  abbrev pub verdict : Verdict
+  verdict = verdictOf (kindOf own) (x .state) c (length d) (storedOf d)
 
   abbrev IsKind : Kind → Kind → Type 0
   IsKind SerialUnit SerialUnit = Unit
@@ -109,8 +109,8 @@ module _ (own : ℕ) (x : Inside) (c : Command) (d : List ℕ) where
   written-by : (kind : Kind) (v : Verdict) → kind ≡ SerialUnit → verdict ≡ v → Write (length d) (room (x .state .output)) kind v → 256 ≤ length (x .output) → replyStatus (verdict .reply) ≡ 0x00 → outgoing (takenFor own x c d) ≡ outgoing x ++ d
   written-by kind v k e (all-stored h) l s =
       let short : length d ≤ 256 = omega arith in
-      stored-behind (kindOf own) x c (length d) (storedOf d) l (ap (λ (v : Verdict). v .effect) e) (subst (λ (y : List ℕ). length y ≤ room (x .state .output)) (sym (whole short)) h)
-      ∙ ap (λ (y : List ℕ). outgoing x ++ y) (whole short)
+      stored-behind (kindOf own) x c (length d) (storedOf d) l (ap (λ (v : Verdict). v .effect) e) (subst (λ (y : List ℕ). length y ≤ room (x .state .output)) (sym (whole d short)) h)
+      ∙ ap (λ (y : List ℕ). outgoing x ++ y) (whole d short)
   written-by kind v k e (all-shown h) l s = absurd (is-kind VideoUnit k)
   written-by kind v k e (none-stored same r z) l s = absurd (z (sym (ap (λ (v : Verdict). replyStatus (v .reply)) e) ∙ s))
 
@@ -120,8 +120,8 @@ module _ (own : ℕ) (x : Inside) (c : Command) (d : List ℕ) where
   shown-by : (kind : Kind) (v : Verdict) → kind ≡ VideoUnit → verdict ≡ v → Write (length d) (room (x .state .output)) kind v → replyStatus (verdict .reply) ≡ 0x00 → Shown
   shown-by kind v k e (all-stored h) s = absurd (is-kind SerialUnit k)
   shown-by kind v k e (all-shown h) s = (
-    ap (λ (v : Verdict). by-effect x (storedOf d) (v .effect) .state .screen) e ∙ ap (withText (x .state .screen)) (whole h),
-    ap (λ (v : Verdict). by-effect x (storedOf d) (v .effect) .output) e ∙ ap (λ (y : List ℕ). cellsAfter (x .state .screen) y (x .output)) (whole h),
+    ap (λ (v : Verdict). by-effect x (storedOf d) (v .effect) .state .screen) e ∙ ap (withText (x .state .screen)) (whole d h),
+    ap (λ (v : Verdict). by-effect x (storedOf d) (v .effect) .output) e ∙ ap (λ (y : List ℕ). cellsAfter (x .state .screen) y (x .output)) (whole d h),
   )
   shown-by kind v k e (none-stored same r z) s = absurd (z (sym (ap (λ (v : Verdict). replyStatus (v .reply)) e) ∙ s))
 

@@ -3,3 +3,4 @@ pub mod Calls
 pub mod Lawful
 pub mod Last
 pub mod Written
+pub mod Read

@@ -116,8 +116,8 @@ cases =
     -- M5: attributes 00, and E0
     record { given = bytes (answerOf newSerial [] openDevice20 (0x50 ∷ 0x00 ∷ 0x00 ∷ [])); paper = bytes (0x00 ∷ 0x00 ∷ 0x13 ∷ []) } ∷
     record { given = bytes (answerOf newSerial [] openDevice20 (0x50 ∷ 0x00 ∷ 0xE0 ∷ [])); paper = bytes (0x00 ∷ 0x00 ∷ 0x11 ∷ []) } ∷
-    -- M6: requested 0 accepts 80; 128 accepts 128; 129 gives 0C
-    record { given = bytes (answerOf newSerial [] openDevice20 (0 ∷ 0x00 ∷ 0xC0 ∷ [])); paper = bytes (0x04 ∷ 0x00 ∷ 80 ∷ 0x00 ∷ 0x00 ∷ 0x00 ∷ 0x00 ∷ []) } ∷
+    -- M6, its first clause by change request P5: requested 0 accepts 128; 128 accepts 128; 129 gives 0C
+    record { given = bytes (answerOf newSerial [] openDevice20 (0 ∷ 0x00 ∷ 0xC0 ∷ [])); paper = bytes (0x04 ∷ 0x00 ∷ 128 ∷ 0x00 ∷ 0x00 ∷ 0x00 ∷ 0x00 ∷ []) } ∷
     record { given = bytes (answerOf newSerial [] openDevice20 (128 ∷ 0x00 ∷ 0xC0 ∷ [])); paper = bytes (0x04 ∷ 0x00 ∷ 128 ∷ 0x00 ∷ 0x00 ∷ 0x00 ∷ 0x00 ∷ []) } ∷
     record { given = bytes (answerOf newSerial [] openDevice20 (129 ∷ 0x00 ∷ 0xC0 ∷ [])); paper = bytes (0x00 ∷ 0x00 ∷ 0x0C ∷ []) } ∷
     -- M7: queue 41 42 43, read with buffer 5, and with buffer 2

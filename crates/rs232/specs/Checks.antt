@@ -22,9 +22,9 @@ use Rattle.serial.specs.declared.Verdict.{Verdict}
 abbrev pub modeOf : ℕ → Mode
 modeOf attributes = cond (eqb (attributes / 64) 1) Input (cond (eqb (attributes / 64) 2) Output Update)
 
--- Requested length 0 means 80.
+-- Requested length 0 means 128 (change request P5).
 abbrev pub acceptedOf : ℕ → ℕ
-acceptedOf requested = cond (eqb requested 0) 80 requested
+acceptedOf requested = cond (eqb requested 0) 128 requested
 
 -- What an open's data asks for: the requested length in its first two bytes, the attributes in the third.
 abbrev pub requestedIn : List ℕ → ℕ

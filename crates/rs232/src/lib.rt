@@ -111,7 +111,7 @@ pub fn accepted_of(requested: u8) -> u8
     ensures { λ r. ⌜ r ≡ acceptedOf requested ⌝ }
 {
     let is_default = requested == 0;
-    if is_default { 80 } else { requested }
+    if is_default { 128 } else { requested }
 }
 
 // How many bytes a read answers, where there are so many.

@@ -3,3 +3,4 @@ pub mod Captured
 pub mod Premises
 pub mod Turns
 pub mod Panel
+pub mod Weighed

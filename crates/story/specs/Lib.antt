@@ -2,3 +2,4 @@ pub mod Script
 pub mod Captured
 pub mod Turns
 pub mod Panel
+pub mod Weighed

@@ -1,4 +1,4 @@
--- `rs232::accepted_of` meets its contract: 0 means 80.
+-- `rs232::accepted_of` meets its contract: 0 means 128.
 use Rattle.rs232.proofs.accepted_of.Statement.{statement}
 use Rattle.rs232.proofs.accepted_of.Tie as tie
 
