@@ -8,12 +8,11 @@ use lib.ListN.{length}
 use Rattle.bus.specs.declared.Station.{Station}
 use Rattle.header.specs.declared.Command.{Command}
 use Rattle.inside.specs.Calls.{HostCall, calledAll, called as calledIn}
-use Rattle.inside.specs.Inside.{Inside, insideOf, dataIn, replyFor, takenFor}
+use Rattle.inside.specs.Inside.{Inside, insideOf, incoming, dataIn, replyFor, takenFor}
 use Rattle.inside.specs.Lawful.{Fit}
 use Rattle.inside.proofs.Calls.{Called}
 use Rattle.inside.proofs.Lawful.{every-lawful}
 use Rattle.kind.specs.Kinds.{kindOf}
-use Rattle.queue.specs.Queue.{contents}
 use Rattle.reply.specs.Reply.{replyStatus, responseBytes, lastNibble}
 use Rattle.reply.proofs.Laws.{length-data}
 use Rattle.serial.specs.declared.Reply.{Reply}
@@ -36,7 +35,7 @@ module _ {T : Moment} {own : ℕ} {c : Command} {d : List ℕ} {r : Reply} {x : 
       let n = length-data (x .input) (x .state .input) r in
       omega arith
 
-  pub bytes-are : responseBytes (contents (x .input) (x .state .input)) r ≡ answerBytes p
+  pub bytes-are : responseBytes (incoming x) r ≡ answerBytes p
   bytes-are = ap (λ (e : List ℕ). responseFor e (replyStatus r)) data-stands
 
   pub answer-fits : Answered (answerData p) (replyStatus r) (c .«buffer_length»)

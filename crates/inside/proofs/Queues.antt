@@ -34,7 +34,7 @@ use Rattle.serial.specs.declared.Serial.{Serial}
 use Rattle.serial.specs.declared.Verdict.{Verdict}
 use Rattle.whole.specs.Back.{Answered}
 use Rattle.inside.specs.Calls.{HostCall, feeds, takes, raises, called, calledAll, stateAfter}
-use Rattle.inside.specs.Inside.{Inside, withState, isServed, hasRequest, replyOf, taken, responded, dataIn, clears}
+use Rattle.inside.specs.Inside.{Inside, withState, isServed, hasRequest, replyOf, taken, responded, incoming, dataIn, clears}
 use Rattle.inside.specs.Lawful.{QueueLent, QueueFit, isEnding, LawfulBy}
 use Rattle.inside.proofs.Ors.{or-first, or-second, by-test}
 
@@ -154,7 +154,7 @@ module _ (x : Inside) (c : Command) where
 -- What a host call leaves: the input queue at most grows at its back.
 record Grown (x y : Inside) : Type 0 where
   fed : List ℕ
-  grown : contents (y .input) (y .state .input) ≡ contents (x .input) (x .state .input) ++ fed
+  grown : incoming y ≡ incoming x ++ fed
   count : held (y .state .input) ≡ held (x .state .input) + length fed
   memory : length (y .input) ≡ length (x .input)
   bytes : Below 256 (x .input) → Below 256 (y .input)
@@ -162,7 +162,7 @@ record Grown (x y : Inside) : Type 0 where
 same-queue : (x y : Inside) → y .state .input ≡ x .state .input → y .input ≡ x .input → Grown x y
 same-queue x y q i = record {
   fed = [];
-  grown = (λ k. contents (i k) (q k)) ∙ sym (append-nil (contents (x .input) (x .state .input)));
+  grown = (λ k. contents (i k) (q k)) ∙ sym (append-nil (incoming x));
   count = ap held q ∙ sym (add-zero (held (x .state .input)));
   memory = ap length i;
   bytes = λ w. subst (Below 256) (sym i) w;
@@ -214,7 +214,7 @@ grown-stands x y Silent g h = (refl, tt)
 grown-stands x y (Status number) g h = (refl, tt)
 grown-stands x y (Opened accepted) g h = (refl, tt)
 grown-stands x y (Bytes n) g h =
-    let old = contents (x .input) (x .state .input) in
+    let old = incoming x in
     let l : length old ≡ held (x .state .input) = length-contents (x .input) (x .state .input) in
     let c = g .count in
     (ap (take n) (g .grown) ∙ take-append-le n old (g .fed) (omega arith), omega arith)

@@ -29,9 +29,9 @@ use Rattle.serial.specs.declared.Reply.the-variants.{Silent, Status, Opened, By
 use Rattle.serial.specs.declared.Serial.{Serial}
 use Rattle.serial.specs.declared.Verdict.{Verdict}
 use Rattle.whole.specs.Whole.{storedOf}
-use Rattle.inside.specs.Inside.{Inside, dataIn, takenFor, responded}
-use Rattle.inside.specs.Read.{incoming, ReadInOrder, ReadAtOnce}
-use Rattle.inside.proofs.Ors.{by-test, withCode}
+use Rattle.inside.specs.Inside.{Inside, incoming, dataIn, takenFor, responded}
+use Rattle.inside.specs.Read.{ReadInOrder, ReadAtOnce}
+use Rattle.inside.proofs.Ors.{by-test, by-checks, withCode}
 use Rattle.inside.proofs.Written.{by-effect, whole, verdict}
 
 -- A verdict of this form, or one with another status than 00, which keeps all that is inside.
@@ -72,11 +72,9 @@ open-opening : (o : Opening) (s : Serial) (c : Command) (n : ℕ) (d : List ℕ)
 open-opening Closed s c n d = open-closed (c .«buffer_length») n d
 open-opening (OpenFor m longest) s c n d = declined 0x05 (omega arith)
 
--- The checks before, of a command that is supported.
+-- By the checks before.
 checked : (good : Verdict → Type 0) (device n : ℕ) (v : Verdict) → Either good v → Either good (cond (eqb device 0) (says Silent Keeps) (cond (ltb 256 n) (says (Status 0x08) Keeps) v))
-checked good device n v g =
-    by-test (Either good) (eqb device 0) _ _ (λ _. declines Silent (λ (e : 0xFF ≡ 0x00). omega arith)) (λ _.
-    by-test (Either good) (ltb 256 n) _ _ (λ _. declined 0x08 (omega arith)) (λ _. g))
+checked good device n v g = by-checks (Either good) device n v (declines Silent (λ (e : 0xFF ≡ 0x00). omega arith)) (declined 0x08 (omega arith)) (λ _. g)
 
 read-verdict : (s : Serial) (c : Command) (n : ℕ) (d : List ℕ) (kind : Kind) → kind ≡ SerialUnit → c .command ≡ 0x03 → Either (Reads (s .opening) s (c .«buffer_length»)) (verdictOf kind s c n d)
 read-verdict s c n d kind k e =

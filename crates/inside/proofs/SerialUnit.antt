@@ -1,5 +1,5 @@
 -- The serial unit is lawful: its checks are walked through once.
-use Prim.Native.Nat.{ℕ, _/_, _%_, _<_, min}
+use Prim.Native.Nat.{ℕ, min}
 use native.Mathlib.Nat.{min-le-left, min-le-right, le-trans}
 use mathlib.Core.Bool.{Bool, true, false, _&&_}
 use mathlib.Core.List.{List, [], _∷_}

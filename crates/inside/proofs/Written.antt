@@ -5,7 +5,7 @@ use mathlib.Core.Path.{_≡_, refl, sym, _∙_, ap, subst}
 use mathlib.Core.Bool.{Bool, cond}
 use mathlib.Core.List.{List, [], _++_}
 use borrow.Author.Tests.{ltb-false, le-ltb}
-use lib.Dec.{ltb, eqb}
+use lib.Dec.{ltb}
 use lib.ListN.{length}
 use Rattle.header.specs.declared.Command.{Command}
 use Rattle.kind.specs.Kinds.{kindOf, verdictOf}
@@ -34,7 +34,7 @@ use Rattle.video.specs.Checks.{commandBy as screenBy, writeBy as shownBy}
 use Rattle.whole.specs.Whole.{storedOf}
 use Rattle.inside.specs.Inside.{Inside, takenFor}
 use Rattle.inside.specs.Written.{outgoing, StoredBehind, WrittenBehind, WrittenShown, WrittenTwice, WrittenNone}
-use Rattle.inside.proofs.Ors.{by-test, withCode}
+use Rattle.inside.proofs.Ors.{by-test, by-checks, withCode}
 
 -- What is inside after an effect.
 abbrev pub by-effect : Inside → List ℕ → Effect → Inside
@@ -77,13 +77,11 @@ show-opening (OpenFor m accepted) s c n d h = show-mode n (room (s .output)) h m
 
 write-checked : (kind : Kind) (s : Serial) (c : Command) (n : ℕ) (d : List ℕ) → Write n (room (s .output)) kind (verdictOf kind s (withCode c 0x04) n d)
 write-checked SerialUnit s c n d =
-    let P = Write n (room (s .output)) SerialUnit in
-    by-test P (eqb (c .device) 0) _ _ (λ _. none-stored SerialUnit Silent (λ (e : 0xFF ≡ 0x00). omega arith)) (λ _.
-    by-test P (ltb 256 n) _ _ (λ _. write-refused n (room (s .output)) SerialUnit 0x08 (omega arith)) (λ _. write-opening (s .opening) s c n d))
+    by-checks (Write n (room (s .output)) SerialUnit) (c .device) n _
+    (none-stored SerialUnit Silent (λ (e : 0xFF ≡ 0x00). omega arith)) (write-refused n (room (s .output)) SerialUnit 0x08 (omega arith)) (λ _. write-opening (s .opening) s c n d)
 write-checked VideoUnit s c n d =
-    let P = Write n (room (s .output)) VideoUnit in
-    by-test P (eqb (c .device) 0) _ _ (λ _. none-stored VideoUnit Silent (λ (e : 0xFF ≡ 0x00). omega arith)) (λ _.
-    by-test P (ltb 256 n) _ _ (λ _. write-refused n (room (s .output)) VideoUnit 0x08 (omega arith)) (λ e. show-opening (s .opening) s c n d (ltb-false 256 n e)))
+    by-checks (Write n (room (s .output)) VideoUnit) (c .device) n _
+    (none-stored VideoUnit Silent (λ (e : 0xFF ≡ 0x00). omega arith)) (write-refused n (room (s .output)) VideoUnit 0x08 (omega arith)) (show-opening (s .opening) s c n d)
 
 write-verdict : (kind : Kind) (s : Serial) (c : Command) (n : ℕ) (d : List ℕ) → c .command ≡ 0x04 → Write n (room (s .output)) kind (verdictOf kind s c n d)
 write-verdict kind s c n d e = subst (λ (code : ℕ). Write n (room (s .output)) kind (verdictOf kind s (withCode c code) n d)) (sym e) (write-checked kind s c n d)

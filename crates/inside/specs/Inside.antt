@@ -51,9 +51,12 @@ taken kind x c n d = record {
 abbrev pub responded : Inside → Reply → Inside
 responded x r = withState x (finished (x .state) r)
 
--- The data of the response.
+-- What its input queue holds, oldest byte first; the data of the response.
+abbrev pub incoming : Inside → List ℕ
+incoming x = contents (x .input) (x .state .input)
+
 abbrev pub dataIn : Inside → Reply → List ℕ
-dataIn x r = replyData (contents (x .input) (x .state .input)) r
+dataIn x r = replyData (incoming x) r
 
 -- Whether its end clears a request.
 abbrev pub clears : Reply → Bool

@@ -7,14 +7,9 @@ use lib.ListN.{length}
 use Rattle.header.specs.declared.Command.{Command}
 use Rattle.kind.specs.Kinds.{kindOf}
 use Rattle.kind.specs.declared.Kind.the-variants.{Serial as SerialUnit}
-use Rattle.queue.specs.Queue.{contents}
 use Rattle.reply.specs.Reply.{replyStatus}
 use Rattle.rs232.specs.Checks.{requestedIn}
-use Rattle.inside.specs.Inside.{Inside, dataIn, replyFor, takenFor, responded}
-
--- What a unit's input queue holds, oldest byte first.
-abbrev pub incoming : Inside → List ℕ
-incoming x = contents (x .input) (x .state .input)
+use Rattle.inside.specs.Inside.{Inside, incoming, dataIn, replyFor, takenFor, responded}
 
 -- A read, 03, of a serial unit whose answer has status 00: what is answered and what is queued behind the answer are what was queued, in order.
 abbrev pub ReadInOrder : Type 0

@@ -5,17 +5,18 @@ use mathlib.Core.List.{List, [], _∷_, map}
 use Rattle.delivery.proofs.Demand2.{demand-2}
 use Rattle.delivery.specs.Run.{start}
 use Rattle.inside.proofs.Read.{read-at-once}
+use Rattle.inside.specs.Inside.{insideOf}
 use Rattle.kind.specs.Kinds.{kindOf}
 use Rattle.story.specs.Captured.{Holds, holds}
 use Rattle.story.specs.Panel.{Told, toldOf}
-use Rattle.story.specs.Script.{after, commandTo}
-use Rattle.story.specs.Weighed.{script, first, run, scaleIn, scale, AtOnce, Meets, papers, isOpen, Story}
+use Rattle.story.specs.Script.{stationOf, after, commandTo}
+use Rattle.story.specs.Weighed.{script, first, run, scale, AtOnce, Meets, papers, isOpen, Story}
 use Rattle.story.proofs.Script.{Played, play, at, plays, quiet-start}
 
 at-once : AtOnce
 unfolding kindOf
 at-once =
-    read-at-once 20 (scaleIn (first .units)) scale (commandTo 20 0x00 4) (commandTo 20 0x03 128) (0x00 ∷ 0x00 ∷ 0xC0 ∷ []) []
+    read-at-once 20 (insideOf (stationOf 20)) scale (commandTo 20 0x00 4) (commandTo 20 0x03 128) (0x00 ∷ 0x00 ∷ 0xC0 ∷ []) []
     refl refl refl refl refl refl refl (omega arith) (omega arith)
 
 pub meets : Meets

@@ -16,8 +16,9 @@ use Rattle.delivery.specs.Log.{Act, sent, heard, told, Deed, took, settled, spo
 use Rattle.delivery.specs.Run.{QuietStart, Run, start}
 use Rattle.delivery.specs.World.{World, Busy}
 use Rattle.inside.specs.Calls.{feeds, raises}
+use Rattle.inside.specs.Inside.{insideOf, incoming}
+use Rattle.inside.specs.Written.{outgoing}
 use Rattle.kind.specs.Kinds.{kindOf}
-use Rattle.queue.specs.Queue.{contents}
 use Rattle.ring.specs.Ring.{live, entryOf}
 use Rattle.ring.specs.declared.Entry.{Entry}
 use Rattle.serial.specs.declared.Mode.the-variants.{Update}
@@ -167,8 +168,8 @@ holds st = record {
   opening = st .unit .serial .opening;
   enabled = st .unit .serial .enabled;
   requesting = st .unit .serial .requesting;
-  input = contents (st .input) (st .unit .serial .input);
-  output = contents (st .output) (st .unit .serial .output);
+  input = incoming (insideOf st);
+  output = outgoing (insideOf st);
 }
 
 abbrev pub isNew : Holds

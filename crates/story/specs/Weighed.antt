@@ -6,15 +6,13 @@ use mathlib.Core.Bool.{true, false}
 use mathlib.Core.List.{List, [], _∷_, _++_, map}
 use borrow.Author.Tests.{ltb-true}
 use lib.Dec.{ltb}
-use lib.ListN.{replicate}
-use Rattle.bus.specs.declared.Station.{Station}
+use lib.ListN.{getD, replicate}
 use Rattle.delivery.specs.Demand2.{Demand2}
 use Rattle.delivery.specs.Ends.{quietly}
 use Rattle.delivery.specs.Log.{told, log, framesOf}
 use Rattle.delivery.specs.Run.{QuietStart, Run, start}
 use Rattle.delivery.specs.World.{World}
-use Rattle.inside.specs.Inside.{Inside, insideOf, dataIn, replyFor}
-use Rattle.inside.specs.Read.{incoming}
+use Rattle.inside.specs.Inside.{Inside, insideOf, incoming, dataIn, replyFor}
 use Rattle.kind.specs.Kinds.{kindOf}
 use Rattle.serial.specs.declared.Mode.the-variants.{Update}
 use Rattle.serial.specs.declared.Opening.the-variants.{OpenFor}
@@ -49,21 +47,15 @@ abbrev pub run : Run first (after script first)
 run = runOn script start
 
 -- The scale as the read finds it, and what it answers.
-abbrev pub scaleIn : List Station → Inside
-scaleIn [] = insideOf (stationOf 20)
-scaleIn (st ∷ ss) = insideOf st
-
 abbrev pub scale : Inside
 unfolding kindOf
-scale = scaleIn (after feeding first .units)
+scale = insideOf (getD (after feeding first .units) 0 (stationOf 20))
 
 abbrev pub AtOnce : Type 0
-unfolding kindOf
 AtOnce = dataIn scale (replyFor 20 scale (commandTo 20 0x03 128) []) ≡ incoming scale
 
 -- It meets the premises of demand 2 and of `ReadAtOnce`, so that both hold of it.
 abbrev pub Meets : Type 0
-unfolding kindOf
 Meets = QuietStart first × (Demand2 run × AtOnce)
 
 -- What the application is told of the two frames, the later one first: the accepted length is 128; the read brings 100 bytes, and the rest of the
