@@ -284,6 +284,41 @@ static void check_messages(void)
         }
 }
 
+/* Byte i of data of so many bytes: no two that stand a power of 2 apart are alike. */
+static uint8_t patterned(size_t n, size_t i)
+{
+    return (uint8_t)(31 * i + 3 * (i >> 8) + n);
+}
+
+/*
+ * Data of each size up to four blocks of the copy and more, and the longest: written into just enough room every byte has its place, and none
+ * past the message changes; in one byte less nothing does.
+ */
+static void check_sizes(void)
+{
+    section = "sizes";
+    fields = (hexbus_command){ 20, 4, 7, 513, 1027, 0 };
+    status = 0x0D;
+    for (size_t n = 0; n <= 65535; n = n == 600 ? 65535 : n + 1)
+        for (int command = 0; command < 2; command++) {
+            const uint8_t head[9] = { 20, 4, 7, 1, 2, 3, 4, (uint8_t)n, (uint8_t)(n >> 8) };
+            const size_t before = command ? 9 : 2, length = before + n + !command;
+            bool all;
+
+            for (size_t i = 0; i < n; i++)
+                data[i] = patterned(n, i);
+            fill(&space);
+            all = write(command != 0, n, length) == 0 && memcmp(space.bytes, head + 9 - before, before) == 0 && untouched_from(&space, length)
+                && (command || space.bytes[length - 1] == status);
+            for (size_t i = 0; i < n; i++)
+                all = all && space.bytes[before + i] == patterned(n, i);
+            expect(all, command ? "a command" : "a response", "data of each size");
+            fill(&space);
+            expect(write(command != 0, n, length - 1) == HEXBUS_SHORT_BUFFER && untouched_from(&space, 0), command ? "a command" : "a response",
+                   "of each size, in one byte less");
+        }
+}
+
 /* ---- Device codes ------------------------------------------------------ */
 
 static void check_classes(void)
@@ -1513,6 +1548,7 @@ static void check_rows(const struct row *rows, size_t n, void (*call)(void), voi
 int main(void)
 {
     check_messages();
+    check_sizes();
     check_classes();
     fill(&command);
     fill(&command_before);
@@ -1530,7 +1566,7 @@ int main(void)
         printf("vectors: %u of %u FAILED\n", failures, run);
         return 1;
     }
-    printf("vectors: %zu messages, 256 classes, %zu calls of a unit, %zu of a video unit, %zu texts on screens, %zu calls of a controller; "
+    printf("vectors: %zu messages, data of 602 sizes, 256 classes, %zu calls of a unit, %zu of a video unit, %zu texts on screens, %zu calls of a controller; "
            "%u comparisons hold\n", sizeof messages / sizeof messages[0], sizeof unit_rows / sizeof unit_rows[0],
            sizeof video_rows / sizeof video_rows[0], sizeof screen_rows / sizeof screen_rows[0],
            sizeof controller_rows / sizeof controller_rows[0], run);

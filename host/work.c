@@ -4,6 +4,8 @@
  *
  *   work WHAT SIZE N          does it
  *   work WHAT SIZE N time     does it five times and prints the least time of one, in nanoseconds
+ *   work WHAT stores          writes a message of each size from 0 to 256 bytes and one of 4,096, for a trace of what that stores (host/stores.awk)
+ *   work WHAT times           prints for each size from 0 to 256 bytes the least time of writing it
  *   work sizes                prints the bytes of a unit and of a controller
  */
 #include <stdbool.h>
@@ -508,6 +510,23 @@ static void response_read(size_t size, long n)
         sink = read_response(message, 3 + size);
 }
 
+/* This file's own code stands between these (`host/bench`). */
+extern const char __start_harness[], __stop_harness[];
+static volatile uint32_t mark;
+
+/* A store to `mark` begins each call, and one ends it. The first line says where a trace finds `mark`, this code and the message. */
+__attribute__((noinline)) static void stores(uint32_t (*write)(const uint8_t *data, size_t n, uint8_t *out, size_t room))
+{
+    printf("%08lx %08lx %08lx %08lx %08lx\n", (unsigned long)(uintptr_t)&mark, (unsigned long)(uintptr_t)__start_harness,
+           (unsigned long)(uintptr_t)__stop_harness, (unsigned long)(uintptr_t)message, (unsigned long)(uintptr_t)(message + sizeof message));
+    must(write(data, 1, message, sizeof message) == 0, "a message is refused");
+    for (size_t n = 0; n <= 4096; n = n == 256 ? 4096 : n + 1) {
+        mark = 1;
+        sink = write(data, n, message, sizeof message);
+        mark = 0;
+    }
+}
+
 static const struct {
     const char *what;
     void (*does)(size_t size, long n);
@@ -532,6 +551,18 @@ static double nanoseconds(size_t which, size_t size, long n)
     return (double)(clock() - begin) * 1e9 / CLOCKS_PER_SEC / (double)n;
 }
 
+static double least_time(size_t which, size_t size, long n, int runs)
+{
+    double least = nanoseconds(which, size, n);
+
+    while (--runs > 0) {
+        double t = nanoseconds(which, size, n);
+
+        least = t < least ? t : least;
+    }
+    return least;
+}
+
 int main(int argc, char **argv)
 {
     size_t which = 0, size;
@@ -541,21 +572,25 @@ int main(int argc, char **argv)
         printf("%zu %zu\n", sizeof(unit), sizeof(controller));
         return 0;
     }
-    must(argc >= 4, "work WHAT SIZE N [time]");
+    if (argc == 3 && strcmp(argv[2], "stores") == 0) {
+        must(strcmp(argv[1], "command-write") == 0 || strcmp(argv[1], "response-write") == 0, "what this stores is not counted");
+        stores(argv[1][0] == 'c' ? write_command : write_response);
+        return 0;
+    }
+    must(argc >= 3, "work WHAT SIZE N [time]");
     while (which < sizeof works / sizeof works[0] && strcmp(works[which].what, argv[1]) != 0)
         which++;
     must(which < sizeof works / sizeof works[0], "this is not measured");
+    if (strcmp(argv[2], "times") == 0) {
+        for (size = 0; size <= 256; size++)
+            printf("%zu %.2f\n", size, least_time(which, size, 50000, 3));
+        return 0;
+    }
+    must(argc >= 4, "work WHAT SIZE N [time]");
     size = strtoul(argv[2], NULL, 10);
     n = atol(argv[3]);
     if (argc > 4) {
-        double least = nanoseconds(which, size, n);
-
-        for (int i = 0; i < 4; i++) {
-            double t = nanoseconds(which, size, n);
-
-            least = t < least ? t : least;
-        }
-        printf("%.1f\n", least);
+        printf("%.1f\n", least_time(which, size, n, 5));
         return 0;
     }
     make_unit(&units[0], FIRST);

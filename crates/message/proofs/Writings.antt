@@ -1,14 +1,13 @@
--- What a writer leaves in the buffer: the header copied to its front, then the data copied into the lent tail.
+-- What a writer answers, by the tests it makes; and what a copy into a lent tail leaves in the buffer.
 use Prim.Native.Nat.{ℕ, _+_, _-_, _≤_, _<_}
 use native.Mathlib.Omega.{arith}
-use mathlib.Core.Path.{_≡_, refl, sym, _∙_, ap, ap₂}
-use mathlib.Core.List.{List, [], _++_, append-assoc, append-nil}
+use mathlib.Core.Path.{_≡_, sym, _∙_, ap, ap₂}
+use mathlib.Core.List.{List, [], _++_, append-nil}
 use borrow.Author.Tests.{lt-ltb, le-ltb}
 use borrow.Rule.Slice.PartMut.{midOf, putMid}
-use lib.Dec.{ltb}
-use lib.ListN.{length, take, drop, length-append, length-drop}
-use lib.Seq.{take-at, drop-at, drop-drop, take-all, take-length, drop-length}
-use Rattle.message.specs.Answer.{Answer, gives, refused}
+use lib.ListN.{length, take, drop, length-drop}
+use lib.Seq.{drop-drop, take-all, take-length, drop-length}
+use Rattle.message.specs.Answer.{gives, refused}
 use Rattle.message.specs.Writing.{writing}
 
 module _ (fields n room : ℕ) where
@@ -32,25 +31,3 @@ put-tail k d o t room tail =
     let filled : t ≡ d ++ drop (k + length d) o =
     tail ∙ ap₂ (λ (a b : List ℕ). a ++ drop (length d) b) (take-length d) mid ∙ ap (λ (l : List ℕ). d ++ l) (drop-drop (length d) k o) in
     (λ i. take k o ++ (filled i ++ rest i)) ∙ ap (λ (l : List ℕ). take k o ++ l) (append-nil (d ++ drop (k + length d) o))
-
--- The head copied to the front of out, the data behind it and the end behind that: o, p and q are the buffer after each.
-pub put-together : (h d e out o p q : List ℕ) → length h + length d + length e ≤ length out
-    → o ≡ take (length h) h ++ drop (length h) out
-    → p ≡ take (length h) o ++ (d ++ drop (length h + length d) o)
-    → q ≡ take (length h + length d) p ++ (e ++ drop (length h + length d + length e) p)
-    → q ≡ (h ++ (d ++ e)) ++ drop (length h + length e + length d) out
-put-together h d e out o p q room first second third =
-    let a = length h in
-    let n = length d in
-    let b = length e in
-    let o-is : o ≡ h ++ drop a out = first ∙ ap (λ (l : List ℕ). l ++ drop a out) (take-length h) in
-    let p-is : p ≡ (h ++ d) ++ drop (a + n) out =
-    second
-    ∙ ap₂ (λ (x y : List ℕ). x ++ (d ++ y)) (ap (take a) o-is ∙ take-at h (drop a out) a refl) (sym (drop-drop n a o) ∙ ap (drop n) (ap (drop a) o-is ∙ drop-at h (drop a out) a refl) ∙ drop-drop n a out)
-    ∙ sym (append-assoc h d (drop (a + n) out)) in
-    let l : length (h ++ d) ≡ a + n = length-append h d in
-    let total : a + n + b ≡ a + b + n = omega arith in
-    third
-    ∙ ap₂ (λ (x y : List ℕ). x ++ (e ++ y)) (ap (take (a + n)) p-is ∙ take-at (h ++ d) (drop (a + n) out) (a + n) l) (sym (drop-drop b (a + n) p) ∙ ap (drop b) (ap (drop (a + n)) p-is ∙ drop-at (h ++ d) (drop (a + n) out) (a + n) l) ∙ drop-drop b (a + n) out)
-    ∙ sym (append-assoc (h ++ d) e (drop (a + n + b) out))
-    ∙ ap₂ (λ (x : List ℕ) (k : ℕ). x ++ drop k out) (append-assoc h d e) total

@@ -1,10 +1,11 @@
--- `writer::put` meets its contract: three copies, each into the tail behind the one before.
+-- `writer::put` meets its contract: the head at the front, the end behind the place of the data, and the data between them.
 use Prim.Native.Nat.{_+_, _-_}
 use native.Mathlib.Omega.{arith}
 use mathlib.Core.Path.{_≡_}
 use borrow.Rule.Slice.PartMut.{putMid, same-len-mid}
 use lib.ListN.{length}
-use Rattle.message.proofs.Writings.{put-tail, put-together}
+use Rattle.tail.proofs.Copies.{tail-filled}
+use Rattle.writer.proofs.Parts.{all-parts}
 use borrow.Author.Needs.{needs}
 use Rattle.writer.proofs.put.Statement.{statement}
 use Rattle.writer.proofs.put.Tie as tie
@@ -15,29 +16,29 @@ add-behind c = search needs
 copy-requires : tie.Need-copy-requires
 copy-requires c κs = search needs
 
-sub-through : tie.Need-sub-through
-sub-through c = search needs
+sub-few : tie.Need-sub-few
+sub-few c = search needs
 
-part-through-start : tie.Need-part-through-start
-part-through-start c = search needs
+part-few-start : tie.Need-part-few-start
+part-few-start c = search needs
 
-part-through-end : tie.Need-part-through-end
-part-through-end c = search needs
+part-few-end : tie.Need-part-few-end
+part-few-end c = search needs
 
-through-requires : tie.Need-through-requires
-through-requires c κs = search needs
+few-requires : tie.Need-few-requires
+few-requires c κs = search needs
 
-sub-copy : tie.Need-sub-copy
-sub-copy c = search needs
+sub-fill : tie.Need-sub-fill
+sub-fill c = search needs
 
-part-copy-start : tie.Need-part-copy-start
-part-copy-start c = search needs
+part-fill-start : tie.Need-part-fill-start
+part-fill-start c = search needs
 
-part-copy-end : tie.Need-part-copy-end
-part-copy-end c = search needs
+part-fill-end : tie.Need-part-fill-end
+part-fill-end c = search needs
 
-copy-requires-2 : tie.Need-copy-requires-2
-copy-requires-2 c κs = search needs
+fill-requires : tie.Need-fill-requires
+fill-requires c κs = search needs
 
 add-result : tie.Need-add-result
 add-result c = search needs
@@ -47,23 +48,21 @@ same-length c = search needs
 
 returns : tie.Need-returns
 returns c =
-    let at-third = c .before .before in
-    let at-second = at-third .before .before .before .before in
-    let at-first = at-second .before .before .before .before in
-    let start = at-first .before .before .before .before .before .before in
+    let at-data = c .before .before in
+    let at-end = at-data .before .before .before .before in
+    let at-head = at-end .before .before .before .before in
+    let start = at-head .before .before .before .before .before .before in
     let h = start .args .head .now in
     let d = start .args .«data» .now in
     let e = start .args .end .now in
-    let out = start .args .out .now in
-    let o = at-first .copy .last .1 .0 in
-    let k = length h in
-    let room = start .pre .0 in
-    let long : length o ≡ length out = at-first .copy .kept .1 .0 in
-    let second = put-tail k d o (at-second .through .last .1 .0) (omega arith) (at-second .through .ensures .1) in
-    let p = putMid k (length o - k) o (at-second .through .last .1 .0) in
-    let wide : length p ≡ length o = same-len-mid k (length o - k) o (at-second .through .last .1 .0) (at-second .through .kept .1 .0) in
-    let third = put-tail (k + length d) e p (at-third .copy2 .last .1 .0) (omega arith) (at-third .copy2 .ensures .1) in
-    (omega arith, put-together h d e out o p _ (omega arith) (at-first .copy .ensures .1) second third)
+    let o = at-head .copy .last .1 .0 in
+    let m = length h + length d in
+    let long : length o ≡ length (start .args .out .now) = at-head .copy .kept .1 .0 in
+    let p = putMid m (length o - m) o (at-end .few .last .0) in
+    let wide : length p ≡ length o = same-len-mid m (length o - m) o (at-end .few .last .0) (at-end .few .kept .0) in
+    let second = tail-filled m e o (at-end .few .last .0) (omega arith) (at-end .few .ensures) in
+    let third = tail-filled (length h) d p (at-data .fill .last .0) (omega arith) (at-data .fill .ensures) in
+    (omega arith, all-parts h d e (start .args .out .now) o p _ (omega arith) long (at-head .copy .ensures .1) second third)
 
 pub put-spec : {M : Type 1} → statement M
 put-spec =
@@ -71,14 +70,14 @@ put-spec =
     (tie.spec
     add-behind
     copy-requires
-    sub-through
-    part-through-start
-    part-through-end
-    through-requires
-    sub-copy
-    part-copy-start
-    part-copy-end
-    copy-requires-2
+    sub-few
+    part-few-start
+    part-few-end
+    few-requires
+    sub-fill
+    part-fill-start
+    part-fill-end
+    fill-requires
     add-result
     same-length
     returns)

@@ -21,7 +21,7 @@ has-room-requires : tie.Need-has-room-requires
 has-room-requires c κs = search needs
 
 put-requires : tie.Need-put-requires
-put-requires c κs = (leb-true _ _ (sym (c .before .before .has-room .ensures) ∙ c .before .if2 .taken), c .before .before .before .if1 .left)
+put-requires c κs = leb-true _ _ (sym (c .before .before .has-room .ensures) ∙ c .before .if2 .taken)
 
 same-length : tie.Need-same-length
 same-length c = search needs
