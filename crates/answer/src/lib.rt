@@ -4,7 +4,7 @@ ghost use Rattle.message.specs.Format.{response_format, start};
 ghost use Rattle.answer.specs.Answer.{partial, nothing_taken, length_taken, body_taken, byte_taken, body_buffer, byte_buffer, taken_with, buffer_with, is_over, status_of, count_of};
 
 // A response that is being taken: its data length so far, the byte that is next, and whether that byte's low nibble is there.
-#[derive(Drop)]
+#[derive(Clone, Copy)]
 pub struct Partial {
     pub length: u16,
     pub place: u32,
@@ -12,7 +12,7 @@ pub struct Partial {
     pub low: u8,
 }
 
-#[derive(Drop)]
+#[derive(Clone, Copy)]
 pub enum Response {
     Taking(Partial),
     // Its status, and how many bytes of data it had.

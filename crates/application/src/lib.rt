@@ -12,13 +12,13 @@ use ring::Ring;
 pub const TIMEOUT: u32 = 200;
 
 // What making a controller comes to. Beside a refusal stands one with the default time-out.
-#[derive(Drop)]
+#[derive(Clone, Copy)]
 pub struct Made {
     pub controller: Controller,
     pub outcome: Making,
 }
 
-#[derive(Drop)]
+#[derive(Clone, Copy)]
 pub enum Making {
     New,
     // Refusal 5: time-out not 8 to 65,535.
@@ -26,13 +26,13 @@ pub enum Making {
 }
 
 // What submitting a command comes to.
-#[derive(Drop)]
+#[derive(Clone, Copy)]
 pub struct Submitted {
     pub controller: Controller,
     pub outcome: Submitting,
 }
 
-#[derive(Drop)]
+#[derive(Clone, Copy)]
 pub enum Submitting {
     Accepted,
     // Refusal 1: one is submitted, or a frame or its rest runs.
@@ -48,13 +48,13 @@ pub enum Submitting {
 }
 
 // What an acknowledgement comes to.
-#[derive(Drop)]
+#[derive(Clone, Copy)]
 pub struct Acknowledged {
     pub controller: Controller,
     pub outcome: Acknowledging,
 }
 
-#[derive(Drop)]
+#[derive(Clone, Copy)]
 pub enum Acknowledging {
     Cleared,
     // Refusal 8: the code is not in the ring or not marked.
@@ -63,7 +63,7 @@ pub enum Acknowledging {
 
 // What an application may look at: the ring in order with its marks; whether no frame and no rest runs; whether a command is
 // submitted whose frame has not begun.
-#[derive(Drop)]
+#[derive(Clone, Copy)]
 pub struct Looks {
     pub ring: Ring,
     pub may_start: bool,

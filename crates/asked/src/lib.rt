@@ -5,7 +5,7 @@ use libc::STDERR_FILENO;
 
 // What the words behind `run` ask for: how many scripts, whether frames are pictured, and which words name the files of the dump and of the
 // screens, 0 for none.
-#[derive(Drop)]
+#[derive(Clone, Copy)]
 pub struct Wanted {
     pub scripts: usize,
     pub pictured: u64,

@@ -8,7 +8,7 @@ use line::Lines;
 use statement::{Doing, Numbers, Statement, Told};
 
 // A bus after an act, and what this came to.
-#[derive(Drop)]
+#[derive(Clone, Copy)]
 pub struct Acted {
     pub bus: Bus,
     pub told: Told,
@@ -16,7 +16,7 @@ pub struct Acted {
 
 // What is seen of a bus: its lines, whether the controller may start and nothing is submitted, and a bit for each unit that pulls BAV for a
 // request, and that holds one.
-#[derive(Drop)]
+#[derive(Clone, Copy)]
 pub struct View {
     pub lines: Lines,
     pub is_free: bool,

@@ -18,7 +18,7 @@ pub const EACH: usize = 2432;
 pub const MEMORY: usize = 38912;
 
 // A unit that has queues, with the memory that its calls are lent.
-#[derive(Drop)]
+#[derive(Clone, Copy)]
 pub struct Station {
     pub unit: Unit,
     pub buffer: [u8; 256],
@@ -27,7 +27,7 @@ pub struct Station {
 }
 
 // One controller and its units, in any order. A count over 16 is that of sixteen units.
-#[derive(Drop)]
+#[derive(Clone, Copy)]
 pub struct Bus {
     pub controller: Controller,
     pub units: [Unit; 16],
@@ -35,7 +35,7 @@ pub struct Bus {
 }
 
 // What a round comes to: the bus after it, and what the controller's step came to.
-#[derive(Drop)]
+#[derive(Clone, Copy)]
 pub struct Rounded {
     pub bus: Bus,
     pub outcome: Stepping,

@@ -16,7 +16,7 @@ use reader::Checked;
 use writer::Written;
 
 // What reading a slice that must hold exactly one command comes to.
-#[derive(Drop)]
+#[derive(Clone, Copy)]
 pub enum Reading {
     // Its fields. `data_of` hands back the data.
     Fields(Command),

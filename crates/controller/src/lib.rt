@@ -9,7 +9,7 @@ use line::Lines;
 use ring::Ring;
 use turn::Event;
 
-#[derive(Drop)]
+#[derive(Clone, Copy)]
 pub struct Controller {
     // How many rounds in a row with HSK seen high end a frame.
     pub timeout: u16,
@@ -20,13 +20,13 @@ pub struct Controller {
 }
 
 // What a step comes to.
-#[derive(Drop)]
+#[derive(Clone, Copy)]
 pub struct Stepped {
     pub controller: Controller,
     pub outcome: Stepping,
 }
 
-#[derive(Drop)]
+#[derive(Clone, Copy)]
 pub enum Stepping {
     On(Event),
     // Refusal 5: nibble level over 15.

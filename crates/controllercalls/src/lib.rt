@@ -10,7 +10,7 @@ use ring::Ring;
 use statement::{COMMAND_BYTES, Doing, NONE, Numbers, RING_BYTES, Statement};
 
 // A controller after a call, and the refusal, 0 for none.
-#[derive(Drop)]
+#[derive(Clone, Copy)]
 pub struct Acted {
     pub controller: Controller,
     pub refusal: u64,

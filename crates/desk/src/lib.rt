@@ -11,7 +11,7 @@ use crate::plan::Plan;
 use line::Lines;
 use statement::{BLANK, NONE, Numbers, OTHER, Statement};
 
-#[derive(Drop)]
+#[derive(Clone, Copy)]
 pub struct Desk {
     // The place in the script, and the parties that there are.
     pub plan: Plan,

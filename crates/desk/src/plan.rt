@@ -1,7 +1,7 @@
 // What the statements of a script so far make of the bus, and whether a statement can stand where it stands.
 use statement::{NONE, Numbers, OTHER, STAND_IN_CODES, Statement, UNIT_CODES};
 
-#[derive(Drop)]
+#[derive(Clone, Copy)]
 pub struct Plan {
     // How many units and stand-ins there are, and whether rounds are run.
     pub count: u64,

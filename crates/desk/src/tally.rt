@@ -5,7 +5,7 @@ use statement::LOG_BYTES;
 
 // Expectations that held, failures, how many letters of failures are kept, and whether a script was not played whole or an expectation
 // failed.
-#[derive(Drop)]
+#[derive(Clone, Copy)]
 pub struct Tally {
     pub held: u64,
     pub failed: u64,

@@ -3,7 +3,7 @@ use statement::{BLANK, NONE, Numbers};
 use word::{Reading, Word};
 
 // Where a page and a form go on, and the place of the next value.
-#[derive(Drop)]
+#[derive(Clone, Copy)]
 struct Step {
     at: usize,
     from: usize,

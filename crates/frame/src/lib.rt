@@ -8,7 +8,7 @@ use answer::Response;
 use header::Command;
 use line::{Lines, Listener, Sender};
 
-#[derive(Drop)]
+#[derive(Clone, Copy)]
 pub enum Kind {
     Submitted,
     Poll,
@@ -16,7 +16,7 @@ pub enum Kind {
 }
 
 // What a frame sends: its command, and how many bytes of data go with it.
-#[derive(Drop)]
+#[derive(Clone, Copy)]
 pub struct Frame {
     pub kind: Kind,
     pub command: Command,
@@ -24,7 +24,7 @@ pub struct Frame {
 }
 
 // Where the controller is, each case with what it carries.
-#[derive(Drop)]
+#[derive(Clone, Copy)]
 pub enum Stage {
     // It may start, and nothing is submitted.
     Free,
@@ -39,20 +39,20 @@ pub enum Stage {
 }
 
 // Whether a frame ended: the frame, its status, and how many data bytes stand in the response buffer.
-#[derive(Drop)]
+#[derive(Clone, Copy)]
 pub enum End {
     NotYet,
     Over(Frame, u8, u16),
 }
 
-#[derive(Drop)]
+#[derive(Clone, Copy)]
 pub struct Moved {
     pub stage: Stage,
     pub end: End,
 }
 
 // Whether what a step is lent fits its frame.
-#[derive(Drop)]
+#[derive(Clone, Copy)]
 pub enum Lent {
     Fits,
     // Refusal 10: data that differs in length from the submitted.

@@ -5,7 +5,7 @@ ghost use Rattle.message.specs.Format.{command_format, head_of};
 ghost use Rattle.header.specs.Header.{fields_of, header_bytes, header_in};
 
 // The fields of a command. Its data length is that of the data beside it.
-#[derive(Drop)]
+#[derive(Clone, Copy)]
 pub struct Command {
     pub device: u8,
     pub command: u8,
@@ -32,7 +32,7 @@ pub fn bytes_of(c: Command, n: usize) -> [u8; 9]
 }
 
 // The nine bytes before the data.
-#[derive(Drop)]
+#[derive(Clone, Copy)]
 pub struct Header {
     pub command: Command,
     pub data_length: u16,

@@ -9,7 +9,7 @@ use libc::STDOUT_FILENO;
 use play::{noted, pictured};
 
 // A bus, and what is kept beside it.
-#[derive(Drop)]
+#[derive(Clone, Copy)]
 struct Bench {
     bus: Bus,
     desk: Desk,

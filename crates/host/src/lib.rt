@@ -13,7 +13,7 @@ use unit::Unit;
 pub const RETRY: u32 = 20;
 
 // What making a unit comes to.
-#[derive(Drop)]
+#[derive(Clone, Copy)]
 pub enum Made {
     New(Unit),
     // Refusal 5: own code 0, or retry not 4 to 65,535.
@@ -21,7 +21,7 @@ pub enum Made {
 }
 
 // What feeding a byte comes to.
-#[derive(Drop)]
+#[derive(Clone, Copy)]
 pub enum Fed {
     Queued(Unit),
     // Refusal 6: the input queue is full.
@@ -31,14 +31,14 @@ pub enum Fed {
 }
 
 // What taking a byte comes to.
-#[derive(Drop)]
+#[derive(Clone, Copy)]
 pub enum Taken {
     Byte(u8, Unit),
     Nothing,
 }
 
 // What raising a request comes to.
-#[derive(Drop)]
+#[derive(Clone, Copy)]
 pub enum Raised {
     Held(Unit),
     // Refusal 7: not enabled.
@@ -46,7 +46,7 @@ pub enum Raised {
 }
 
 // What an application may look at: open and how, how many bytes are queued, enabled, requesting.
-#[derive(Drop)]
+#[derive(Clone, Copy)]
 pub struct Looks {
     pub opening: Opening,
     pub input: usize,

@@ -5,7 +5,7 @@ ghost use Rattle.kind.specs.Kinds.{kind_of, checks_of, reset_of, verdict_of, is_
 use header::Command;
 use serial::{Effect, Opening, Reply, Serial, Verdict};
 
-#[derive(Drop)]
+#[derive(Clone, Copy)]
 pub enum Kind {
     // 000, 5.4 and its RS-232 chapter.
     Serial,

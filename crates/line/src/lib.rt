@@ -5,7 +5,7 @@ ghost use Rattle.line.specs.Line.{wired, wired_nibble, send_of, sent_of, sender_
 
 // What a party sees on the lines, or does to them. A line is low if any party pulls it: true is low, or pulled. A released
 // nibble reads 15.
-#[derive(Drop)]
+#[derive(Clone, Copy)]
 pub struct Lines {
     pub bav: bool,
     pub hsk: bool,
@@ -49,7 +49,7 @@ fn both_high(a: u8, b: u8) -> u8
 }
 
 // A sender: before it places its next nibble, after it placed one, and while it keeps one with HSK released.
-#[derive(Drop)]
+#[derive(Clone, Copy)]
 pub enum Sender {
     Next,
     Placed(u8),
@@ -102,7 +102,7 @@ impl Sender {
 }
 
 // A listener: ready for a nibble, holding HSK low after it took one, and waiting to see HSK high.
-#[derive(Drop)]
+#[derive(Clone, Copy)]
 pub enum Listener {
     Ready,
     Holding,

@@ -8,7 +8,7 @@ use line::{Lines, Listener, Sender};
 use serial::{Reply, Serial};
 
 // A command that is being taken: its header so far, the byte that is next, and whether that byte's low nibble is there.
-#[derive(Drop)]
+#[derive(Clone, Copy)]
 pub struct Partial {
     pub header: Header,
     pub place: u32,
@@ -17,14 +17,14 @@ pub struct Partial {
 }
 
 // A command on its way: not all there yet, or whole, its reply fixed.
-#[derive(Drop)]
+#[derive(Clone, Copy)]
 pub enum Progress {
     Taking(Partial),
     Answered(Reply),
 }
 
 // The phase, each case with what it carries.
-#[derive(Drop)]
+#[derive(Clone, Copy)]
 pub enum Phase {
     Idle,
     // The listener, whether the device code's low nibble is there, and that nibble.
@@ -37,7 +37,7 @@ pub enum Phase {
 }
 
 // A phase, and the state beside it.
-#[derive(Drop)]
+#[derive(Clone, Copy)]
 pub struct Moved {
     pub phase: Phase,
     pub serial: Serial,

@@ -1,7 +1,7 @@
 // A screen of 24 rows and 80 columns as a picture of letters. Bytes that are no letter are shown as dots.
 
 // What its frame marks: the row and column of the cursor, and which lines are protected.
-#[derive(Drop)]
+#[derive(Clone, Copy)]
 pub struct Marks {
     pub row: u64,
     pub column: u64,

@@ -4,7 +4,7 @@ ghost use Rattle.message.specs.Nibbles.{nibble_in};
 ghost use Rattle.place.specs.Place.{place_in, byte_at};
 
 // What stands at a byte of a message.
-#[derive(Drop)]
+#[derive(Clone, Copy)]
 pub enum Place {
     // This byte of a field.
     Field(u8),

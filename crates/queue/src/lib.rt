@@ -3,14 +3,14 @@ ghost use Rattle.std.specs.Prelude.{◌≡◌, [], ◌∷◌, ◌+◌, ◌%◌};
 ghost use Rattle.queue.specs.Queue.{held, room, empty_queue, byte_at, queue_with, bytes_with, queue_without, popped};
 
 // Where the oldest byte stands, and how many there are. A count over 256 is that of a full queue.
-#[derive(Drop)]
+#[derive(Clone, Copy)]
 pub struct Queue {
     pub head: u8,
     pub count: u16,
 }
 
 // What is taken from a queue: its oldest byte, and the queue without it.
-#[derive(Drop)]
+#[derive(Clone, Copy)]
 pub enum Popped {
     Byte(u8, Queue),
     Nothing,

@@ -4,7 +4,7 @@ ghost use Rattle.message.specs.Reading.{checking, data_by};
 ghost use Rattle.reader.specs.Numbers.{found};
 
 // What a slice that must hold exactly one message is found to be.
-#[derive(Drop)]
+#[derive(Clone, Copy)]
 pub enum Checked {
     // One message, with so many bytes of data.
     Whole(usize),

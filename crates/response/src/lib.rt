@@ -13,7 +13,7 @@ use reader::Checked;
 use writer::Written;
 
 // What reading a slice that must hold exactly one response comes to.
-#[derive(Drop)]
+#[derive(Clone, Copy)]
 pub enum Reading {
     // Its status. `data_of` hands back the data.
     Status(u8),

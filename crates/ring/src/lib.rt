@@ -2,14 +2,14 @@
 ghost use Rattle.std.specs.Prelude.{◌≡◌, [], ◌∷◌, ◌++◌, ◌≤◌, get_or, length, set};
 ghost use Rattle.ring.specs.Ring.{none, counted, live, slots_from, ring_of, place_of, is_in, cut_at, joined, removed, turned, with_mark, is_marked};
 
-#[derive(Drop)]
+#[derive(Clone, Copy)]
 pub struct Entry {
     pub code: u8,
     pub marked: bool,
 }
 
 // The entries stand at the front of the array; the slots behind them hold code 0, unmarked. A count over 16 is that of a full ring.
-#[derive(Drop)]
+#[derive(Clone, Copy)]
 pub struct Ring {
     pub entries: [Entry; 16],
     pub count: u8,

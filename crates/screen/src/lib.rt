@@ -3,7 +3,7 @@ ghost use Rattle.std.specs.Prelude.{◌≡◌, cond, false, ◌+◌, ◌-◌, lt
 ghost use Rattle.screen.specs.Screen.{at, reading, backward, forward, advanced, controlled, placed, protected, guarded, ordered, skipped, skipping, sequence_of, commanded, unescaped, with_byte, new_screen, scrolling, wrapping, asking};
 
 // The sequence that is being read.
-#[derive(Drop)]
+#[derive(Clone, Copy)]
 pub enum Sequence {
     // None.
     Plain,
@@ -16,7 +16,7 @@ pub enum Sequence {
     Skips(u8),
 }
 
-#[derive(Drop)]
+#[derive(Clone, Copy)]
 pub struct Screen {
     // Where the cursor is.
     pub row: u8,

@@ -75,7 +75,7 @@ pub const MOST: usize = 65536;
 const TOO_MANY: usize = 131072;
 
 // The form of a line: its place, where it goes on behind the words that the line has too, and its end.
-#[derive(Drop)]
+#[derive(Clone, Copy)]
 struct Fit {
     form: u64,
     from: usize,
@@ -87,7 +87,7 @@ struct Fit {
 }
 
 // What a form asks for: a kind, none for a name without a value, and the place of its value. A named value stands behind its name.
-#[derive(Drop)]
+#[derive(Clone, Copy)]
 struct Asked {
     start: usize,
     end: usize,
@@ -96,7 +96,7 @@ struct Asked {
 }
 
 // What was read of a line: how far, up to which place of its form, and the place of the next value.
-#[derive(Drop)]
+#[derive(Clone, Copy)]
 struct Values {
     at: usize,
     from: usize,
@@ -112,7 +112,7 @@ struct Values {
 }
 
 // The statement of a line, and how it was read.
-#[derive(Drop)]
+#[derive(Clone, Copy)]
 pub struct Line {
     pub statement: Statement,
     pub reading: Reading,

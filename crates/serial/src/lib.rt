@@ -9,7 +9,7 @@ use queue::Queue;
 use screen::Screen;
 
 // What an open unit is open for.
-#[derive(Drop)]
+#[derive(Clone, Copy)]
 pub enum Mode {
     Input,
     Output,
@@ -17,14 +17,14 @@ pub enum Mode {
 }
 
 // Closed, or open for a mode with an accepted length.
-#[derive(Drop)]
+#[derive(Clone, Copy)]
 pub enum Opening {
     Closed,
     OpenFor(Mode, u8),
 }
 
 // A unit's state besides its lines. The bytes of its queues stand in memory that its caller lends.
-#[derive(Drop)]
+#[derive(Clone, Copy)]
 pub struct Serial {
     pub opening: Opening,
     pub enabled: bool,
@@ -36,7 +36,7 @@ pub struct Serial {
 }
 
 // The response to a command, fixed when its last nibble is taken.
-#[derive(Drop)]
+#[derive(Clone, Copy)]
 pub enum Reply {
     // No response.
     Silent,
@@ -53,7 +53,7 @@ pub enum Reply {
 }
 
 // What a command does to the unit when its last nibble is taken.
-#[derive(Drop)]
+#[derive(Clone, Copy)]
 pub enum Effect {
     Keeps,
     Opens(Mode, u8),
@@ -72,7 +72,7 @@ pub enum Effect {
 }
 
 // What a unit answers to a command, and what the command does to it.
-#[derive(Drop)]
+#[derive(Clone, Copy)]
 pub struct Verdict {
     pub reply: Reply,
     pub effect: Effect,

@@ -3,7 +3,7 @@
 use line::{Lines, Listener, Sender};
 use statement::{ANSWER_BYTES, HEARD_BYTES, Numbers, STAND_IN_CODES};
 
-#[derive(Drop)]
+#[derive(Clone, Copy)]
 pub struct StandIn {
     // Its code, 0 for every code.
     code: u64,

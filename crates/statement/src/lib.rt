@@ -153,7 +153,7 @@ pub const STAND_IN_CODES: usize = 16;
 
 // The numbers of a statement in the order of its form, NONE for what was not given and 1 for a name without a value; or those that were
 // found, in the same places.
-#[derive(Drop)]
+#[derive(Clone, Copy)]
 pub struct Numbers {
     pub first: u64,
     pub second: u64,
@@ -171,7 +171,7 @@ pub struct Numbers {
 }
 
 // Its form, its numbers, and how many bytes it has.
-#[derive(Drop)]
+#[derive(Clone, Copy)]
 pub struct Statement {
     pub form: u64,
     pub numbers: Numbers,
@@ -187,7 +187,7 @@ pub const ONE_MORE: u64 = 18;
 
 // Such an act: the levels that are seen (line), a bit for each host that is busy, how long the data of the command is, and how much of the
 // response buffer is lent.
-#[derive(Drop)]
+#[derive(Clone, Copy)]
 pub struct Doing {
     pub act: u64,
     pub bav: bool,
@@ -199,7 +199,7 @@ pub struct Doing {
 }
 
 // What an act has come to.
-#[derive(Drop)]
+#[derive(Clone, Copy)]
 pub struct Told {
     // The number of a call: its refusal, 0 for none; how many bytes were taken; NEW for a request that is new.
     pub number: u64,

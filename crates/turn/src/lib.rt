@@ -7,7 +7,7 @@ use header::Command;
 use ring::{Entry, Ring};
 
 // What the application is told of a round.
-#[derive(Drop)]
+#[derive(Clone, Copy)]
 pub enum Event {
     Nothing,
     // Its command ended with a status; so many data bytes stand at the front of the response buffer.

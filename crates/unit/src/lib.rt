@@ -7,7 +7,7 @@ use line::Lines;
 use phase::{Moved, Phase};
 use serial::Serial;
 
-#[derive(Drop)]
+#[derive(Clone, Copy)]
 pub struct Unit {
     // Its own code, and for how many rounds BAV is seen high before its request pulls it.
     pub own: u8,
@@ -21,7 +21,7 @@ pub struct Unit {
 }
 
 // What a step comes to.
-#[derive(Drop)]
+#[derive(Clone, Copy)]
 pub enum Stepped {
     On(Unit),
     // Refusal 5: nibble level over 15.

@@ -16,7 +16,7 @@ const OUTPUT: usize = 512;
 
 // A unit after an act, and the number that this came to: the refusal, 0 for none; how many bytes were taken; NEW for a request that it did
 // not hold before.
-#[derive(Drop)]
+#[derive(Clone, Copy)]
 pub struct Acted {
     pub unit: Unit,
     pub number: u64,

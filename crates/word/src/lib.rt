@@ -2,7 +2,7 @@
 use statement::NONE;
 
 // Where a word stands in its line.
-#[derive(Drop)]
+#[derive(Clone, Copy)]
 pub struct Word {
     pub start: usize,
     pub end: usize,
@@ -10,7 +10,7 @@ pub struct Word {
 
 // How far a line was read. If it is no statement: the word that was read, the part of the forms that says what was expected, and without a
 // form the most words that the line and a form have in common.
-#[derive(Drop)]
+#[derive(Clone, Copy)]
 pub struct Reading {
     pub at: usize,
     pub is_wrong: bool,
@@ -20,7 +20,7 @@ pub struct Reading {
 }
 
 // What the first words of a line and of a form have in common.
-#[derive(Drop)]
+#[derive(Clone, Copy)]
 pub struct Lead {
     pub fits: bool,
     pub words: u64,

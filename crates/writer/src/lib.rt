@@ -4,7 +4,7 @@ ghost use Rattle.message.specs.Writing.{writing, written};
 ghost use Rattle.writer.specs.Numbers.{numbered};
 
 // What writing a message into a lent buffer comes to.
-#[derive(Drop)]
+#[derive(Clone, Copy)]
 pub enum Written {
     // The message's length in bytes.
     Length(usize),

@@ -1,0 +1,20 @@
+-- `queue::Queue::push_all` meets its contract. The loop's invariant: storing what is left of the data gives what storing all of it
+-- gives at the start. The measure is how much is left.
+use Prim.Native.Nat.{ℕ, ◌+◌, ◌-◌, ◌%◌, ◌≤◌, ◌<◌}
+use native.Mathlib.Nat.{add-zero}
+use native.Mathlib.Omega.{arith}
+use mathlib.Core.Logic.{⊎_elim}
+use mathlib.Core.Path.{◌≡◌, sym, ◌∙◌, ap}
+use mathlib.Core.List.{List}
+use lib.ListN.{length, get_or, set, drop, drop_of_length-le}
+use lib.Seq.{set_out}
+use Rattle.queue.specs.Queue.{room, stored}
+use Rattle.queue.proofs.Laws.{tests, length-stored, stored_next}
+use borrow.Author.Rules.{rules}
+use Rattle.queue.proofs.Queue.push_all.Given as goal
+
+abbrev pub invariant-loop-i : goal.invariant-loop-i
+invariant-loop-i l = stored l.bytes (l.back + l.i) (drop l.i l.data) ≡ stored l.initial.bytes l.back l.data
+
+abbrev pub decreases-loop-i : goal.decreases-loop-i
+decreases-loop-i l = l.n - l.i
