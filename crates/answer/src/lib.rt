@@ -1,4 +1,7 @@
 // A response as the controller takes it, nibble by nibble.
+
+#![tactic(auto)]
+
 ghost use Rattle.std.specs.Prelude.{◌≡◌, ◌-◌, min};
 ghost use Rattle.message.specs.Format.{response_format, start};
 ghost use Rattle.answer.specs.Answer.{partial, nothing_taken, length_taken, body_taken, byte_taken, body_buffer, byte_buffer, taken_with, buffer_with, is_over, status_of, count_of};

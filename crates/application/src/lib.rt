@@ -1,4 +1,7 @@
 // The calls of the application: to make a controller, submit a command, acknowledge a request, and look at the controller.
+
+#![tactic(auto)]
+
 ghost use Rattle.std.specs.Prelude.{◌≡◌, length};
 ghost use Rattle.controller.specs.Controller.{new_controller};
 ghost use Rattle.application.specs.Calls.{making, made, controller_made, is_shut_out, submitting, submitted, with_command, controller_submitted, acknowledging, acknowledged, without_mark, controller_acknowledged, is_submitted, may_start, looks_of};

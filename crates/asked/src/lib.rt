@@ -1,4 +1,7 @@
 // What the words of the command line ask for, and the files that they name.
+
+#![tactic(auto)]
+
 pub mod files;
 
 use libc::STDERR_FILENO;

@@ -1,4 +1,7 @@
 // The bus of a script: what each act of a statement makes of it, and looks at its parties. What is said of it is not known here.
+
+#![tactic(auto)]
+
 use bus::Bus;
 use controller::Stepping;
 use controllercalls::told;

@@ -1,5 +1,8 @@
 // A bus of one controller and up to sixteen units: in a round each party steps once, at the levels left by all pulls of the round
 // before. The units' memory stays with the caller.
+
+#![tactic(auto)]
+
 ghost use Rattle.std.specs.Prelude.{◌≡◌, ◌++◌, ◌+◌, ◌*◌, ◌≤◌, min, length, take, drop};
 ghost use Rattle.controller.specs.Calls.{stepped};
 ghost use Rattle.unit.specs.Calls.{stepping, buffer_after, output_after};

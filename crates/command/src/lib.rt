@@ -1,5 +1,8 @@
 // The command message: device code 1, command code 1, logical unit 1, record number 2, buffer length 2, data length 2,
 // then the data.
+
+#![tactic(auto)]
+
 ghost use Rattle.std.specs.Prelude.{◌≡◌, [], ◌≤◌, length};
 ghost use Rattle.message.specs.Format.{command_format, head_of, bytes_of, least};
 ghost use Rattle.message.specs.Reading.{reading, data_in};

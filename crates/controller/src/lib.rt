@@ -1,4 +1,7 @@
 // The controller: its settings and state, its round, and what it pulls.
+
+#![tactic(auto)]
+
 ghost use Rattle.std.specs.Prelude.{◌≡◌};
 ghost use Rattle.controller.specs.Controller.{with_stage, with_ring, is_idle, service, idle_step, ring_after, event_after, controller_step, event_in};
 ghost use Rattle.controller.specs.Calls.{stepping, stepped, controller_stepped, buffer_after, went_on, going};

@@ -1,4 +1,7 @@
 // The calls of the application that a script makes, steps of the controller by hand, and looks at it.
+
+#![tactic(auto)]
+
 pub mod told;
 
 use application::{Acknowledging, Making, Submitting};

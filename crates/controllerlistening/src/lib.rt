@@ -1,4 +1,7 @@
 // A controller that listens, in the words that a caller lends: a nibble that it takes.
+
+#![tactic(auto)]
+
 ghost use Rattle.std.specs.Prelude.{◌≡◌};
 ghost use Rattle.controllerlistening.specs.Listening.{nibble_in, taken_in, taken_buffer};
 

@@ -1,4 +1,7 @@
 // A round of a controller in the words that a caller lends: only the words that change are written.
+
+#![tactic(auto)]
+
 ghost use Rattle.std.specs.Prelude.{◌≡◌, true, false, cond, [], ◌∷◌};
 ghost use Rattle.controller.specs.Controller.{idle_step};
 ghost use Rattle.controllerwords.specs.Controller.{loaded_frame, loaded_response, loaded_stage, listening, stage_in, loaded, saved_in};

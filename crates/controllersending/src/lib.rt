@@ -1,4 +1,7 @@
 // A round of a controller that sends, in the words that a caller lends: only the words that change are written.
+
+#![tactic(auto)]
+
 ghost use Rattle.std.specs.Prelude.{◌≡◌};
 ghost use Rattle.controllerwords.specs.Controller.{loaded_frame, stage_in};
 ghost use Rattle.controllerwords.specs.Layout.{NEXT};

@@ -1,4 +1,7 @@
 // A controller in the words that a caller lends: loaded before a call, saved after it.
+
+#![tactic(auto)]
+
 ghost use Rattle.std.specs.Prelude.{◌≡◌, ◌||◌, ◌+◌, ◌<◌, eqb};
 ghost use Rattle.frame.specs.Frame.{is_submitted};
 ghost use Rattle.words.specs.Words.{at, number_in};

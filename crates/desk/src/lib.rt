@@ -1,5 +1,8 @@
 // What a run of a script keeps beside the bus: what application and hosts do by themselves, what came of the last calls, what is seen of the
 // bus, and what is counted. What there is of it for each party stands in rows of numbers that are lent.
+
+#![tactic(auto)]
+
 pub mod hosts;
 pub mod judge;
 pub mod plan;

@@ -1,4 +1,7 @@
 // The classes of the device codes.
+
+#![tactic(auto)]
+
 ghost use Rattle.std.specs.Prelude.{◌≡◌};
 ghost use Rattle.device.specs.Classes.{class_of};
 

@@ -1,4 +1,7 @@
 // What is said of a line that is no statement, and what stands in a statement's place.
+
+#![tactic(auto)]
+
 use statement::{BLANK, NONE, Numbers};
 use word::{Reading, Word};
 

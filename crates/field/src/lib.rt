@@ -1,4 +1,7 @@
 // Fields and nibbles: two-byte fields go low byte first, each byte as two nibbles, low first.
+
+#![tactic(auto)]
+
 ghost use Rattle.std.specs.Prelude.{◌≡◌, [], ◌∷◌, ◌%◌, get_or, set};
 ghost use Rattle.field.specs.Field.{field, value_of, nibble_of, byte_from};
 

@@ -1,4 +1,7 @@
 // A frame of the controller, round by round on the lines; the ring is not seen here.
+
+#![tactic(auto)]
+
 ghost use Rattle.std.specs.Prelude.{◌≡◌, ◌&&◌};
 ghost use Rattle.frame.specs.Frame.{bare, submitted_frame, poll_of, null_frame, is_submitted, begun, data_of, nibble_of, last_of, next_nibble, sending_step, stays, over, ends_by, waited, listening_step, listening_buffer, rest_step, frame_step, frame_buffer, lent_with, lent_to, lent_at, pulls_of};
 ghost use Rattle.answer.specs.Answer.{is_over};

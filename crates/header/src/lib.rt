@@ -1,5 +1,8 @@
 // What stands before a command's data: device code 1, command code 1, logical unit 1, record number 2, buffer length 2 and
 // data length 2.
+
+#![tactic(auto)]
+
 ghost use Rattle.std.specs.Prelude.{◌≡◌, [], set};
 ghost use Rattle.message.specs.Format.{command_format, head_of};
 ghost use Rattle.header.specs.Header.{fields_of, header_bytes, header_in};

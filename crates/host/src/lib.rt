@@ -1,4 +1,7 @@
 // The calls of a unit's host: to make it, feed it, take from it, raise a request, and look at it.
+
+#![tactic(auto)]
+
 ghost use Rattle.std.specs.Prelude.{◌≡◌};
 ghost use Rattle.unit.specs.Unit.{new_unit};
 ghost use Rattle.host.specs.Calls.{making, made, feeding, input_after, fed, taking, raising, raised, looks_of, with_serial};

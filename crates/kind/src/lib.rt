@@ -1,4 +1,7 @@
 // The kinds of unit: all that differs between them stands here. A unit's kind follows from its own code.
+
+#![tactic(auto)]
+
 ghost use Rattle.std.specs.Prelude.{◌≡◌};
 ghost use Rattle.kind.specs.Kinds.{kind_of, checks_of, reset_of, verdict_of, is_fed, lent_to, is_short};
 

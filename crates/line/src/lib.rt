@@ -1,5 +1,8 @@
 // The lines, and the two machines that move one nibble after another over them: the sender and the listener. Both ends of the
 // bus use these as they are.
+
+#![tactic(auto)]
+
 ghost use Rattle.std.specs.Prelude.{◌≡◌, ◌||◌, ◌≤◌, ◌%◌, min};
 ghost use Rattle.line.specs.Line.{wired, wired_nibble, send_of, sent_of, sender_hsk, sender_nibble, hear_of, taken_of, is_ready, listener_hsk};
 

@@ -1,6 +1,9 @@
 // Text that programs write. What is said goes to a descriptor at once; to descriptor 0 nothing is written. What is put together piece by
 // piece stands on a page, which is lent: each call takes how many letters stand on it and returns how many do then. What would go past its
 // end is left out.
+
+#![tactic(auto)]
+
 mod names;
 
 // Words as they are.

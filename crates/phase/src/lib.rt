@@ -1,4 +1,7 @@
 // The peripheral's phase, and its round while BAV is seen low, one function to a phase.
+
+#![tactic(auto)]
+
 ghost use Rattle.std.specs.Prelude.{◌≡◌, ◌≤◌, length, []};
 ghost use Rattle.phase.specs.Phase.{idle_step, selected, selecting_step, buffer_with, answered, stored, byte_step, byte_buffer, byte_output, taking_step, taking_buffer, taking_output, replied, answered_step, done, responding_step, receiving_step, receiving_buffer, receiving_output, phase_step, phase_buffer, phase_output, stored_data, moves, partial, with_byte};
 ghost use Rattle.header.specs.Header.{header_in};

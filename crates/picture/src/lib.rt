@@ -1,5 +1,8 @@
 // The lines as pictures, and a screen. A mark is what one party leaves on the lines, or all of them together: 32 where BAV is high, 16 where HSK is,
 // and the nibble. The marks of a round are those of units 0 to 15, of the controller, of the lines, and of stand-ins 0 to 3.
+
+#![tactic(auto)]
+
 pub mod dump;
 pub mod screen;
 pub mod strip;

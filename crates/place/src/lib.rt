@@ -1,4 +1,7 @@
 // What stands at each byte and nibble of a message, of any format, that is described by its fields and data.
+
+#![tactic(auto)]
+
 ghost use Rattle.std.specs.Prelude.{◌≡◌, ◌++◌};
 ghost use Rattle.message.specs.Nibbles.{nibble_in};
 ghost use Rattle.place.specs.Place.{place_in, byte_at};

@@ -1,5 +1,8 @@
 // A script without faults, statement by statement: what the bus is to do for each, and what is said and judged of it then. The bus itself
 // is not known here.
+
+#![tactic(auto)]
+
 pub mod found;
 pub mod noted;
 pub mod pictured;

@@ -1,4 +1,7 @@
 // A queue of up to 256 bytes. Its bytes stand in memory that the caller lends, a ring: the place after the last is the first.
+
+#![tactic(auto)]
+
 ghost use Rattle.std.specs.Prelude.{◌≡◌, [], ◌∷◌, ◌+◌, ◌%◌};
 ghost use Rattle.queue.specs.Queue.{held, room, empty_queue, byte_at, queue_with, bytes_with, queue_without, popped};
 

@@ -1,4 +1,7 @@
 // Reading a slice that must hold exactly one message, of any format: the check, and the data field as a part of the slice.
+
+#![tactic(auto)]
+
 ghost use Rattle.std.specs.Prelude.{◌≡◌};
 ghost use Rattle.message.specs.Reading.{checking, data_by};
 ghost use Rattle.reader.specs.Numbers.{found};

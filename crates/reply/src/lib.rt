@@ -1,4 +1,7 @@
 // The nibbles of a unit's response, from its reply and its input queue.
+
+#![tactic(auto)]
+
 ghost use Rattle.std.specs.Prelude.{◌≡◌, [], ◌∷◌, ◌++◌, min, ◌≤◌, get_or, take};
 ghost use Rattle.field.specs.Field.{field};
 ghost use Rattle.message.specs.Nibbles.{nibble_in};

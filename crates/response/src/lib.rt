@@ -1,4 +1,7 @@
 // The response message: data length 2, the data, status 1.
+
+#![tactic(auto)]
+
 ghost use Rattle.std.specs.Prelude.{◌≡◌, [], ◌∷◌, length};
 ghost use Rattle.message.specs.Format.{response_format, head_of, end_of, bytes_of, least};
 ghost use Rattle.message.specs.Reading.{reading, data_in};

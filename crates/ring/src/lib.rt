@@ -1,4 +1,7 @@
 // The polling ring: up to sixteen entries, each a device code and an unacknowledged mark, the front first.
+
+#![tactic(auto)]
+
 ghost use Rattle.std.specs.Prelude.{◌≡◌, [], ◌∷◌, ◌++◌, ◌≤◌, get_or, length, set};
 ghost use Rattle.ring.specs.Ring.{none, counted, live, slots_from, ring_of, place_of, is_in, cut_at, joined, removed, turned, with_mark, is_marked};
 

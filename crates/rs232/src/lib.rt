@@ -1,4 +1,7 @@
 // What a serial unit answers to a whole command: checks 3 to 11 give the response and the effect.
+
+#![tactic(auto)]
+
 ghost use Rattle.std.specs.Prelude.{◌≡◌, cond, [], min, get_or};
 ghost use Rattle.serial.specs.Verdict.{says, status};
 ghost use Rattle.rs232.specs.Checks.{mode_of, accepted_of, requested_in, attributes_in, open_status, open_by, read_length, read_by, write_by, opened_by, closed_by, command_by, supported, checked, takes_bytes};

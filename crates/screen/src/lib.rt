@@ -1,4 +1,7 @@
 // A screen of 24 rows and 80 columns: its state, and what a byte makes of it.
+
+#![tactic(auto)]
+
 ghost use Rattle.std.specs.Prelude.{◌≡◌, cond, false, ◌+◌, ◌-◌, ltb};
 ghost use Rattle.screen.specs.Screen.{at, reading, backward, forward, advanced, controlled, placed, protected, guarded, ordered, skipped, skipping, sequence_of, commanded, unescaped, with_byte, new_screen, scrolling, wrapping, asking};
 

@@ -1,5 +1,8 @@
 // The statements of a script, one to a line. A line is read by the forms alone, without any knowledge of a bus; its bytes go to lent memory.
 // The forms are a table that is also the page of help.
+
+#![tactic(auto)]
+
 use statement::{BLANK, NONE, Numbers, Statement};
 use word::{Reading, Word};
 

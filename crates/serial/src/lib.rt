@@ -1,5 +1,8 @@
 // The state of a unit, what a command's effects and the end of its response do to it, and the verdict on a command: both together.
 // There are no lines in it, and no kind of unit.
+
+#![tactic(auto)]
+
 ghost use Rattle.std.specs.Prelude.{◌≡◌, []};
 ghost use Rattle.screen.specs.Text.{cleared};
 ghost use Rattle.serial.specs.Serial.{new_serial, applied, output_after, finished};

@@ -1,5 +1,8 @@
 // Stand-ins for units: each hears commands to its code and answers as a script says, through the listener and the sender that every party
 // has. Between rounds one stands in a row of lent numbers.
+
+#![tactic(auto)]
+
 use line::{Lines, Listener, Sender};
 use statement::{ANSWER_BYTES, HEARD_BYTES, Numbers, STAND_IN_CODES};
 

@@ -1,6 +1,8 @@
 // A statement of a script as numbers, and what a bus tells of itself in turn: what those who read scripts and those who run the bus have in
 // common.
 
+#![tactic(auto)]
+
 // No number: none was given, or none was found.
 pub const NONE: u64 = 4294967295;
 

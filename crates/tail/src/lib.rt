@@ -1,5 +1,8 @@
 // Data copied to the front of a lent tail: each byte is loaded once and stored once. A piece is loaded whole before its first byte is
 // stored. So LLVM holds it in a register and stores it at once, and need not know whether the two memories overlap.
+
+#![tactic(auto)]
+
 ghost use Rattle.std.specs.Prelude.{◌≡◌, ◌++◌, ◌%◌, ◌≤◌, length, drop};
 ghost use Rattle.tail.specs.Tail.{filled_with};
 

@@ -1,4 +1,7 @@
 // What a text makes of a screen and of its cells, which stand in memory that the caller lends, row by row.
+
+#![tactic(auto)]
+
 mod cells;
 
 ghost use Rattle.std.specs.Prelude.{◌≡◌, true, cond, ◌&&◌, ℕ, ◌+◌, ◌*◌, ◌≤◌, ◌<◌, leb, length, drop, get_or};

@@ -1,4 +1,7 @@
 // A turn of the ring: the frame of an entry's turn, and what a frame that has ended does to the ring and tells the application.
+
+#![tactic(auto)]
+
 ghost use Rattle.std.specs.Prelude.{◌≡◌};
 ghost use Rattle.turn.specs.Turn.{turn_of, ring_with, ring_ended, handed, event_of};
 

@@ -1,4 +1,7 @@
 // A unit: its settings and state, its round, and what it pulls.
+
+#![tactic(auto)]
+
 ghost use Rattle.std.specs.Prelude.{◌≡◌, ◌&&◌, not, ◌+◌, min};
 ghost use Rattle.unit.specs.Unit.{pulls_hsk, pulls_nibble, pulls_of, low_step, high_step, unit_step, unit_buffer, unit_output, asks};
 ghost use Rattle.unit.specs.Calls.{stepping, buffer_after, output_after, stepped};

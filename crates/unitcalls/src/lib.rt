@@ -1,4 +1,7 @@
 // The calls of a unit's host that a script makes, steps of a unit by hand, and looks at it.
+
+#![tactic(auto)]
+
 use host::{Fed, Made, Raised, Taken};
 use line::Lines;
 use phase::Phase;

@@ -1,5 +1,8 @@
 // A round of a unit in the words that a caller lends. A phase reads the words that it needs and writes those that change; where a phase is
 // left, and at a whole command, the functions of the machine by value are called.
+
+#![tactic(auto)]
+
 ghost use Rattle.std.specs.Prelude.{◌≡◌, true, false, ◌&&◌, not, eqb, set};
 ghost use Rattle.unit.specs.Unit.{high_step, pulls_of, pulls_hsk, pulls_nibble};
 ghost use Rattle.unitwords.specs.Layout.{ASKING, PHASE, EAR, SENDER, WAIT};

@@ -1,4 +1,7 @@
 // A unit in the words that a caller lends: loaded before a call, saved after it.
+
+#![tactic(auto)]
+
 ghost use Rattle.std.specs.Prelude.{◌≡◌, ◌≤◌};
 ghost use Rattle.words.specs.Words.{number_in};
 ghost use Rattle.unitwords.specs.Unit.{opening_of, opening_number, accepted_in, queue_of, sequence_of, sequence_tag, argument_in, loaded_screen, screen_in, loaded_serial, common_in, serial_in, address_of, address_in, reply_of, reply_tag, value_in, reply_in, loaded_header, header_in, loaded_partial, low_in, partial_in, loaded_phase, listening, sending, phase_in, moved_in, loaded, settings_in, saved_in, saved};

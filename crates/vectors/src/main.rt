@@ -1,5 +1,8 @@
 // Runs messages and device codes on the papers' worked examples and on both sides of each limit, and writes what each
 // comes to. Bytes, command codes and statuses are written in hexadecimal, all else in decimal.
+
+#![tactic(auto)]
+
 mod messages;
 mod readings;
 mod rows;

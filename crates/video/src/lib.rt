@@ -1,4 +1,7 @@
 // What a video unit answers to a whole command: checks 3 to 11 give the response and the effect.
+
+#![tactic(auto)]
+
 ghost use Rattle.std.specs.Prelude.{◌≡◌};
 ghost use Rattle.video.specs.Checks.{refused_mode, open_by, address_by, read_by, write_by, opened_by, closed_by, command_by, supported, checked, reset_by};
 

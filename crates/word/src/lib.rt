@@ -1,4 +1,7 @@
 // The words of a line and the numbers and bytes that they stand for, and the words of a form.
+
+#![tactic(auto)]
+
 use statement::NONE;
 
 // Where a word stands in its line.

@@ -1,4 +1,7 @@
 // Numbers, flags and the line machines in the words that a caller lends.
+
+#![tactic(auto)]
+
 ghost use Rattle.std.specs.Prelude.{◌≡◌, ◌%◌, ◌≤◌};
 ghost use Rattle.line.specs.Line.{hear_of, taken_of};
 ghost use Rattle.words.specs.Words.{number_in, flag_of, bit, flag_in, tag_in, listener_of, listener_tag, listener_in, sender_of, sender_tag, sender_in, nibble_in, command_of, lines_number};

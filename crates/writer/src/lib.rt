@@ -1,4 +1,7 @@
 // Writing a message, of any format, into a lent buffer: each byte of the buffer is stored once.
+
+#![tactic(auto)]
+
 ghost use Rattle.std.specs.Prelude.{◌≡◌, ◌++◌, ◌+◌, ◌≤◌, leb, length, drop};
 ghost use Rattle.message.specs.Writing.{writing, written};
 ghost use Rattle.writer.specs.Numbers.{numbered};
