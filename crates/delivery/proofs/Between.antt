@@ -56,7 +56,7 @@ sits_does seen st q = quiet_by seen st q.0 (λ next x. refl)
 
 quiet_marks : (seen : Lines) (hosts : ℕ) {ss : List Station} → All (Quiet seen) ss → units_marks seen hosts ss ≡ []
 quiet_marks seen hosts none = refl
-quiet_marks seen hosts (also {x = st} q a) = λ i. map (does st.unit.own_val) (q (is_odd hosts) i) ++ quiet_marks seen (hosts / 2) a i
+quiet_marks seen hosts (also {x = st} q a) = λ i. map (does st.unit.own) (q (is_odd hosts) i) ++ quiet_marks seen (hosts / 2) a i
 
 pub nothing_between : {T : Moment} {v : World} → On T v → in_frame v.controller.stage ≡ false → (hosts : ℕ) → units_marks (levels v) hosts v.units ≡ []
 nothing_between (rests {units = units} r eight codes d a) e hosts =

@@ -85,7 +85,7 @@ module _ (l : Capture) (ms : List Mark) (idle : Idle ms) where
 
 -- A call changes no code and no phase.
 pub record Alike (st after : Station) : Type 0 where
-  pub own : after.unit.own_val ≡ st.unit.own_val
+  pub own : after.unit.own ≡ st.unit.own
   pub phase : after.unit.phase ≡ st.unit.phase
 
 -- At no unit of a list, or at one that is lent another command buffer.
@@ -171,15 +171,15 @@ module _ {T : Moment} (l : Capture) (v : World) (call : Call) (s : Story T l v) 
   did-alike : (st after : Station) → Alike st after → DidAt l d st → DidAt (grown l ms) d after
   did-alike st after a q =
       subst (λ (own : ℕ). Did l.frame.command d own after.unit.phase (deeds_in own (grown l ms).marks)) (sym a.own)
-      (subst (λ (p : Phase). Did l.frame.command d st.unit.own_val p (deeds_in st.unit.own_val (grown l ms).marks)) (sym a.phase)
-      (subst (Did l.frame.command d st.unit.own_val st.unit.phase) (sym (deeds-same l ms (call_idle v call) st.unit.own_val)) q))
+      (subst (λ (p : Phase). Did l.frame.command d st.unit.own p (deeds_in st.unit.own (grown l ms).marks)) (sym a.phase)
+      (subst (Did l.frame.command d st.unit.own st.unit.phase) (sym (deeds-same l ms (call_idle v call) st.unit.own)) q))
 
   tells_alike : (ear : Listener) (st after : Station) → Alike st after → TellsAt l d ear st → TellsAt (grown l ms) d ear after
   tells_alike ear st after a q =
       subst (λ (own : ℕ). TellsBy l.frame.command d ear (acts_in (grown l ms).marks) own after.unit.phase (deeds_in own (grown l ms).marks)) (sym a.own)
-      (subst (λ (p : Phase). TellsBy l.frame.command d ear (acts_in (grown l ms).marks) st.unit.own_val p (deeds_in st.unit.own_val (grown l ms).marks)) (sym a.phase)
-      (subst (TellsBy l.frame.command d ear (acts_in (grown l ms).marks) st.unit.own_val st.unit.phase) (sym (deeds-same l ms (call_idle v call) st.unit.own_val))
-      (subst (λ (x : List Act). TellsBy l.frame.command d ear x st.unit.own_val st.unit.phase (deeds_in st.unit.own_val l.marks)) (sym (acts-same l ms (call_idle v call))) q)))
+      (subst (λ (p : Phase). TellsBy l.frame.command d ear (acts_in (grown l ms).marks) st.unit.own p (deeds_in st.unit.own (grown l ms).marks)) (sym a.phase)
+      (subst (TellsBy l.frame.command d ear (acts_in (grown l ms).marks) st.unit.own st.unit.phase) (sym (deeds-same l ms (call_idle v call) st.unit.own))
+      (subst (λ (x : List Act). TellsBy l.frame.command d ear x st.unit.own st.unit.phase (deeds_in st.unit.own l.marks)) (sym (acts-same l ms (call_idle v call))) q)))
 
   acted-called : Acted l d v.controller.stage v.units → Acted (grown l ms) d (called v call).controller.stage (called v call).units
   acted-called (sending_so i sender wait e was) = sending_so i sender wait (stage-called call s.frame ∙ e) (acts-same l ms (call_idle v call) ∙ was)

@@ -28,15 +28,15 @@ use Rattle.delivery.proofs.Promise.{promise_called}
 -- A unit that is sound is so behind a call.
 pub sound_called : {call : HostCall} {st after : Station} → Called call st after → Sound st → Sound after
 sound_called {call} {st} {after} k s =
-    let output : after.output ≡ st.output = ap (λ (x : Inside). x.output) k.inside ∙ output_called (kind_of st.unit.own_val) call (inside_of st) in
+    let output : after.output ≡ st.output = ap (λ (x : Inside). x.output) k.inside ∙ output_called (kind_of st.unit.own) call (inside_of st) in
     record {
       room = (λ i. is_short (kind_of (k.own i)) (length (k.buffer i)) (length (output i))) ∙ s.room;
-      fit = subst (λ (own : ℕ). Fit (kind_of own) (inside_of after)) (sym k.own) (subst (Fit (kind_of st.unit.own_val)) (sym k.inside) ((every_lawful (kind_of st.unit.own_val)).fit_called (inside_of st) call s.fit));
+      fit = subst (λ (own : ℕ). Fit (kind_of own) (inside_of after)) (sym k.own) (subst (Fit (kind_of st.unit.own)) (sym k.inside) ((every_lawful (kind_of st.unit.own)).fit_called (inside_of st) call s.fit));
     }
 
 -- A promise outlasts it, and so does every part of a frame.
 pub part_called : (T : Moment) {c : Command} {d : List ℕ} {i : ℕ} {sender : Sender} {call : HostCall} {st after : Station} → Called call st after
-    → Part (Promised T st.unit.own_val c d) c d i sender st → Part (Promised T after.unit.own_val c d) c d i sender after
+    → Part (Promised T st.unit.own c d) c d i sender st → Part (Promised T after.unit.own c d) c d i sender after
 part_called T {c} {d} {i} {sender} {call} {st} {after} k (listens ear t f h a q) =
     listens ear t f (subst (λ (x : Phase). Heard (bytes_for c d) ear (i + t) x after.buffer) (sym k.phase) (subst (Heard (bytes_for c d) ear (i + t) st.unit.phase) (sym k.buffer) h))
     (λ l. ap (addressed c) k.own ∙ a l) (λ l. k.asking ∙ q l)
@@ -71,9 +71,9 @@ one_called f g (suc i) call (that q o) = that q (one_called f g i call o)
 
 -- A unit that is lent another command buffer, where it is long enough.
 pub sound_lent : (buffer : List ℕ) (st : Station) → Sound st → Sound (with_buffer buffer st)
-sound_lent buffer st s = record { room = by (is_short (kind_of st.unit.own_val) (length buffer) (length st.output)) refl; fit = s.fit }
+sound_lent buffer st s = record { room = by (is_short (kind_of st.unit.own) (length buffer) (length st.output)) refl; fit = s.fit }
   where
-    by : (t : Bool) → is_short (kind_of st.unit.own_val) (length buffer) (length st.output) ≡ t → is_short (kind_of st.unit.own_val) (length (cond t st.buffer buffer)) (length st.output) ≡ false
+    by : (t : Bool) → is_short (kind_of st.unit.own) (length buffer) (length st.output) ≡ t → is_short (kind_of st.unit.own) (length (cond t st.buffer buffer)) (length st.output) ≡ false
     by true e = s.room
     by false e = e
 

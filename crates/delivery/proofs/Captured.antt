@@ -79,8 +79,8 @@ moments-round {w} {v} r busy l s own y (takes_it st after b e now o i) =
     let low = in_frame_low s.frame in
     let sound = becomes_all (in_frame_sound s.frame) b in
     let step = in_frame_step s.frame st k.0 sound in
-    let here-now : Has (settled (inside_of st)) (deeds_in st.unit.own_val (later_of l v busy).marks) =
-    subst (Has (settled (inside_of st))) (sym (deeds-now l v busy different low b)) (has_right (deeds_in st.unit.own_val l.marks) (answered_deeds (subst (Stepped st (levels v) k.0) (sym k.1) step) e now)) in
+    let here-now : Has (settled (inside_of st)) (deeds_in st.unit.own (later_of l v busy).marks) =
+    subst (Has (settled (inside_of st))) (sym (deeds-now l v busy different low b)) (has_right (deeds_in st.unit.own l.marks) (answered_deeds (subst (Stepped st (levels v) k.0) (sym k.1) step) e now)) in
     subst (λ (x : Inside). Has (settled x) (deeds_in own (later_of l v busy).marks)) i (subst (λ (n : ℕ). Has (settled (inside_of st)) (deeds_in n (later_of l v busy).marks)) o here-now)
 moments-round {w} {v} r busy l s own y (took_it e t) = subst (Has (settled y)) (sym (deeds_append own l.marks (round_marks v busy))) (has_left (deeds_in own (round_marks v busy)) (s.moments own y t))
 
@@ -105,8 +105,8 @@ begun_view {T} (runs f found x codes) e = by x e
     by (waits quiet framed d a why) e = absurd (false≢true e)
 
 fresh_did : (l : Capture) (d : List ℕ) (st : Station) → l.marks ≡ [] → Fresh st → DidAt l d st
-fresh_did l d st m (idles e) = subst (λ (p : Phase). Did l.frame.command d st.unit.own_val p (deeds_in st.unit.own_val l.marks)) (sym e) (ap (deeds_in st.unit.own_val) m)
-fresh_did l d st m (selects e) = subst (λ (p : Phase). Did l.frame.command d st.unit.own_val p (deeds_in st.unit.own_val l.marks)) (sym e) (ap (deeds_in st.unit.own_val) m)
+fresh_did l d st m (idles e) = subst (λ (p : Phase). Did l.frame.command d st.unit.own p (deeds_in st.unit.own l.marks)) (sym e) (ap (deeds_in st.unit.own) m)
+fresh_did l d st m (selects e) = subst (λ (p : Phase). Did l.frame.command d st.unit.own p (deeds_in st.unit.own l.marks)) (sym e) (ap (deeds_in st.unit.own) m)
 
 fresh_open : {st : Station} → Fresh st → is_answered st.unit.phase ≡ false
 fresh_open (idles e) = ap is_answered e

@@ -37,11 +37,11 @@ codes-after seen hosts [] = refl
 codes-after seen hosts (st ∷ ss) = λ i. own_kept st seen (is_odd hosts) i ∷ codes-after seen (hosts / 2) ss i
 
 -- From units to codes.
-pub all_codes : {P : ℕ → Type 0} {ss : List Station} → All (λ (st : Station). P st.unit.own_val) ss → All P (codes_of ss)
+pub all_codes : {P : ℕ → Type 0} {ss : List Station} → All (λ (st : Station). P st.unit.own) ss → All P (codes_of ss)
 all_codes none = none
 all_codes (also p a) = also p (all_codes a)
 
-pub one_codes : {P Q : ℕ → Type 0} {ss : List Station} → One (λ (st : Station). P st.unit.own_val) (λ (st : Station). Q st.unit.own_val) ss → One P Q (codes_of ss)
+pub one_codes : {P Q : ℕ → Type 0} {ss : List Station} → One (λ (st : Station). P st.unit.own) (λ (st : Station). Q st.unit.own) ss → One P Q (codes_of ss)
 one_codes (this p a) = this p (all_codes a)
 one_codes (that q o) = that q (one_codes o)
 

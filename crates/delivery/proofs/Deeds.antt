@@ -139,7 +139,7 @@ last_deeds seen next x (h_half j buffer room g h) l e q = λ i. cond (e i) (took
 -- A round of a unit while the command is sent.
 module _ (c : Command) (d : List ℕ) {st st' : Station} {seen : Lines} {busy : Bool} (step : Stepped st seen busy st') (e : List Deed) where
   abbrev own : ℕ
-  own = st.unit.own_val
+  own = st.unit.own
 
   abbrev newly : List Deed
   newly = deeds_by st.unit.phase st'.unit.phase (inside_of st) seen

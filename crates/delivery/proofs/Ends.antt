@@ -67,12 +67,12 @@ answered_free false u ear r e = e
 
 pub part_lets_go : {P : Reply → Inside → Type 0} {c : Command} {d : List ℕ} {i m : ℕ} {st st' : Station} {seen : Lines} {busy : Bool} → Stepped st seen busy st'
     → not (pulls_hsk st.unit.phase && busy) ≡ true → Part P c d i (Kept m) st → pulls_hsk st'.unit.phase ≡ false
-part_lets_go {c = c} {d = d} {i = i} {st = st} {st' = st'} {seen = seen} {busy = busy} s free (listens ear t f h a q) = by (heard_waits st.unit.own_val (inside_of st) seen busy h (kept_ear seen.hsk f))
+part_lets_go {c = c} {d = d} {i = i} {st = st} {st' = st'} {seen = seen} {busy = busy} s free (listens ear t f h a q) = by (heard_waits st.unit.own (inside_of st) seen busy h (kept_ear seen.hsk f))
   where
-    by : Waits (bytes_for c d) (i + t) (hear_of ear seen.hsk busy) st.unit.phase st.unit.own_val (inside_of st) seen busy st.buffer → pulls_hsk st'.unit.phase ≡ false
+    by : Waits (bytes_for c d) (i + t) (hear_of ear seen.hsk busy) st.unit.phase st.unit.own (inside_of st) seen busy st.buffer → pulls_hsk st'.unit.phase ≡ false
     by (waits after h' r) = ap pulls_hsk (s.phase ∙ r.phase) ∙ heard_hsk h' ∙ free_ear seen.hsk busy f (sym (ap (λ (x : Bool). not (x && busy)) (heard_hsk h)) ∙ free)
 part_lets_go {st = st} {seen = seen} {busy = busy} s free (answers ear r f l a e k q) =
-    ap pulls_hsk (s.phase ∙ ap (λ (x : Phase). (phase_step x st.unit.own_val st.unit.serial seen busy st.buffer st.input).phase) e)
+    ap pulls_hsk (s.phase ∙ ap (λ (x : Phase). (phase_step x st.unit.own st.unit.serial seen busy st.buffer st.input).phase) e)
     ∙ answered_free (is_ready (hear_of ear seen.hsk busy)) (is_silent r) (hear_of ear seen.hsk busy) r (free_ear seen.hsk busy f (sym (ap (λ (x : Phase). not (pulls_hsk x && busy)) e) ∙ free))
 part_lets_go {st = st} {seen = seen} {busy = busy} s free (sits now a e k q) =
-    ap pulls_hsk (s.phase ∙ ap (λ (x : Phase). (phase_step x st.unit.own_val st.unit.serial seen busy st.buffer st.input).phase) e)
+    ap pulls_hsk (s.phase ∙ ap (λ (x : Phase). (phase_step x st.unit.own st.unit.serial seen busy st.buffer st.input).phase) e)

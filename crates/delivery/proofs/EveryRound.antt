@@ -64,7 +64,7 @@ use Rattle.delivery.proofs.Calls.{all_lends}
 -- A quiet start is a rest.
 new_fresh : (st : Station) → New st → Fresh st × Sound st
 new_fresh st n =
-    let own : st.unit.own_val ≡ n.own = ap (λ (u : Unit). u.own) n.is_new in
+    let own : st.unit.own ≡ n.own = ap (λ (u : Unit). u.own) n.is_new in
     let fit : Fit (kind_of n.own) (inside_of st) = (every_lawful (kind_of n.own)).fit_new (inside_of st) (ap (λ (u : Unit). u.serial) n.is_new) n.lent in (
       idles (ap (λ (u : Unit). u.phase) n.is_new),
       record { room = ap (λ (k : ℕ). is_short (kind_of k) (length st.buffer) (length st.output)) own ∙ n.room; fit = subst (λ (k : ℕ). Fit (kind_of k) (inside_of st)) (sym own) fit },
@@ -86,7 +86,7 @@ pub wider_frame : {T U : Moment} {f : Frame} {found : List ℕ} {w : World} → 
 wider_frame g (begins framed d a) = begins framed d a
 wider_frame {T} {U} g (sends i sender framed d s l a) = sends i sender framed d s l (all_map (λ st p. (part st p.0, p.1)) a)
   where
-    part : {c : Command} {e : List ℕ} {k : ℕ} {x : Sender} (st : Station) → Part (Promised T st.unit.own_val c e) c e k x st → Part (Promised U st.unit.own_val c e) c e k x st
+    part : {c : Command} {e : List ℕ} {k : ℕ} {x : Sender} (st : Station) → Part (Promised T st.unit.own c e) c e k x st → Part (Promised U st.unit.own c e) c e k x st
     part st (listens ear t f h a q) = listens ear t f h a q
     part st (answers ear r f l a e p q) = answers ear r f l a e (wider_promise g p) q
     part st (sits now a e k q) = sits now a e k q
@@ -99,7 +99,7 @@ wider_frame {T} {U} g (waits quiet framed d a why) = waits quiet framed d a (all
   where
     hush : {c : Command} {e : List ℕ} (st : Station) → Hushed T c e st → Hushed U c e st
     hush st (not_its_own e) = not_its_own e
-    hush st (by_the_rule given t e) = by_the_rule given (g st.unit.own_val given t) e
+    hush st (by_the_rule given t e) = by_the_rule given (g st.unit.own given t) e
 
 wider_on : {T U : Moment} {w : World} → (in_frame w.controller.stage ≡ true → Wider T U) → On T w → On U w
 wider_on g (rests r eight codes d a) = rests r eight codes d a
@@ -181,7 +181,7 @@ every_step w v q r busy = ((event_in v.controller (levels v) busy.here v.lent, e
 
 -- What a round of a frame makes of its units.
 talk_addressed : {T : Moment} {c : Command} {d : List ℕ} {stores : Bool} {found : List ℕ} {ear : Listener} {taken : Response} {quiet : ℕ} {buffer : List ℕ} (st : Station)
-    → Talk T c d stores found ear taken quiet buffer st → addressed c st.unit.own_val ≡ true
+    → Talk T c d stores found ear taken quiet buffer st → addressed c st.unit.own ≡ true
 talk_addressed st (talks r j t sender wait e p fits g b l w c q own) = own
 
 pub in_frame_low : {T : Moment} {f : Frame} {found : List ℕ} {w : World} → InFrame T f found w → (levels w).bav ≡ true
@@ -198,7 +198,7 @@ pub changes_by : (T : Moment) (f : Frame) (found : List ℕ) (w : World) (host :
 changes_by T f found w host (begins {lent = lent} framed d a) step = all_map (λ st p. fresh-changes f.command (data_of f lent) (step st p.1) (begin_high a) p.0) a
 changes_by T f found w host (sends i sender {units = units} {lent = lent} framed d s l a) step =
     all_map (λ st p.
-    part-changes (Promised T st.unit.own_val f.command (data_of f lent)) f.command (data_of f lent) framed.sent i sender st (station_step st (levels w) host) (levels w) host (step st p.0.1)
+    part-changes (Promised T st.unit.own f.command (data_of f lent)) f.command (data_of f lent) framed.sent i sender st (station_step st (levels w) host) (levels w) host (step st p.0.1)
     (shows sender units (nibble_below (bytes_for f.command (data_of f lent)) i) s a) p.1 l p.0.0) (all_zip a (hsk_own (sending sender) units))
 changes_by T f found w host (hears ear taken quiet {lent = lent} framed d l o) step =
     one_all (λ st p. talk-changes f.command (data_of f lent) (step st p.1) (talk_addressed st p.0) p.0) (λ st p. sits-changes f.command (data_of f lent) (step st p.1) p.0.0) o
@@ -252,7 +252,7 @@ pub becomes_step : {seen : Lines} {hosts : ℕ} {ss : List Station} {st after : 
 becomes_step {hosts = hosts} in_front = (is_odd hosts, refl)
 becomes_step (behind b) = becomes_step b
 
-same_unit : {seen : Lines} {hosts : ℕ} {ss : List Station} {st after st' after' : Station} → Different ss → Becomes seen hosts ss st after → Becomes seen hosts ss st' after' → st.unit.own_val ≡ st'.unit.own_val → (st ≡ st') × (after ≡ after')
+same_unit : {seen : Lines} {hosts : ℕ} {ss : List Station} {st after st' after' : Station} → Different ss → Becomes seen hosts ss st after → Becomes seen hosts ss st' after' → st.unit.own ≡ st'.unit.own → (st ≡ st') × (after ≡ after')
 same_unit d in_front in_front e = (refl, refl)
 same_unit (another a d) in_front (behind b) e = absurd (becomes_all a b (sym e))
 same_unit (another a d) (behind b) in_front e = absurd (becomes_all a b e)
@@ -277,13 +277,13 @@ on_step (ended eight codes d a) e = absurd (false≢true e)
 on_step (runs f found x codes) e = in_frame_step x
 
 abbrev PastAt : ℕ → Station → Type 0
-PastAt own st = st.unit.own_val ≡ own → Past st.unit.phase
+PastAt own st = st.unit.own ≡ own → Past st.unit.phase
 
 past_round : {T : Moment} {v : World} (own : ℕ) (busy : Busy) → On T v → in_frame v.controller.stage ≡ true → All (PastAt own) v.units → All (PastAt own) (round v busy).units
 past_round {T} {v} own busy o e a =
     all_step (levels v) (λ st host p g.
     let step = on_step o e st host p.1 in
-    subst Past (sym step.phase) (past_step st.unit.own_val st.unit.serial (levels v) host st.buffer st.input (p.0 (sym step.own ∙ g)))) busy.there (all_zip a (on_sound o))
+    subst Past (sym step.phase) (past_step st.unit.own st.unit.serial (levels v) host st.buffer st.input (p.0 (sym step.own ∙ g)))) busy.there (all_zip a (on_sound o))
 
 past_called : (own i : ℕ) (call : HostCall) {ss : List Station} → All (PastAt own) ss → All (PastAt own) (called_at i call ss)
 past_called own i call none = none
@@ -307,12 +307,12 @@ took_past w _ q (a_round {v = v} r busy) own x (took_it e t) = past_round own bu
 took_past w _ q (a_call {v = v} r call) own x t = past_call v own call (took_past w v q r own x t)
 
 not_again : (w v : World) → QuietStart w → (r : Run w v) (busy : Busy) (own : ℕ) (x : Inside) → in_frame v.controller.stage ≡ true → Took r own x
-    → (st after : Station) → Becomes (levels v) busy.there v.units st after → is_answered st.unit.phase ≡ false → is_answered after.unit.phase ≡ true → st.unit.own_val ≡ own → ⊥
+    → (st after : Station) → Becomes (levels v) busy.there v.units st after → is_answered st.unit.phase ≡ false → is_answered after.unit.phase ≡ true → st.unit.own ≡ own → ⊥
 not_again w v q r busy own x i t st after b e now o =
     let p = becomes_all (took_past w v q r own x t) b o in
     let k = becomes_step b in
     let step = on_step (every_run w v q r) i st k.0 (becomes_all (on_sound (every_run w v q r)) b) in
-    true≢false (sym now ∙ ap (λ (x : Station). is_answered x.unit.phase) k.1 ∙ ap is_answered step.phase ∙ past_answered st.unit.own_val st.unit.serial (levels v) k.0 st.buffer st.input p e)
+    true≢false (sym now ∙ ap (λ (x : Station). is_answered x.unit.phase) k.1 ∙ ap is_answered step.phase ∙ past_answered st.unit.own st.unit.serial (levels v) k.0 st.buffer st.input p e)
 
 pub taken_once : TakenOnce
 taken_once w v q start own x y u u' = absurd u

@@ -105,7 +105,7 @@ abbrev Fixes : ℕ → Whole → Phase → Inside → Phase → Inside → Type 
 Fixes own u p x after y = is_taking p ≡ true → is_answered after ≡ true → Follows after y (doing own u (settled x))
 
 abbrev FixesAt : Station → Station → Whole → Type 0
-FixesAt st after u = Fixes st.unit.own_val u st.unit.phase (inside_of st) after.unit.phase (inside_of after)
+FixesAt st after u = Fixes st.unit.own u st.unit.phase (inside_of st) after.unit.phase (inside_of after)
 
 -- A round with BAV seen low, phase by phase: what it leaves inside the unit is what its deeds make of the followed one.
 module _ (own : ℕ) (x : Inside) (seen : Lines) (busy : Bool) (buffer : List ℕ) (u : Whole) where
@@ -184,7 +184,7 @@ module _ (own : ℕ) (x : Inside) (seen : Lines) (busy : Bool) (buffer : List �
 -- A round of a unit, at any levels.
 module _ (st : Station) (seen : Lines) (busy : Bool) (n : seen.nibble < 16) (s : Sound st) (u : Whole) where
   abbrev own : ℕ
-  own = st.unit.own_val
+  own = st.unit.own
 
   abbrev stepped : Station
   stepped = station_step st seen busy
@@ -211,7 +211,7 @@ module _ (st : Station) (seen : Lines) (busy : Bool) (n : seen.nibble < 16) (s :
 changed_fixes : {c : Command} {d : List ℕ} {st after : Station} {u : Whole} → u.command ≡ c → u.lent ≡ d → Changed c d st after → FollowsAt st u → FixesAt st after u
 changed_fixes {st = st} command lent (unchanged same as_before) f taking now = absurd (true≢false (sym (as_before now) ∙ taking_open st.unit.phase taking))
 changed_fixes {st = st} {u = u} command lent (fixed_now a old k) f taking now =
-    let own = st.unit.own_val in
+    let own = st.unit.own in
     record {
       inside = k.inside ∙ (λ i. taken_for own (f.inside i) (sym command i) (sym lent i));
       reply = subst (λ (z : Phase). Standing z (reply_for own u.inside u.command u.lent)) (sym k.reply) (λ i. reply_for own (sym f.inside i) (command i) (lent i));
@@ -246,7 +246,7 @@ deeds_first own code (e ∷ es) ms rest u = by (eqb code own) (deeds_first own c
 
 units_by_deeds : (own : ℕ) (seen : Lines) (hosts : ℕ) (ss : List Station) → ByDeeds own (units_marks seen hosts ss)
 units_by_deeds own seen hosts [] u = refl
-units_by_deeds own seen hosts (st ∷ ss) u = deeds_first own st.unit.own_val (station_deeds st seen (is_odd hosts)) (units_marks seen (hosts / 2) ss) (units_by_deeds own seen (hosts / 2) ss) u
+units_by_deeds own seen hosts (st ∷ ss) u = deeds_first own st.unit.own (station_deeds st seen (is_odd hosts)) (units_marks seen (hosts / 2) ss) (units_by_deeds own seen (hosts / 2) ss) u
 
 -- The controller's marks touch nothing inside it.
 module _ (own : ℕ) (st : Station) (u : Whole) (f : FollowsAt st u) where
@@ -323,8 +323,8 @@ following_latest own u ls (m ∷ ms) p = following_latest own (following own u m
 
 -- Marks lead from a unit to what it becomes, behind a log with these frames.
 record Leads (ls : List Capture) (ms : List Mark) (st after : Station) : Type 0 where
-  pub own : after.unit.own_val ≡ st.unit.own_val
-  pub follows : (u : Whole) → Latest ls u → FollowsAt st u → FollowsAt after (following_all st.unit.own_val u ms)
+  pub own : after.unit.own ≡ st.unit.own
+  pub follows : (u : Whole) → Latest ls u → FollowsAt st u → FollowsAt after (following_all st.unit.own u ms)
 
 -- A round.
 pairs_becomes : {R : Station → Station → Type 0} (seen : Lines) (hosts : ℕ) (ss : List Station)
@@ -347,30 +347,30 @@ module _ {w v : World} (q : QuietStart w) (r : Run w v) (busy : Busy) where
     abbrev units : List Mark
     units = units_marks (levels v) busy.there v.units
 
-    units-follow : Latest (frames_of (log r)) u → FollowsAt after (following_all st.unit.own_val u units)
+    units-follow : Latest (frames_of (log r)) u → FollowsAt after (following_all st.unit.own u units)
     units-follow p =
-        subst (FollowsAt after) (sym (units_by_deeds st.unit.own_val (levels v) busy.there v.units u ∙ ap (doing_all st.unit.own_val u) (units_deeds (on_different o) b)))
+        subst (FollowsAt after) (sym (units_by_deeds st.unit.own (levels v) busy.there v.units u ∙ ap (doing_all st.unit.own u) (units_deeds (on_different o) b)))
         (step_follows st (levels v) host (on_nibble o) (becomes_all (on_sound o) b) u (round-fixes (frames_run w v q r) p) f)
 
-    round-follows : Latest (frames_of (log r)) u → FollowsAt after (following_all st.unit.own_val u (round_marks v busy))
+    round-follows : Latest (frames_of (log r)) u → FollowsAt after (following_all st.unit.own u (round_marks v busy))
     round-follows p =
         let stage = v.controller.stage in
         let next = round v busy in
         let event = event_in v.controller (levels v) busy.here v.lent in
-        subst (FollowsAt after) (sym (following-append st.unit.own_val u units (stage_marks stage next.controller.stage (levels v) event v.lent v.response next.response)))
-        (stage-follows st.unit.own_val after (following_all st.unit.own_val u units) (units-follow p) stage next.controller.stage (levels v) event v.lent v.response next.response)
+        subst (FollowsAt after) (sym (following-append st.unit.own u units (stage_marks stage next.controller.stage (levels v) event v.lent v.response next.response)))
+        (stage-follows st.unit.own after (following_all st.unit.own u units) (units-follow p) stage next.controller.stage (levels v) event v.lent v.response next.response)
 
   round-leads : Pairs (Leads (frames_of (log r)) (round_marks v busy)) v.units (round v busy).units
   round-leads = pairs_becomes (levels v) busy.there v.units (λ st host b. record { own = own_kept st (levels v) host; follows = λ u p f. round-follows st host b u f p })
 
 -- A call: of a unit's own host, or of no concern to it.
-untouched_leads : {ls : List Capture} {ms : List Mark} (st : Station) → ((u : Whole) → following_all st.unit.own_val u ms ≡ u) → Leads ls ms st st
+untouched_leads : {ls : List Capture} {ms : List Mark} (st : Station) → ((u : Whole) → following_all st.unit.own u ms ≡ u) → Leads ls ms st st
 untouched_leads st same = record { own = refl; follows = λ u p f. subst (FollowsAt st) (sym (same u)) f }
 
-asked_leads : {ls : List Capture} (call : HostCall) (st : Station) → Leads ls (asks st.unit.own_val call ∷ []) st (called_by call st)
+asked_leads : {ls : List Capture} (call : HostCall) (st : Station) → Leads ls (asks st.unit.own call ∷ []) st (called_by call st)
 asked_leads call st =
     let k = unit_called call st in
-    let own = st.unit.own_val in
+    let own = st.unit.own in
     record {
       own = k.own;
       follows = λ u p f.
@@ -381,9 +381,9 @@ asked_leads call st =
 not_asked : (own code : ℕ) (call : HostCall) → (code ≡ own → ⊥) → (u : Whole) → following own u (asks code call) ≡ u
 not_asked own code call p u = ap (λ (t : Bool). cond t (with_inside u (calledIn (kind_of own) call u.inside)) u) (ne_eqb code own p)
 
-none_asked : (own i : ℕ) (call : HostCall) {ss : List Station} → All (λ (x : Station). x.unit.own_val ≡ own → ⊥) ss → (u : Whole) → following_all own u (host_marks i call ss) ≡ u
+none_asked : (own i : ℕ) (call : HostCall) {ss : List Station} → All (λ (x : Station). x.unit.own ≡ own → ⊥) ss → (u : Whole) → following_all own u (host_marks i call ss) ≡ u
 none_asked own i call none u = refl
-none_asked own zero call (also {x = x} p a) u = not_asked own x.unit.own_val call p u
+none_asked own zero call (also {x = x} p a) u = not_asked own x.unit.own call p u
 none_asked own (suc i) call (also p a) u = none_asked own i call a u
 
 all_pairs : {P : Station → Type 0} {R : Station → Station → Type 0} → ((st : Station) → P st → R st st) → {ss : List Station} → All P ss → Pairs R ss ss
@@ -392,8 +392,8 @@ all_pairs f (also {x = st} p a) = a_pair (f st p) (all_pairs f a)
 
 host_leads : {ls : List Capture} (i : ℕ) (call : HostCall) {ss : List Station} → Different ss → Pairs (Leads ls (host_marks i call ss)) ss (called_at i call ss)
 host_leads i call nobody = no_pair
-host_leads zero call (another {st = st} a d) = a_pair (asked_leads call st) (all_pairs (λ x p. untouched_leads x (not_asked x.unit.own_val st.unit.own_val call (λ e. p (sym e)))) a)
-host_leads (suc i) call (another {st = st} a d) = a_pair (untouched_leads st (none_asked st.unit.own_val i call a)) (host_leads i call d)
+host_leads zero call (another {st = st} a d) = a_pair (asked_leads call st) (all_pairs (λ x p. untouched_leads x (not_asked x.unit.own st.unit.own call (λ e. p (sym e)))) a)
+host_leads (suc i) call (another {st = st} a d) = a_pair (untouched_leads st (none_asked st.unit.own i call a)) (host_leads i call d)
 
 submission_unseen : (own : ℕ) (a : Answer Done) (k : Command) (d response : List ℕ) (u : Whole) → following_all own u (submission_marks a (submitted k d response)) ≡ u
 submission_unseen own (gives x) k d response u = refl
@@ -403,26 +403,26 @@ call_leads : {ls : List Capture} (v : World) (call : Call) → Different v.units
 call_leads v (at_unit i call) d = host_leads i call d
 call_leads v (submits k e response range bytes) d =
     let a = submitting v.controller k (length e) (length response) in
-    pairs_same (λ st. untouched_leads st (submission_unseen st.unit.own_val a k e response)) v.units
+    pairs_same (λ st. untouched_leads st (submission_unseen st.unit.own a k e response)) v.units
 call_leads v (acknowledges code h) d = pairs_same (λ st. untouched_leads st (λ u. refl)) v.units
 call_leads v (lends e response) d = pairs_same (λ st. untouched_leads st (λ u. refl)) v.units
 call_leads v (lends_unit i buffer) d = pairs_lends (in_frame v.controller.stage) i buffer (λ st. untouched_leads st (λ u. refl)) (λ st. record { own = refl; follows = λ u p f. f }) v.units
 
 -- A run.
 record Followed (ms : List Mark) (st after : Station) : Type 0 where
-  pub own : after.unit.own_val ≡ st.unit.own_val
-  pub follows : FollowsAt after (following_all st.unit.own_val (whole_of st) ms)
+  pub own : after.unit.own ≡ st.unit.own
+  pub follows : FollowsAt after (following_all st.unit.own (whole_of st) ms)
 
 new_followed : (st : Station) → New st → Followed [] st st
 new_followed st n = record { own = refl; follows = record { inside = refl; reply = subst (λ (x : Device). Standing x.phase Silent) (sym n.is_new) tt } }
 
 followed_on : {before ms : List Mark} {st now after : Station} → Followed before st now → Leads (frames_of before) ms now after → Followed (before ++ ms) st after
 followed_on {before} {ms} {st} {now} {after} k leads =
-    let u = following_all st.unit.own_val (whole_of st) before in
+    let u = following_all st.unit.own (whole_of st) before in
     record {
       own = leads.own ∙ k.own;
-      follows = subst (FollowsAt after) (sym (following-append st.unit.own_val (whole_of st) before ms))
-          (subst (λ (own : ℕ). FollowsAt after (following_all own u ms)) k.own (leads.follows u (following_latest st.unit.own_val (whole_of st) [] before tt) k.follows));
+      follows = subst (FollowsAt after) (sym (following-append st.unit.own (whole_of st) before ms))
+          (subst (λ (own : ℕ). FollowsAt after (following_all own u ms)) k.own (leads.follows u (following_latest st.unit.own (whole_of st) [] before tt) k.follows));
     }
 
 pairs_then : {P Q R : Station → Station → Type 0} → ((x y z : Station) → P x y → Q y z → R x z) → {xs ys zs : List Station} → Pairs P xs ys → Pairs Q ys zs → Pairs R xs zs
@@ -435,7 +435,7 @@ followed_run w _ q (a_round {v = v} r busy) = pairs_then (λ x y z p k. followed
 followed_run w _ q (a_call {v = v} r call) = pairs_then (λ x y z p k. followed_on p k) (followed_run w v q r) (call_leads v call (on_different (every_run w v q r)))
 
 pub insides_run : (w v : World) → QuietStart w → (r : Run w v)
-    → Pairs (λ (st after : Station). inside_of after ≡ (following_all st.unit.own_val (whole_of st) (log r)).inside) w.units v.units
+    → Pairs (λ (st after : Station). inside_of after ≡ (following_all st.unit.own (whole_of st) (log r)).inside) w.units v.units
 insides_run w v q r = pairs-map (λ x y p. p.follows.inside) (followed_run w v q r)
   where
     pairs-map : {P Q : Station → Station → Type 0} → ((x y : Station) → P x y → Q x y) → {xs ys : List Station} → Pairs P xs ys → Pairs Q xs ys

@@ -73,9 +73,9 @@ fresh_nibble (selects e) = ap pulls_nibble e
 -- With BAV low and HSK high it selects, or goes on to.
 pub fresh_selects : {st st' : Station} {seen : Lines} {busy : Bool} → Stepped st seen busy st' → seen.hsk ≡ false → Fresh st → st'.unit.phase ≡ Selecting Ready false 0
 fresh_selects {st} {st'} {seen} {busy} s h (idles e) =
-    s.phase ∙ ap (λ (x : Phase). (phase_step x st.unit.own_val st.unit.serial seen busy st.buffer st.input).phase) e ∙ rw h
+    s.phase ∙ ap (λ (x : Phase). (phase_step x st.unit.own st.unit.serial seen busy st.buffer st.input).phase) e ∙ rw h
 fresh_selects {st} {st'} {seen} {busy} s h (selects e) =
-    s.phase ∙ ap (λ (x : Phase). (phase_step x st.unit.own_val st.unit.serial seen busy st.buffer st.input).phase) e ∙ rw h
+    s.phase ∙ ap (λ (x : Phase). (phase_step x st.unit.own st.unit.serial seen busy st.buffer st.input).phase) e ∙ rw h
 
 -- What the lines show as a frame begins.
 pub begin_nibble : {units : List Station} → All (λ (st : Station). Fresh st × Sound st) units → (levels_with (sending Next) units).nibble < 16
@@ -94,24 +94,24 @@ control_buffer : (c : Controller) (seen : Lines) (host : Bool) (lent response : 
 control_buffer c seen host lent response n e = let a : ltb 15 seen.nibble ≡ false = le-ltb 15 seen.nibble (omega arith) in rw (a, e)
 
 -- A unit keeps its code.
-pub own_kept : (st : Station) (seen : Lines) (busy : Bool) → (station_step st seen busy).unit.own_val ≡ st.unit.own_val
-own_kept st seen busy = by (ltb 15 seen.nibble) (is_short (kind_of st.unit.own_val) (length st.buffer) (length st.output)) seen.bav
+pub own_kept : (st : Station) (seen : Lines) (busy : Bool) → (station_step st seen busy).unit.own ≡ st.unit.own
+own_kept st seen busy = by (ltb 15 seen.nibble) (is_short (kind_of st.unit.own) (length st.buffer) (length st.output)) seen.bav
   where
     by : (a b c : Bool) → (unit_after
-        (cond a (refused 5) (cond b (refused 11) (gives (cond c (low_step st.unit seen.hsk (phase_step st.unit.phase st.unit.own_val st.unit.serial seen busy st.buffer st.input)) (high_step st.unit seen.hsk)))))
-        st.unit).own ≡ st.unit.own_val
+        (cond a (refused 5) (cond b (refused 11) (gives (cond c (low_step st.unit seen.hsk (phase_step st.unit.phase st.unit.own st.unit.serial seen busy st.buffer st.input)) (high_step st.unit seen.hsk)))))
+        st.unit).own ≡ st.unit.own
     by true b c = refl
     by false true c = refl
     by false false true = refl
     by false false false = refl
 
-apart_kept : (code : ℕ) (seen : Lines) (hosts : ℕ) {ss : List Station} → All (λ (x : Station). x.unit.own_val ≡ code → ⊥) ss → All (λ (x : Station). x.unit.own_val ≡ code → ⊥) (units_after seen hosts ss)
+apart_kept : (code : ℕ) (seen : Lines) (hosts : ℕ) {ss : List Station} → All (λ (x : Station). x.unit.own ≡ code → ⊥) ss → All (λ (x : Station). x.unit.own ≡ code → ⊥) (units_after seen hosts ss)
 apart_kept code seen hosts a = all_step seen (λ st busy p e. p (sym (own_kept st seen busy) ∙ e)) hosts a
 
 pub different_kept : (seen : Lines) (hosts : ℕ) {ss : List Station} → Different ss → Different (units_after seen hosts ss)
 different_kept seen hosts nobody = nobody
 different_kept seen hosts (another {st = st} a d) =
-    another (all_map (λ x p e. p (e ∙ own_kept st seen (is_odd hosts))) (apart_kept st.unit.own_val seen (hosts / 2) a)) (different_kept seen (hosts / 2) d)
+    another (all_map (λ x p e. p (e ∙ own_kept st seen (is_odd hosts))) (apart_kept st.unit.own seen (hosts / 2) a)) (different_kept seen (hosts / 2) d)
 
 hushed_kept : {T : Moment} {c : Command} {d : List ℕ} (seen : Lines) (hosts : ℕ) {ss : List Station} → All (Hushed T c d) ss → All (Hushed T c d) (units_after seen hosts ss)
 hushed_kept {T} {c} {d} seen hosts a = all_step seen (λ st busy p. by st busy p) hosts a
@@ -263,7 +263,7 @@ module _ (T : Moment) (f : Frame) (found : List ℕ) (timeout : ℕ) (ring : Rin
       let step = low_step_lem st seen host small p.1.room low in
       let ok = sound_low step p.1 in (
         listens Ready 0 f_next
-            (subst (λ (x : Phase). Heard (bytes_for c d) Ready 0 x (station_step st seen host).buffer) (sym (fresh_selects step high p.0)) (h_none (roomy (kind_of (station_step st seen host).unit.own_val) (length (station_step st seen host).buffer) (length (station_step st seen host).output) ok.room)))
+            (subst (λ (x : Phase). Heard (bytes_for c d) Ready 0 x (station_step st seen host).buffer) (sym (fresh_selects step high p.0)) (h_none (roomy (kind_of (station_step st seen host).unit.own) (length (station_step st seen host).buffer) (length (station_step st seen host).output) ok.room)))
             (λ l. absurd (omega arith)) (λ l. absurd (omega arith)),
         ok,
       )) busy.there a)) (nobody_speaks (all_map (λ st p. fresh_quiet p.0) a)) (falls (begin_less (last_nibble f) (listening f timeout)))
@@ -277,7 +277,7 @@ module _ (T : Moment) (f : Frame) (found : List ℕ) (timeout : ℕ) (ring : Rin
   -- A round while the command is sent.
   module _
       (i : ℕ) (sender : Sender) (s : Sends (nibble_in (bytes_for c d) i) sender) (less : i < total)
-      (a : All (λ (st : Station). Part (Promised T st.unit.own_val c d) c d i sender st × Sound st) units)
+      (a : All (λ (st : Station). Part (Promised T st.unit.own c d) c d i sender st × Sound st) units)
       (noted : Noted T (world timeout (Sending f i sender false) ring units lent found) busy)
     where
       abbrev w : World
@@ -299,7 +299,7 @@ module _ (T : Moment) (f : Frame) (found : List ℕ) (timeout : ℕ) (ring : Rin
       all-let-go : (m : ℕ) → sender ≡ Kept m → is_free w busy ≡ true → (levels_with (sending (Kept m)) (units_after seen busy.there units)).hsk ≡ false
       all-let-go m e free =
           hsk_high_lem (sending (Kept m)) refl
-          (free_step seen (λ st host x p. part_lets_go (low_step_lem st seen host small p.1.room (bav_kept (sending sender) units refl)) x (subst (λ (k : Sender). Part (Promised T st.unit.own_val c d) c d i k st) e p.0))
+          (free_step seen (λ st host x p. part_lets_go (low_step_lem st seen host small p.1.room (bav_kept (sending sender) units refl)) x (subst (λ (k : Sender). Part (Promised T st.unit.own c d) c d i k st) e p.0))
           busy.there (and_right (controller_free (Sending f i sender false) busy.here) (units_free busy.there units) free) a)
 
       send-falls : sent_of sender seen.hsk ≡ false

@@ -134,49 +134,49 @@ module _
     -- What the unit that responds does.
     module _ (st : Station) (host : Bool) (sound : Sound st) where
       abbrev e : List Deed
-      e = deeds_in st.unit.own_val l.marks
+      e = deeds_in st.unit.own l.marks
 
       abbrev newly : List Deed
       newly = deeds_by st.unit.phase (station_step st seen host).unit.phase (inside_of st) seen
 
       abbrev SpeechOf : Type 0
-      SpeechOf = Speech c d st.unit.own_val (station_step st seen host).unit.phase ear' (e ++ newly) (acts_in l.marks ++ hearing ear seen)
+      SpeechOf = Speech c d st.unit.own (station_step st seen host).unit.phase ear' (e ++ newly) (acts_in l.marks ++ hearing ear seen)
 
       speech : Talk T c d (is_submitted l.frame.kind) found ear taken quiet response st → seen.hsk ≡ (listener_hsk ear || pulls_hsk st.unit.phase)
           → seen.nibble ≡ pulls_nibble st.unit.phase → DidAt l d st → TellsAt l d ear st → SpeechOf
-      speech t h n did tells = talk-spoken T c d (step_in l x st host sound) busy.here e (acts_in l.marks) ear t h n did (known.moments st.unit.own_val) tells
+      speech t h n did tells = talk-spoken T c d (step_in l x st host sound) busy.here e (acts_in l.marks) ear t h n did (known.moments st.unit.own) tells
 
       -- It goes on to.
-      spoken-did : is_responding (station_step st seen host).unit.phase ≡ true → SpeechOf → Did c d st.unit.own_val (station_step st seen host).unit.phase (e ++ newly)
+      spoken-did : is_responding (station_step st seen host).unit.phase ≡ true → SpeechOf → Did c d st.unit.own (station_step st seen host).unit.phase (e ++ newly)
       spoken-did going s = by s.spoken
         where
-          by : Spoken c d st.unit.own_val s.reply s.given (station_step st seen host).unit.phase ear' (e ++ newly) (acts_in l.marks ++ hearing ear seen) → Did c d st.unit.own_val (station_step st seen host).unit.phase (e ++ newly)
+          by : Spoken c d st.unit.own s.reply s.given (station_step st seen host).unit.phase ear' (e ++ newly) (acts_in l.marks ++ hearing ear seen) → Did c d st.unit.own (station_step st seen host).unit.phase (e ++ newly)
           by (goes_on j sender wait p n q a) =
-              subst (λ (y : Phase). Did c d st.unit.own_val y (e ++ newly)) (sym p) (record { given = s.given; meant = s.meant; said = s.said; deeds = q }, s.speaks)
+              subst (λ (y : Phase). Did c d st.unit.own y (e ++ newly)) (sym p) (record { given = s.given; meant = s.meant; said = s.said; deeds = q }, s.speaks)
           by (is_done p q a) = absurd (true≢false (sym going ∙ ap is_responding p))
 
-      spoken-tells : is_responding (station_step st seen host).unit.phase ≡ true → SpeechOf → TellsBy c d ear' (acts_in l.marks ++ hearing ear seen) st.unit.own_val (station_step st seen host).unit.phase (e ++ newly)
+      spoken-tells : is_responding (station_step st seen host).unit.phase ≡ true → SpeechOf → TellsBy c d ear' (acts_in l.marks ++ hearing ear seen) st.unit.own (station_step st seen host).unit.phase (e ++ newly)
       spoken-tells going s r j s' answers = by s.spoken
         where
-          by : Spoken c d st.unit.own_val s.reply s.given (station_step st seen host).unit.phase ear' (e ++ newly) (acts_in l.marks ++ hearing ear seen)
-              → HeardOf c d (answer_for c d st.unit.own_val s'.given) (j + count ear') (acts_in l.marks ++ hearing ear seen)
+          by : Spoken c d st.unit.own s.reply s.given (station_step st seen host).unit.phase ear' (e ++ newly) (acts_in l.marks ++ hearing ear seen)
+              → HeardOf c d (answer_for c d st.unit.own s'.given) (j + count ear') (acts_in l.marks ++ hearing ear seen)
           by (goes_on k sender wait p n q a) =
-              let mine : Stands c d st.unit.own_val s.reply k (e ++ newly) = record { given = s.given; meant = s.meant; said = s.said; deeds = q } in
+              let mine : Stands c d st.unit.own s.reply k (e ++ newly) = record { given = s.given; meant = s.meant; said = s.said; deeds = q } in
               let same = same_given mine s' in
               let at = answers_at p answers in
-              subst (λ (y : Inside). HeardOf c d (answer_for c d st.unit.own_val y) (j + count ear') (acts_in l.marks ++ hearing ear seen)) (sym same)
-              (subst (λ (n : ℕ). HeardOf c d (answer_for c d st.unit.own_val s.given) (n + count ear') (acts_in l.marks ++ hearing ear seen)) (sym at) a)
+              subst (λ (y : Inside). HeardOf c d (answer_for c d st.unit.own y) (j + count ear') (acts_in l.marks ++ hearing ear seen)) (sym same)
+              (subst (λ (n : ℕ). HeardOf c d (answer_for c d st.unit.own s.given) (n + count ear') (acts_in l.marks ++ hearing ear seen)) (sym at) a)
           by (is_done p q a) = absurd (true≢false (sym going ∙ ap is_responding p))
 
     -- Each goes on in its role.
     module _ (speaking : Speaking v busy) where
       role-did : (st : Station) (host : Bool) → Becomes seen busy.there units st (station_step st seen host) → RoleOf st → DidAt l d st → TellsAt l d ear st
-          → Did c d st.unit.own_val (station_step st seen host).unit.phase (deeds_in st.unit.own_val l.marks ++ deeds_by st.unit.phase (station_step st seen host).unit.phase (inside_of st) seen)
+          → Did c d st.unit.own (station_step st seen host).unit.phase (deeds_in st.unit.own l.marks ++ deeds_by st.unit.phase (station_step st seen host).unit.phase (inside_of st) seen)
       role-did st host b (talking t h n, s) did tells = spoken-did st host s (speaking st (station_step st seen host) b (talk_responds t)) (speech st host s t h n did tells)
-      role-did st host b (sitting q, s) did tells = sits-did c d (step_in l x st host s) (deeds_in st.unit.own_val l.marks) q.0 did
+      role-did st host b (sitting q, s) did tells = sits-did c d (step_in l x st host s) (deeds_in st.unit.own l.marks) q.0 did
 
       role-tells : (st : Station) (host : Bool) → Becomes seen busy.there units st (station_step st seen host) → RoleOf st → DidAt l d st → TellsAt l d ear st
-          → TellsBy c d ear' (acts_in l.marks ++ hearing ear seen) st.unit.own_val (station_step st seen host).unit.phase (deeds_in st.unit.own_val l.marks ++ deeds_by st.unit.phase (station_step st seen host).unit.phase (inside_of st) seen)
+          → TellsBy c d ear' (acts_in l.marks ++ hearing ear seen) st.unit.own (station_step st seen host).unit.phase (deeds_in st.unit.own l.marks ++ deeds_by st.unit.phase (station_step st seen host).unit.phase (inside_of st) seen)
       role-tells st host b (talking t h n, s) did tells = spoken-tells st host s (speaking st (station_step st seen host) b (talk_responds t)) (speech st host s t h n did tells)
       role-tells st host b (sitting q, s) did tells = λ r j k answers. absurd (not_answering (ap is_responding (sits_step seen (in_frame_low x) (in_frame_nibble x) st host (q, s)).0.0) answers)
 
@@ -212,15 +212,15 @@ module _
     ended = record { frame = l.frame; lent = d; found = l.found; marks = later.marks }
 
     record DoneAt (own : ℕ) (y : Inside) (st : Station) : Type 0 where
-      code : st.unit.own_val ≡ own
+      code : st.unit.own ≡ own
       responding : is_responding st.unit.phase ≡ true
-      meant : addressed c st.unit.own_val ≡ true
-      defined : is_silent (reply_for st.unit.own_val y c d) ≡ false
-      deeds : deeds_in st.unit.own_val later.marks ≡ map took (nibbles_for c d) ++ (settled y ∷ (map spoke (answer_for c d st.unit.own_val y) ++ (done ∷ [])))
-      heards : acts_in l.marks ++ hearing ear seen ≡ map sent (nibbles_for c d) ++ map heard (answer_for c d st.unit.own_val y)
+      meant : addressed c st.unit.own ≡ true
+      defined : is_silent (reply_for st.unit.own y c d) ≡ false
+      deeds : deeds_in st.unit.own later.marks ≡ map took (nibbles_for c d) ++ (settled y ∷ (map spoke (answer_for c d st.unit.own y) ++ (done ∷ [])))
+      heards : acts_in l.marks ++ hearing ear seen ≡ map sent (nibbles_for c d) ++ map heard (answer_for c d st.unit.own y)
 
     abbrev HushAt : Station → Type 0
-    HushAt st = Still st × Hush c d st.unit.own_val (deeds_in st.unit.own_val later.marks)
+    HushAt st = Still st × Hush c d st.unit.own (deeds_in st.unit.own later.marks)
 
     abbrev MovedAt : Station → Type 0
     MovedAt st = ((host : Bool) × (Becomes seen busy.there units st (station_step st seen host))) × (DidAt l d st × TellsAt l d ear st)
@@ -229,21 +229,21 @@ module _
       hush-at : (st : Station) → Sits st → MovedAt st → HushAt st
       hush-at st q m = (
         ap is_responding q.0,
-        subst (Hush c d st.unit.own_val) (sym (deeds-now l v busy different (in_frame_low x) m.0.1 ∙ ap (λ (y : List Deed). deeds_in st.unit.own_val l.marks ++ y)
-            (ap (λ (y : Phase). deeds_by y (station_step st seen m.0.0).unit.phase (inside_of st) seen) q.0) ∙ append-nil (deeds_in st.unit.own_val l.marks)))
-            (subst (λ (y : Phase). Did c d st.unit.own_val y (deeds_in st.unit.own_val l.marks)) q.0 m.1.0),
+        subst (Hush c d st.unit.own) (sym (deeds-now l v busy different (in_frame_low x) m.0.1 ∙ ap (λ (y : List Deed). deeds_in st.unit.own l.marks ++ y)
+            (ap (λ (y : Phase). deeds_by y (station_step st seen m.0.0).unit.phase (inside_of st) seen) q.0) ∙ append-nil (deeds_in st.unit.own l.marks)))
+            (subst (λ (y : Phase). Did c d st.unit.own y (deeds_in st.unit.own l.marks)) q.0 m.1.0),
       )
 
       done_at : (st : Station) → Talk T c d (is_submitted l.frame.kind) found ear taken quiet response st → Sound st → seen.hsk ≡ (listener_hsk ear || pulls_hsk st.unit.phase)
-          → seen.nibble ≡ pulls_nibble st.unit.phase → MovedAt st → (y : Inside) × DoneAt st.unit.own_val y st
+          → seen.nibble ≡ pulls_nibble st.unit.phase → MovedAt st → (y : Inside) × DoneAt st.unit.own y st
       done_at st t sound h n m = by (speech st m.0.0 sound t h n m.1.0 m.1.1)
         where
-          by : SpeechOf st m.0.0 sound → (y : Inside) × DoneAt st.unit.own_val y st
+          by : SpeechOf st m.0.0 sound → (y : Inside) × DoneAt st.unit.own y st
           by s = at s.spoken
             where
-              at : Spoken c d st.unit.own_val s.reply s.given (station_step st seen m.0.0).unit.phase ear'
-                  (deeds_in st.unit.own_val l.marks ++ deeds_by st.unit.phase (station_step st seen m.0.0).unit.phase (inside_of st) seen)
-                  (acts_in l.marks ++ hearing ear seen) → (y : Inside) × DoneAt st.unit.own_val y st
+              at : Spoken c d st.unit.own s.reply s.given (station_step st seen m.0.0).unit.phase ear'
+                  (deeds_in st.unit.own l.marks ++ deeds_by st.unit.phase (station_step st seen m.0.0).unit.phase (inside_of st) seen)
+                  (acts_in l.marks ++ hearing ear seen) → (y : Inside) × DoneAt st.unit.own y st
               at (goes_on j sender wait p k q a) = absurd (true≢false (sym (ap is_responding p) ∙ becomes_after m.0.1 still))
               at (is_done p q a) = (
                 s.given,
@@ -261,7 +261,7 @@ module _
       all_done : {ss : List Station}
           → One (λ (st : Station). ((Talk T c d (is_submitted l.frame.kind) found ear taken quiet response st × Sound st) × Seen seen (listener_hsk ear) st) × MovedAt st) (λ (st : Station). (Sits st × Sound st) × MovedAt st) ss
           → (own : ℕ) × (y : Inside) × One (DoneAt own y) HushAt ss
-      all_done (this {x = st} p a) = let k = done_at st p.0.0.0 p.0.0.1 p.0.1.0 p.0.1.1 p.1 in (st.unit.own_val, k.0, this k.1 (all_map (λ z q. hush-at z q.0.0 q.1) a))
+      all_done (this {x = st} p a) = let k = done_at st p.0.0.0 p.0.0.1 p.0.1.0 p.0.1.1 p.1 in (st.unit.own, k.0, this k.1 (all_map (λ z q. hush-at z q.0.0 q.1) a))
       all_done (that {x = st} q o) = let k = all_done o in (k.0, k.1, that (hush-at st q.0.0 q.1) k.2)
 
       who-answered : (own : ℕ) × (y : Inside) × One (DoneAt own y) HushAt units
@@ -272,16 +272,16 @@ module _
         abbrev told-now : Act
         told-now = told (event_in v.controller seen busy.here lent) (cond (is_submitted l.frame.kind) (round v busy).response [])
 
-        spoke-data : {own : ℕ} {y : Inside} (st : Station) (r : Reply) → DoneAt own y st → (p : Promised T' st.unit.own_val c d r (inside_of st)) → (p.given ≡ y) × (r ≡ reply_for own y c d)
+        spoke-data : {own : ℕ} {y : Inside} (st : Station) (r : Reply) → DoneAt own y st → (p : Promised T' st.unit.own c d r (inside_of st)) → (p.given ≡ y) × (r ≡ reply_for own y c d)
         spoke-data {own} {y} st r k p =
-            let same : p.given ≡ y = settled_first (took_no (nibbles_for c d) (subst (Has (settled p.given)) k.deeds (moments st.unit.own_val p.given p.took))) (spoke_done_no (answer_for c d st.unit.own_val y)) in
+            let same : p.given ≡ y = settled_first (took_no (nibbles_for c d) (subst (Has (settled p.given)) k.deeds (moments st.unit.own p.given p.took))) (spoke_done_no (answer_for c d st.unit.own y)) in
             (same, p.said ∙ (λ i. reply_for (k.code i) (same i) c d))
 
         buffer-by : (t : Bool) (f e : List ℕ) → is_submitted l.frame.kind ≡ t → f ≡ found → cond t (received t e f) [] ≡ cond t (e ++ drop (length e) l.found) []
         buffer-by true f e s z = ap (λ (b : List ℕ). e ++ drop (length e) b) (z ∙ kept s)
         buffer-by false f e s z = refl
 
-        spoke-end : {own : ℕ} {y : Inside} (st : Station) (r : Reply) → DoneAt own y st → (p : Promised T' st.unit.own_val c d r (inside_of st))
+        spoke-end : {own : ℕ} {y : Inside} (st : Station) (r : Reply) → DoneAt own y st → (p : Promised T' st.unit.own c d r (inside_of st))
             → moved_in v busy ≡ over l.frame (Whole (reply_status r) (length (answer_data p))) → (round v busy).response ≡ received (is_submitted l.frame.kind) (answer_data p) found
             → acts_in later.marks ≡ acts_of ended (unit own y)
         spoke-end {own} {y} st r k p m b =
@@ -321,8 +321,8 @@ module _
                   record {
                     named = own;
                     meant = subst (λ (n : ℕ). addressed c n ≡ true) own k.meant;
-                    inside = subst (λ (n : ℕ). Has (settled w.1) (deeds_in n later.marks)) own (spoken-has ended st.unit.own_val w.1 (map spoke (answer_for c d st.unit.own_val w.1) ++ (done ∷ [])) k.deeds);
+                    inside = subst (λ (n : ℕ). Has (settled w.1) (deeds_in n later.marks)) own (spoken-has ended st.unit.own w.1 (map spoke (answer_for c d st.unit.own w.1) ++ (done ∷ [])) k.deeds);
                     defined = subst (λ (n : ℕ). is_silent (reply_for n w.1 c d) ≡ false) own k.defined;
-                  }) (λ st q. hush-hushes ended st.unit.own_val q.1) w.2);
-              parts = all_codes (one_all (λ st k. (w.1, spoken-part ended st.unit.own_val w.1 k.meant k.defined k.deeds)) (λ st q. hush-part ended st.unit.own_val w.1 q.1) w.2);
+                  }) (λ st q. hush-hushes ended st.unit.own q.1) w.2);
+              parts = all_codes (one_all (λ st k. (w.1, spoken-part ended st.unit.own w.1 k.meant k.defined k.deeds)) (λ st q. hush-part ended st.unit.own w.1 q.1) w.2);
             })

@@ -77,7 +77,7 @@ pub sits_step : (seen : Lines) → seen.bav ≡ true → seen.nibble < 16 → (s
 sits_step seen low n st busy p =
     let step = low_step_lem st seen busy n p.1.room low in (
       (
-        step.phase ∙ ap (λ (x : Phase). (phase_step x st.unit.own_val st.unit.serial seen busy st.buffer st.input).phase) p.0.0,
+        step.phase ∙ ap (λ (x : Phase). (phase_step x st.unit.own st.unit.serial seen busy st.buffer st.input).phase) p.0.0,
         step.asking ∙ ap (λ (b : Bool). b && not seen.hsk) p.0.1,
       ),
       sound_low step p.1,

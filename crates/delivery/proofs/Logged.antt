@@ -192,8 +192,8 @@ pub answered_deeds : {st st' : Station} {seen : Lines} {busy : Bool} → Stepped
     → Has (settled (inside_of st)) (deeds_by st.unit.phase st'.unit.phase (inside_of st) seen)
 answered_deeds {st} {st'} {seen} {busy} step before after = by st.unit.phase refl
   where
-    never : {p : Phase} → st.unit.phase ≡ p → is_answered (phase_step p st.unit.own_val st.unit.serial seen busy st.buffer st.input).phase ≡ false → ⊥
-    never e q = true≢false (sym after ∙ ap is_answered step.phase ∙ ap (λ (x : Phase). is_answered (phase_step x st.unit.own_val st.unit.serial seen busy st.buffer st.input).phase) e ∙ q)
+    never : {p : Phase} → st.unit.phase ≡ p → is_answered (phase_step p st.unit.own st.unit.serial seen busy st.buffer st.input).phase ≡ false → ⊥
+    never e q = true≢false (sym after ∙ ap is_answered step.phase ∙ ap (λ (x : Phase). is_answered (phase_step x st.unit.own st.unit.serial seen busy st.buffer st.input).phase) e ∙ q)
 
     taking : (t : Bool) (ear : Listener) (n : ℕ) → taken_of ear seen.hsk ≡ t → (t ≡ false → ⊥) → Has (settled (inside_of st)) (cond (taken_of ear seen.hsk) (took n ∷ settled_by st'.unit.phase (inside_of st)) [])
     taking true ear n e f = subst (λ (b : Bool). Has (settled (inside_of st)) (cond b (took n ∷ settled_by st'.unit.phase (inside_of st)) [])) (sym e) (there (settles st'.unit.phase (inside_of st) after))
@@ -202,7 +202,7 @@ answered_deeds {st} {st'} {seen} {busy} step before after = by st.unit.phase ref
     by : (p : Phase) → st.unit.phase ≡ p → Has (settled (inside_of st)) (deeds_by p st'.unit.phase (inside_of st) seen)
     by Idle e = absurd (never e (open_either seen.hsk _ _ refl refl))
     by (Selecting ear half low) e =
-        absurd (never e (open_either (taken_of ear seen.hsk) _ _ (open_either half _ _ (open_either (eqb (byte_from low seen.nibble) st.unit.own_val || eqb (byte_from low seen.nibble) 0) _ _ refl refl) refl) refl))
+        absurd (never e (open_either (taken_of ear seen.hsk) _ _ (open_either half _ _ (open_either (eqb (byte_from low seen.nibble) st.unit.own || eqb (byte_from low seen.nibble) 0) _ _ refl refl) refl) refl))
     by (Receiving ear (Taking p)) e = taking (taken_of ear seen.hsk) ear seen.nibble refl (λ t. never e (rw t))
     by (Receiving ear (Answered r)) e = absurd (true≢false (sym (ap is_answered e) ∙ before))
     by (Responding r j sender wait) e =

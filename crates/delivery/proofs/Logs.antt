@@ -109,7 +109,7 @@ deeds_plain own (e ∷ es) = also tt (deeds_plain own es)
 
 pub units_plain : (seen : Lines) (hosts : ℕ) (ss : List Station) → All Plain (units_marks seen hosts ss)
 units_plain seen hosts [] = none
-units_plain seen hosts (st ∷ ss) = all_append (deeds_plain st.unit.own_val (station_deeds st seen (is_odd hosts))) (units_plain seen (hosts / 2) ss)
+units_plain seen hosts (st ∷ ss) = all_append (deeds_plain st.unit.own (station_deeds st seen (is_odd hosts))) (units_plain seen (hosts / 2) ss)
 
 deeds_no_acts : (own : ℕ) (es : List Deed) → acts_in (map (does own) es) ≡ []
 deeds_no_acts own [] = refl
@@ -118,8 +118,8 @@ deeds_no_acts own (e ∷ es) = deeds_no_acts own es
 pub units_no_acts : (seen : Lines) (hosts : ℕ) (ss : List Station) → acts_in (units_marks seen hosts ss) ≡ []
 units_no_acts seen hosts [] = refl
 units_no_acts seen hosts (st ∷ ss) =
-    acts_append (map (does st.unit.own_val) (station_deeds st seen (is_odd hosts))) (units_marks seen (hosts / 2) ss)
-    ∙ (λ i. deeds_no_acts st.unit.own_val (station_deeds st seen (is_odd hosts)) i ++ units_no_acts seen (hosts / 2) ss i)
+    acts_append (map (does st.unit.own) (station_deeds st seen (is_odd hosts))) (units_marks seen (hosts / 2) ss)
+    ∙ (λ i. deeds_no_acts st.unit.own (station_deeds st seen (is_odd hosts)) i ++ units_no_acts seen (hosts / 2) ss i)
 
 own_deeds : (own : ℕ) (es : List Deed) → deeds_in own (map (does own) es) ≡ es
 own_deeds own [] = refl
@@ -129,24 +129,24 @@ other_deeds : (own code : ℕ) (es : List Deed) → (code ≡ own → ⊥) → d
 other_deeds own code [] h = refl
 other_deeds own code (e ∷ es) h = λ i. cond (ne_eqb code own h i) (e ∷ []) [] ++ other_deeds own code es h i
 
-nobodys_deeds : (own : ℕ) (seen : Lines) (hosts : ℕ) {ss : List Station} → All (λ (x : Station). x.unit.own_val ≡ own → ⊥) ss → deeds_in own (units_marks seen hosts ss) ≡ []
+nobodys_deeds : (own : ℕ) (seen : Lines) (hosts : ℕ) {ss : List Station} → All (λ (x : Station). x.unit.own ≡ own → ⊥) ss → deeds_in own (units_marks seen hosts ss) ≡ []
 nobodys_deeds own seen hosts none = refl
 nobodys_deeds own seen hosts (also {x = st} {xs = ss} h a) =
-    deeds_append own (map (does st.unit.own_val) (station_deeds st seen (is_odd hosts))) (units_marks seen (hosts / 2) ss)
-    ∙ (λ i. other_deeds own st.unit.own_val (station_deeds st seen (is_odd hosts)) h i ++ nobodys_deeds own seen (hosts / 2) a i)
+    deeds_append own (map (does st.unit.own) (station_deeds st seen (is_odd hosts))) (units_marks seen (hosts / 2) ss)
+    ∙ (λ i. other_deeds own st.unit.own (station_deeds st seen (is_odd hosts)) h i ++ nobodys_deeds own seen (hosts / 2) a i)
 
 -- Of a unit that a round moves.
 pub units_deeds : {seen : Lines} {hosts : ℕ} {ss : List Station} {st after : Station} → Different ss → Becomes seen hosts ss st after
-    → deeds_in st.unit.own_val (units_marks seen hosts ss) ≡ cond seen.bav (deeds_by st.unit.phase after.unit.phase (inside_of st) seen) []
+    → deeds_in st.unit.own (units_marks seen hosts ss) ≡ cond seen.bav (deeds_by st.unit.phase after.unit.phase (inside_of st) seen) []
 units_deeds {seen = seen} {hosts = hosts} {st = st} (another {ss = ss} a d) in_front =
-    deeds_append st.unit.own_val (map (does st.unit.own_val) (station_deeds st seen (is_odd hosts))) (units_marks seen (hosts / 2) ss)
-    ∙ (λ i. own_deeds st.unit.own_val (station_deeds st seen (is_odd hosts)) i ++ nobodys_deeds st.unit.own_val seen (hosts / 2) a i)
+    deeds_append st.unit.own (map (does st.unit.own) (station_deeds st seen (is_odd hosts))) (units_marks seen (hosts / 2) ss)
+    ∙ (λ i. own_deeds st.unit.own (station_deeds st seen (is_odd hosts)) i ++ nobodys_deeds st.unit.own seen (hosts / 2) a i)
     ∙ append-nil (station_deeds st seen (is_odd hosts))
 units_deeds {seen = seen} {hosts = hosts} {st = st} (another {st = x} {ss = ss} a d) (behind b) =
-    deeds_append st.unit.own_val (map (does x.unit.own_val) (station_deeds x seen (is_odd hosts))) (units_marks seen (hosts / 2) ss)
-    ∙ (λ i. other_deeds st.unit.own_val x.unit.own_val (station_deeds x seen (is_odd hosts)) (λ e. apart a b (sym e)) i ++ units_deeds d b i)
+    deeds_append st.unit.own (map (does x.unit.own) (station_deeds x seen (is_odd hosts))) (units_marks seen (hosts / 2) ss)
+    ∙ (λ i. other_deeds st.unit.own x.unit.own (station_deeds x seen (is_odd hosts)) (λ e. apart a b (sym e)) i ++ units_deeds d b i)
   where
-    apart : {seen : Lines} {hosts : ℕ} {code : ℕ} {ss : List Station} {y after : Station} → All (λ (z : Station). z.unit.own_val ≡ code → ⊥) ss → Becomes seen hosts ss y after → y.unit.own_val ≡ code → ⊥
+    apart : {seen : Lines} {hosts : ℕ} {code : ℕ} {ss : List Station} {y after : Station} → All (λ (z : Station). z.unit.own ≡ code → ⊥) ss → Becomes seen hosts ss y after → y.unit.own ≡ code → ⊥
     apart (also h hs) in_front e = h e
     apart (also h hs) (behind m) e = apart hs m e
 

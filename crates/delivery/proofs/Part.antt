@@ -35,13 +35,13 @@ use Rattle.delivery.proofs.Heard.{Pair, rests, takes, sends, pair, Round, Waits,
 
 -- What a round with BAV seen low makes of a unit.
 pub record Stepped (st : Station) (seen : Lines) (busy : Bool) (after : Station) : Type 0 where
-  pub own : after.unit.own_val ≡ st.unit.own_val
+  pub own : after.unit.own ≡ st.unit.own
   pub asking : after.unit.asking ≡ (st.unit.asking && not seen.hsk)
-  pub phase : after.unit.phase ≡ (phase_step st.unit.phase st.unit.own_val st.unit.serial seen busy st.buffer st.input).phase
+  pub phase : after.unit.phase ≡ (phase_step st.unit.phase st.unit.own st.unit.serial seen busy st.buffer st.input).phase
   pub buffer : after.buffer ≡ phase_buffer st.unit.phase seen st.buffer
-  pub inside : inside_of after ≡ inside_after st.unit.phase st.unit.own_val (inside_of st) seen busy st.buffer
+  pub inside : inside_of after ≡ inside_after st.unit.phase st.unit.own (inside_of st) seen busy st.buffer
 
-pub low_step_lem : (st : Station) (seen : Lines) (busy : Bool) → seen.nibble < 16 → is_short (kind_of st.unit.own_val) (length st.buffer) (length st.output) ≡ false → seen.bav ≡ true → Stepped st seen busy (station_step st seen busy)
+pub low_step_lem : (st : Station) (seen : Lines) (busy : Bool) → seen.nibble < 16 → is_short (kind_of st.unit.own) (length st.buffer) (length st.output) ≡ false → seen.bav ≡ true → Stepped st seen busy (station_step st seen busy)
 low_step_lem st seen busy n room low =
     let a : ltb 15 seen.nibble ≡ false = le-ltb 15 seen.nibble (omega arith) in
     record { own = rw (a, room, low); asking = rw (a, room, low); phase = rw (a, room, low); buffer = rw (a, room, low); inside = rw (a, room, low) }
@@ -114,13 +114,13 @@ heard_short l (h_half j buffer room g h) = omega arith
 
 -- Why a unit sits out.
 pub data Hush (P : Reply → Inside → Type 0) (c : Command) (st : Station) : Type 0 where
-  not_mine : addressed c st.unit.own_val ≡ false → Hush P c st
+  not_mine : addressed c st.unit.own ≡ false → Hush P c st
   ruled : (r : Reply) → is_silent r ≡ true → P r (inside_of st) → Hush P c st
 
 -- A unit after its last command nibble is done: it responds, or sits out.
 pub data Turned (P : Reply → Inside → Type 0) (c : Command) (st : Station) : Type 0 where
   speaks :
-      (r : Reply) → is_silent r ≡ false → addressed c st.unit.own_val ≡ true → st.unit.phase ≡ Responding r 0 Next true → P r (inside_of st)
+      (r : Reply) → is_silent r ≡ false → addressed c st.unit.own ≡ true → st.unit.phase ≡ Responding r 0 Next true → P r (inside_of st)
       → st.unit.asking ≡ false → Turned P c st
   silent : st.unit.phase ≡ SittingOut false → st.unit.asking ≡ false → Hush P c st → Turned P c st
 
@@ -129,7 +129,7 @@ module _ (P : Reply → Inside → Type 0) (c : Command) (d : List ℕ) (i : ℕ
   n = nibble_in (bytes_for c d) i
 
   -- What a round of the unit has left as it was.
-  same-own : {a : Bool} → addressed c st.unit.own_val ≡ a → addressed c st'.unit.own_val ≡ a
+  same-own : {a : Bool} → addressed c st.unit.own ≡ a → addressed c st'.unit.own ≡ a
   same-own e = ap (addressed c) step.own ∙ e
 
   not-asking : st.unit.asking ≡ false → st'.unit.asking ≡ false
@@ -143,18 +143,18 @@ module _ (P : Reply → Inside → Type 0) (c : Command) (d : List ℕ) (i : ℕ
       and_false false = refl
 
   module _ {phase : Phase} (e : st.unit.phase ≡ phase) where
-    phase-is : st'.unit.phase ≡ (phase_step phase st.unit.own_val st.unit.serial seen busy st.buffer st.input).phase
-    phase-is = step.phase ∙ ap (λ (x : Phase). (phase_step x st.unit.own_val st.unit.serial seen busy st.buffer st.input).phase) e
+    phase-is : st'.unit.phase ≡ (phase_step phase st.unit.own st.unit.serial seen busy st.buffer st.input).phase
+    phase-is = step.phase ∙ ap (λ (x : Phase). (phase_step x st.unit.own st.unit.serial seen busy st.buffer st.input).phase) e
 
-    inside_is : inside_of st' ≡ inside_after phase st.unit.own_val (inside_of st) seen busy st.buffer
-    inside_is = step.inside ∙ ap (λ (x : Phase). inside_after x st.unit.own_val (inside_of st) seen busy st.buffer) e
+    inside_is : inside_of st' ≡ inside_after phase st.unit.own (inside_of st) seen busy st.buffer
+    inside_is = step.inside ∙ ap (λ (x : Phase). inside_after x st.unit.own (inside_of st) seen busy st.buffer) e
 
   still-sits : {now : Bool} → st.unit.phase ≡ SittingOut now → st'.unit.phase ≡ SittingOut false
   still-sits e = phase-is e
 
   -- What was heard, carried to the unit after the round.
   moved-heard : {ear : Listener} {k : ℕ} {after : Phase} {y : Inside} {b : List ℕ}
-      → Round st.unit.phase st.unit.own_val (inside_of st) seen busy st.buffer after y b
+      → Round st.unit.phase st.unit.own (inside_of st) seen busy st.buffer after y b
       → Heard (bytes_for c d) ear k after b → Heard (bytes_for c d) ear k st'.unit.phase st'.buffer
   moved-heard {ear} {k} {after} {y} {b} r h =
       subst (λ (x : Phase). Heard (bytes_for c d) ear k x st'.buffer) (sym (step.phase ∙ r.phase))
@@ -169,9 +169,9 @@ module _ (P : Reply → Inside → Type 0) (c : Command) (d : List ℕ) (i : ℕ
       sent-by : Pair n sender ear t seen.hsk seen.nibble busy → Part P c d (suc i) Next st'
       sent-by (rests e1 e2 g) = absurd (true≢false (sym sent ∙ e2))
       sent-by (takes e1 e2 e3 e4 e5 g) = absurd (true≢false (sym sent ∙ e5))
-      sent-by (sends e1 e2 e3 e4 e5) = goes (heard_waits st.unit.own_val (inside_of st) seen busy h e1)
+      sent-by (sends e1 e2 e3 e4 e5) = goes (heard_waits st.unit.own (inside_of st) seen busy h e1)
         where
-          goes : Waits (bytes_for c d) (i + t) (hear_of ear seen.hsk busy) st.unit.phase st.unit.own_val (inside_of st) seen busy st.buffer → Part P c d (suc i) Next st'
+          goes : Waits (bytes_for c d) (i + t) (hear_of ear seen.hsk busy) st.unit.phase st.unit.own (inside_of st) seen busy st.buffer → Part P c d (suc i) Next st'
           goes (waits after h' r) =
               let k : i + t ≡ suc i + 0 = omega arith in
               listens Ready 0 f_next
@@ -181,7 +181,7 @@ module _ (P : Reply → Inside → Type 0) (c : Command) (d : List ℕ) (i : ℕ
   part-sent shows own sent more (sits now a e k q) = sits false (same-own a) (still-sits e) (λ x. absurd (false≢true x)) (not-asking q)
 
   -- The last nibble counts as sent: the unit responds two rounds later, or sits out.
-  answered-by : (t : Bool) (ear : Listener) (r : Reply) → is_silent r ≡ t → hear_of ear seen.hsk busy ≡ Ready → st.unit.phase ≡ Receiving ear (Answered r) → addressed c st.unit.own_val ≡ true
+  answered-by : (t : Bool) (ear : Listener) (r : Reply) → is_silent r ≡ t → hear_of ear seen.hsk busy ≡ Ready → st.unit.phase ≡ Receiving ear (Answered r) → addressed c st.unit.own ≡ true
       → P r (inside_of st) → st.unit.asking ≡ false → Turned P c st'
   answered-by true ear r z e4 e a k q =
       silent (phase-is e ∙ rw (e4, z)) (not-asking q) (ruled r z (subst (P r) (sym (inside_is e)) k))
@@ -207,31 +207,31 @@ module _ (P : Reply → Inside → Type 0) (c : Command) (d : List ℕ) (i : ℕ
   -- A nibble that does not count as sent yet.
   module _
       (ok : Sent c d)
-      (fixes : is_answered st.unit.phase ≡ false → is_answered st'.unit.phase ≡ true → inside_of st' ≡ taken_for st.unit.own_val (inside_of st) c d → P (reply_for st.unit.own_val (inside_of st) c d) (inside_of st'))
+      (fixes : is_answered st.unit.phase ≡ false → is_answered st'.unit.phase ≡ true → inside_of st' ≡ taken_for st.unit.own (inside_of st) c d → P (reply_for st.unit.own (inside_of st) c d) (inside_of st'))
     where
       takes-more : Fits n (send_of sender seen.hsk n) Holding 1 → seen.hsk ≡ true
-          → Takes (bytes_for c d) i st.unit.phase st.unit.own_val (inside_of st) seen busy st.buffer
-          → (2 ≤ suc i → addressed c st.unit.own_val ≡ true)
+          → Takes (bytes_for c d) i st.unit.phase st.unit.own (inside_of st) seen busy st.buffer
+          → (2 ≤ suc i → addressed c st.unit.own ≡ true)
           → Part P c d i (send_of sender seen.hsk n) st'
       takes-more g low (takes_it after b h r) a =
           let k : suc i ≡ i + 1 = omega arith in
           listens Holding 1 g (subst (λ (x : ℕ). Heard (bytes_for c d) Holding x st'.unit.phase st'.buffer) k (moved-heard r h)) (λ l. same-own (a (omega arith))) (λ l. asked_low low)
 
-      takes_last : Fits n (send_of sender seen.hsk n) Holding 1 → seen.hsk ≡ true → suc i ≡ 2 * length (bytes_for c d) → addressed c st.unit.own_val ≡ true
+      takes_last : Fits n (send_of sender seen.hsk n) Holding 1 → seen.hsk ≡ true → suc i ≡ 2 * length (bytes_for c d) → addressed c st.unit.own ≡ true
           → is_answered st.unit.phase ≡ false
-          → Fixed c d st.unit.phase st.unit.own_val (inside_of st) seen busy st.buffer
+          → Fixed c d st.unit.phase st.unit.own (inside_of st) seen busy st.buffer
           → Part P c d i (send_of sender seen.hsk n) st'
       takes_last g low all a before x =
-          answers Holding (reply_for st.unit.own_val (inside_of st) c d) g all (same-own a) (step.phase ∙ x.phase) (fixes before (ap is_answered (step.phase ∙ x.phase)) (step.inside ∙ x.inside)) (asked_low low)
+          answers Holding (reply_for st.unit.own (inside_of st) c d) g all (same-own a) (step.phase ∙ x.phase) (fixes before (ap is_answered (step.phase ∙ x.phase)) (step.inside ∙ x.inside)) (asked_low low)
 
-      takes-by : (b t : Bool) → addressed c st.unit.own_val ≡ b → ltb (suc i) (2 * length (bytes_for c d)) ≡ t → i < 2 * length (bytes_for c d)
-          → (2 ≤ i → addressed c st.unit.own_val ≡ true) → Fits n (send_of sender seen.hsk n) Holding 1 → (m : ℕ) → send_of sender seen.hsk n ≡ Kept m → seen.hsk ≡ true → seen.nibble ≡ n
+      takes-by : (b t : Bool) → addressed c st.unit.own ≡ b → ltb (suc i) (2 * length (bytes_for c d)) ≡ t → i < 2 * length (bytes_for c d)
+          → (2 ≤ i → addressed c st.unit.own ≡ true) → Fits n (send_of sender seen.hsk n) Holding 1 → (m : ℕ) → send_of sender seen.hsk n ≡ Kept m → seen.hsk ≡ true → seen.nibble ≡ n
           → Heard (bytes_for c d) Ready i st.unit.phase st.buffer → Part P c d i (send_of sender seen.hsk n) st'
       takes-by true true a l h z g m keeps low q x =
-          takes-more g low (heard-takes c d ok st.unit.own_val (inside_of st) seen busy low x q (ltb-true (suc i) (2 * length (bytes_for c d)) l) (λ e. a)) (λ e. a)
+          takes-more g low (heard-takes c d ok st.unit.own (inside_of st) seen busy low x q (ltb-true (suc i) (2 * length (bytes_for c d)) l) (λ e. a)) (λ e. a)
       takes-by true false a l h z g m keeps low q x =
           let all : 2 * length (bytes_for c d) ≤ suc i = ltb-false (suc i) (2 * length (bytes_for c d)) l in
-          takes_last g low (omega arith) a (heard_open x) (heard-last c d ok st.unit.own_val (inside_of st) seen busy low x q (omega arith))
+          takes_last g low (omega arith) a (heard_open x) (heard-last c d ok st.unit.own (inside_of st) seen busy low x q (omega arith))
       takes-by false t a l h z g m keeps low q x = other i refl
         where
           nine : length (bytes_for c d) ≡ 9 + length d
@@ -239,9 +239,9 @@ module _ (P : Reply → Inside → Type 0) (c : Command) (d : List ℕ) (i : ℕ
 
           other : (k : ℕ) → k ≡ i → Part P c d i (send_of sender seen.hsk n) st'
           other zero e =
-              takes-more g low (heard-takes c d ok st.unit.own_val (inside_of st) seen busy low x q (omega arith) (λ e'. absurd (omega arith))) (λ e'. absurd (omega arith))
+              takes-more g low (heard-takes c d ok st.unit.own (inside_of st) seen busy low x q (omega arith) (λ e'. absurd (omega arith))) (λ e'. absurd (omega arith))
           other (suc zero) e =
-              let r = heard-other c d ok st.unit.own_val (inside_of st) seen busy low x (sym e) (q ∙ ap (nibble_in (bytes_for c d)) (sym e)) a in
+              let r = heard-other c d ok st.unit.own (inside_of st) seen busy low x (sym e) (q ∙ ap (nibble_in (bytes_for c d)) (sym e)) a in
               sits true (same-own a) (step.phase ∙ r.phase) (λ _. (m, keeps)) (asked_low low)
           other (suc (suc k)) e = absurd (true≢false (sym (z (omega arith)) ∙ a))
 
@@ -253,15 +253,15 @@ module _ (P : Reply → Inside → Type 0) (c : Command) (d : List ℕ) (i : ℕ
       part-rests shows own sent less (listens ear t f h a q) = rests-by (pair seen.hsk seen.nibble busy f (sees sender ear seen shows (λ e. own (heard_hsk h ∙ e))))
         where
           goes : Fits n (send_of sender seen.hsk n) (hear_of ear seen.hsk busy) t
-              → Waits (bytes_for c d) (i + t) (hear_of ear seen.hsk busy) st.unit.phase st.unit.own_val (inside_of st) seen busy st.buffer
+              → Waits (bytes_for c d) (i + t) (hear_of ear seen.hsk busy) st.unit.phase st.unit.own (inside_of st) seen busy st.buffer
               → Part P c d i (send_of sender seen.hsk n) st'
           goes g (waits after h' r) = listens (hear_of ear seen.hsk busy) t g (moved-heard r h') (λ l. same-own (a l)) (λ l. not-asking (q l))
 
           rests-by : Pair n sender ear t seen.hsk seen.nibble busy → Part P c d i (send_of sender seen.hsk n) st'
-          rests-by (rests e1 e2 g) = goes g (heard_waits st.unit.own_val (inside_of st) seen busy h e1)
+          rests-by (rests e1 e2 g) = goes g (heard_waits st.unit.own (inside_of st) seen busy h e1)
           rests-by (takes e1 e2 e3 e4 e5 g) =
               let k : i + t ≡ i = omega arith in
-              takes-by (addressed c st.unit.own_val) (ltb (suc i) (2 * length (bytes_for c d))) refl refl less (λ l. a (omega arith)) g n (placed-kept g) e2 e3
+              takes-by (addressed c st.unit.own) (ltb (suc i) (2 * length (bytes_for c d))) refl refl less (λ l. a (omega arith)) g n (placed-kept g) e2 e3
               (subst (λ (x : ℕ). Heard (bytes_for c d) Ready x st.unit.phase st.buffer) k (subst (λ (x : Listener). Heard (bytes_for c d) x (i + t) st.unit.phase st.buffer) e1 h))
           rests-by (sends e1 e2 e3 e4 e5) = absurd (true≢false (sym e2 ∙ sent))
       part-rests shows own sent less (answers ear r f l a e k q) = rests-by (pair seen.hsk seen.nibble busy f (sees sender ear seen shows (λ x. own (ap pulls_hsk e ∙ x))))

@@ -25,7 +25,7 @@ use Rattle.delivery.proofs.Story.{DidAt, stands_has}
 did_places : (l : Capture) (ls : List Capture) (st : Station) → DidAt l l.lent st → Places (l ∷ ls) st
 did_places l ls st did = by st.unit.phase refl did
   where
-    by : (p : Phase) → st.unit.phase ≡ p → Did l.frame.command l.lent st.unit.own_val p (deeds_in st.unit.own_val l.marks) → Places (l ∷ ls) st
+    by : (p : Phase) → st.unit.phase ≡ p → Did l.frame.command l.lent st.unit.own p (deeds_in st.unit.own l.marks) → Places (l ∷ ls) st
     by Idle e q = no_nibble (ap pulls_nibble e)
     by (Selecting ear half low) e q = no_nibble (ap pulls_nibble e)
     by (Receiving ear progress) e q = no_nibble (ap pulls_nibble e)

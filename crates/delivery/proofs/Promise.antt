@@ -54,12 +54,12 @@ carried T {c = c} {d = d} o e p = record {
 
 -- It outlasts a call of the unit's host.
 abbrev pub promise_called : (T : Moment) {c : Command} {d : List ℕ} {r : Reply} {call : HostCall} {st after : Station} → Called call st after
-    → Promised T st.unit.own_val c d r (inside_of st) → Promised T after.unit.own_val c d r (inside_of after)
+    → Promised T st.unit.own c d r (inside_of st) → Promised T after.unit.own c d r (inside_of after)
 promise_called T {c = c} {d = d} {call = call} {st = st} k p = record {
   given = p.given;
   took = subst (λ (n : ℕ). T n p.given) (sym k.own) p.took;
   fit = subst (λ (n : ℕ). Fit (kind_of n) p.given) (sym k.own) p.fit;
   said = p.said ∙ ap (λ (n : ℕ). reply_for n p.given c d) (sym k.own);
   calls = call ∷ p.calls;
-  now = k.inside ∙ ap (calledIn (kind_of st.unit.own_val) call) p.now ∙ ap (λ (n : ℕ). called_all (kind_of n) (call ∷ p.calls) (taken_for n p.given c d)) (sym k.own);
+  now = k.inside ∙ ap (calledIn (kind_of st.unit.own) call) p.now ∙ ap (λ (n : ℕ). called_all (kind_of n) (call ∷ p.calls) (taken_for n p.given c d)) (sym k.own);
 }

@@ -129,16 +129,16 @@ module _ (ring : Ring) (a : Codes ring) where
   codes-ended f status h = codes-cond (eqb status 0x00) (ring_by f.kind ring f.command) ring (codes-by f.kind f.command h) a
 
 -- A unit that no frame has reached stays so while HSK is high.
-pub high_step_lem : (st : Station) (seen : Lines) (busy : Bool) → seen.nibble < 16 → is_short (kind_of st.unit.own_val) (length st.buffer) (length st.output) ≡ false → seen.bav ≡ false
+pub high_step_lem : (st : Station) (seen : Lines) (busy : Bool) → seen.nibble < 16 → is_short (kind_of st.unit.own) (length st.buffer) (length st.output) ≡ false → seen.bav ≡ false
     → ((station_step st seen busy).unit.phase ≡ Idle) × (((station_step st seen busy).buffer ≡ st.buffer) × (inside_of (station_step st seen busy) ≡ inside_of st))
 high_step_lem st seen busy n room high =
     let a : ltb 15 seen.nibble ≡ false = le-ltb 15 seen.nibble (omega arith) in
     (rw (a, room, high), (rw (a, room, high), rw (a, room, high)))
 
-sound_high : {st after : Station} → after.unit.own_val ≡ st.unit.own_val → after.buffer ≡ st.buffer → inside_of after ≡ inside_of st → Sound st → Sound after
+sound_high : {st after : Station} → after.unit.own ≡ st.unit.own → after.buffer ≡ st.buffer → inside_of after ≡ inside_of st → Sound st → Sound after
 sound_high {st} {after} o b i s = record {
   room = (λ k. is_short (kind_of (o k)) (length (b k)) (length (i k).output)) ∙ s.room;
-  fit = subst (λ (own : ℕ). Fit (kind_of own) (inside_of after)) (sym o) (subst (Fit (kind_of st.unit.own_val)) (sym i) s.fit);
+  fit = subst (λ (own : ℕ). Fit (kind_of own) (inside_of after)) (sym o) (subst (Fit (kind_of st.unit.own)) (sym i) s.fit);
 }
 
 idle_step_lem : (seen : Lines) → seen.nibble < 16 → seen.bav ≡ false → (st : Station) (busy : Bool) → Sound st → Fresh (station_step st seen busy) × Sound (station_step st seen busy)

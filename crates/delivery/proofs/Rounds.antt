@@ -27,7 +27,7 @@ use Rattle.delivery.specs.Run.{QuietStart, Run, start, a_round, a_call}
 pub data TookBy (v : World) (busy : Busy) (before : Moment) (own : ℕ) (x : Inside) : Type 0 where
   takes_it :
       (st after : Station) → Becomes (levels v) busy.there v.units st after → is_answered st.unit.phase ≡ false → is_answered after.unit.phase ≡ true
-      → st.unit.own_val ≡ own → inside_of st ≡ x → TookBy v busy before own x
+      → st.unit.own ≡ own → inside_of st ≡ x → TookBy v busy before own x
   took_it : in_frame v.controller.stage ≡ true → before own x → TookBy v busy before own x
 
 -- So on a run: in the frame that runs, or has just ended.
@@ -58,14 +58,14 @@ Untouched st after = inside_of after ≡ inside_of st
 
 pub record FixedBy (c : Command) (d : List ℕ) (st after : Station) : Type 0 where
   pub ear : Listener
-  pub reply : after.unit.phase ≡ Receiving ear (Answered (reply_for st.unit.own_val (inside_of st) c d))
-  pub inside : inside_of after ≡ taken_for st.unit.own_val (inside_of st) c d
+  pub reply : after.unit.phase ≡ Receiving ear (Answered (reply_for st.unit.own (inside_of st) c d))
+  pub inside : inside_of after ≡ taken_for st.unit.own (inside_of st) c d
 
 pub data Changed (c : Command) (d : List ℕ) (st after : Station) : Type 0 where
   unchanged : Untouched st after → (is_answered after.unit.phase ≡ true → is_answered st.unit.phase ≡ true) → Changed c d st after
-  fixed_now : addressed c st.unit.own_val ≡ true → is_answered st.unit.phase ≡ false → FixedBy c d st after → Changed c d st after
+  fixed_now : addressed c st.unit.own ≡ true → is_answered st.unit.phase ≡ false → FixedBy c d st after → Changed c d st after
   done_now :
-      addressed c st.unit.own_val ≡ true → (r : Reply) (j : ℕ) (sender : Sender) → st.unit.phase ≡ Responding r j sender false → after.unit.phase ≡ SittingOut false
+      addressed c st.unit.own ≡ true → (r : Reply) (j : ℕ) (sender : Sender) → st.unit.phase ≡ Responding r j sender false → after.unit.phase ≡ SittingOut false
       → inside_of after ≡ responded (inside_of st) r → Changed c d st after
 
 abbrev pub Changes : Type 1

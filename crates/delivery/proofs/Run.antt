@@ -43,10 +43,10 @@ use Rattle.delivery.proofs.Lists.{all_map, one_map}
 use Rattle.delivery.proofs.Rest.{codes_marked}
 
 -- Codes stay as they are.
-own_called : (call : HostCall) (st : Station) → (called_by call st).unit.own_val ≡ st.unit.own_val
+own_called : (call : HostCall) (st : Station) → (called_by call st).unit.own ≡ st.unit.own
 own_called call st = (unit_called call st).own
 
-apart_called : (code i : ℕ) (call : HostCall) {ss : List Station} → All (λ (x : Station). x.unit.own_val ≡ code → ⊥) ss → All (λ (x : Station). x.unit.own_val ≡ code → ⊥) (called_at i call ss)
+apart_called : (code i : ℕ) (call : HostCall) {ss : List Station} → All (λ (x : Station). x.unit.own ≡ code → ⊥) ss → All (λ (x : Station). x.unit.own ≡ code → ⊥) (called_at i call ss)
 apart_called code i call none = none
 apart_called code zero call (also {x = st} p a) = also (λ e. p (sym (own_called call st) ∙ e)) a
 apart_called code (suc i) call (also p a) = also p (apart_called code i call a)
@@ -54,7 +54,7 @@ apart_called code (suc i) call (also p a) = also p (apart_called code i call a)
 different_called : (i : ℕ) (call : HostCall) {ss : List Station} → Different ss → Different (called_at i call ss)
 different_called i call nobody = nobody
 different_called zero call (another {st = st} a d) = another (all_map (λ x p e. p (e ∙ own_called call st)) a) d
-different_called (suc i) call (another {st = st} a d) = another (apart_called st.unit.own_val i call a) (different_called i call d)
+different_called (suc i) call (another {st = st} a d) = another (apart_called st.unit.own i call a) (different_called i call d)
 
 different_lent : (i : ℕ) (buffer : List ℕ) {ss : List Station} → Different ss → Different (buffer_at i buffer ss)
 different_lent i buffer nobody = nobody
@@ -146,7 +146,7 @@ frame_lent {T} false {f} d response e (sends j sender {units = units} {lent = le
     let same = same_data f lent d e in
     sends j sender (framed_lent false d response e framed) u (subst (λ (x : List ℕ). Sends (nibble_in (bytes_for f.command x) j) sender) same s)
     (subst (λ (x : List ℕ). j < 2 * length (bytes_for f.command x)) same l)
-    (subst (λ (x : List ℕ). All (λ (st : Station). Part (Promised T st.unit.own_val f.command x) f.command x j sender st × Sound st) units) same a)
+    (subst (λ (x : List ℕ). All (λ (st : Station). Part (Promised T st.unit.own f.command x) f.command x j sender st × Sound st) units) same a)
 frame_lent {T} false {f} {found} d response e (hears ear taken quiet {units = units} {lent = lent} {response = buffer} framed u l o) =
     hears ear taken quiet (framed_lent false d response e framed) u refl
     (one_map (λ st p. (talk_lent response st e p.0, p.1))

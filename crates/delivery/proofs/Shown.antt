@@ -158,7 +158,7 @@ module _ (l : Capture) where
     acts-so-far : length (acts_in l.marks) ≡ i
     acts-so-far = ap length was ∙ length-map (take i (message l)) sent ∙ length-take-le i (message l) (let k = less in omega arith)
 
-    sending-delivered : {ss : List Station} → All (λ (st : Station). Part l st.unit.own_val) ss → Underway (codes_of ss) l
+    sending-delivered : {ss : List Station} → All (λ (st : Station). Part l st.unit.own) ss → Underway (codes_of ss) l
     sending-delivered parts = record {
       answerer = nobody;
       in_order = (
@@ -171,38 +171,38 @@ module _ (l : Capture) where
       parts = all_codes parts;
     }
 
-    sends-part : {P : Reply → Inside → Type 0} (st : Station) {sender : Sender} → StagePart P l.frame.command l.lent i sender st → DidAt l l.lent st → Part l st.unit.own_val
+    sends-part : {P : Reply → Inside → Type 0} (st : Station) {sender : Sender} → StagePart P l.frame.command l.lent i sender st → DidAt l l.lent st → Part l st.unit.own
     sends-part st (listens ear t f h meant quiet) did =
         let a = length-nibbles (bytes_for l.frame.command l.lent) in
         let b = length_bytes l.frame.command l.lent in
         let c = heard_short (omega arith) h in
         let n = acts-so-far in
-        part-took l st.unit.own_val (i + t) (inside_of st) (λ other. few (ltb (i + t) 2) refl other) (omega arith) (omega arith) (heard-did l.frame.command l.lent st.unit.own_val h did)
+        part-took l st.unit.own (i + t) (inside_of st) (λ other. few (ltb (i + t) 2) refl other) (omega arith) (omega arith) (heard-did l.frame.command l.lent st.unit.own h did)
       where
-        few : (t' : Bool) → ltb (i + t) 2 ≡ t' → is_addressed l st.unit.own_val ≡ false → i + t ≤ 2
+        few : (t' : Bool) → ltb (i + t) 2 ≡ t' → is_addressed l st.unit.own ≡ false → i + t ≤ 2
         few true e other = let k = ltb-true (i + t) 2 e in omega arith
         few false e other = absurd (true≢false (sym (meant (ltb-false (i + t) 2 e)) ∙ other))
-    sends-part st (answers ear r f all meant e p quiet) did = part-settled l st.unit.own_val (subst (λ (x : Phase). Did l.frame.command l.lent st.unit.own_val x (deeds_in st.unit.own_val l.marks)) e did)
+    sends-part st (answers ear r f all meant e p quiet) did = part-settled l st.unit.own (subst (λ (x : Phase). Did l.frame.command l.lent st.unit.own x (deeds_in st.unit.own l.marks)) e did)
     sends-part st (sits now other e why quiet) did =
-        part-hushed l st.unit.own_val (inside_of st) (subst (λ (x : Phase). Did l.frame.command l.lent st.unit.own_val x (deeds_in st.unit.own_val l.marks)) e did)
+        part-hushed l st.unit.own (inside_of st) (subst (λ (x : Phase). Did l.frame.command l.lent st.unit.own x (deeds_in st.unit.own l.marks)) e did)
 
-    fresh-part : i ≡ 0 → (st : Station) → Fresh st → DidAt l l.lent st → Part l st.unit.own_val
+    fresh-part : i ≡ 0 → (st : Station) → Fresh st → DidAt l l.lent st → Part l st.unit.own
     fresh-part first st fresh did =
         let n = acts-so-far in
-        part-took l st.unit.own_val 0 (inside_of st) (λ other. omega arith) (omega arith) (omega arith) (fresh_nothing l.frame.command l.lent st.unit.own_val fresh did)
+        part-took l st.unit.own 0 (inside_of st) (λ other. omega arith) (omega arith) (omega arith) (fresh_nothing l.frame.command l.lent st.unit.own fresh did)
 
   -- While the controller listens: what a unit that sits out has done.
-  sits-hush : {now : Bool} (st : Station) → st.unit.phase ≡ SittingOut now → DidAt l l.lent st → Hush l.frame.command l.lent st.unit.own_val (deeds_in st.unit.own_val l.marks)
-  sits-hush st e did = subst (λ (x : Phase). Did l.frame.command l.lent st.unit.own_val x (deeds_in st.unit.own_val l.marks)) e did
+  sits-hush : {now : Bool} (st : Station) → st.unit.phase ≡ SittingOut now → DidAt l l.lent st → Hush l.frame.command l.lent st.unit.own (deeds_in st.unit.own l.marks)
+  sits-hush st e did = subst (λ (x : Phase). Did l.frame.command l.lent st.unit.own x (deeds_in st.unit.own l.marks)) e did
 
   -- Nobody responds.
   waits-delivered : {ss : List Station} → acts_in l.marks ≡ map sent (message l)
-      → All (λ (st : Station). Hush l.frame.command l.lent st.unit.own_val (deeds_in st.unit.own_val l.marks)) ss → All (DidAt l l.lent) ss → Underway (codes_of ss) l
+      → All (λ (st : Station). Hush l.frame.command l.lent st.unit.own (deeds_in st.unit.own l.marks)) ss → All (DidAt l l.lent) ss → Underway (codes_of ss) l
   waits-delivered was hush did = record {
     answerer = nobody;
     in_order = (end_by l nobody ∷ [], ap (λ (y : List Act). y ++ (end_by l nobody ∷ [])) (sym was));
-    answers = λ _. all_codes (all_map (λ st h. hush-hushes l st.unit.own_val h) hush);
-    parts = all_codes (all_map (λ st h. part-hushed l st.unit.own_val (inside_of st) h) hush);
+    answers = λ _. all_codes (all_map (λ st h. hush-hushes l st.unit.own h) hush);
+    parts = all_codes (all_map (λ st h. part-hushed l st.unit.own (inside_of st) h) hush);
   }
 
   -- One unit does, with `given` inside it as it took the last nibble; k nibbles of its response are taken.
@@ -211,8 +211,8 @@ module _ (l : Capture) where
     given : Inside
     k : ℕ
     acted : acts_in l.marks ≡ map sent (message l) ++ map heard (take k (response l own given))
-    speaks : One (λ (st : Station). Speaks l own given st.unit.own_val) (λ (st : Station). Hushes l st.unit.own_val) ss
-    parts : All (λ (st : Station). Part l st.unit.own_val) ss
+    speaks : One (λ (st : Station). Speaks l own given st.unit.own) (λ (st : Station). Hushes l st.unit.own) ss
+    parts : All (λ (st : Station). Part l st.unit.own) ss
 
   module _ (T : Moment) (stores : Bool) (found : List ℕ) (ear : Listener) (taken : Response) (quiet : ℕ) (buffer : List ℕ) where
     abbrev Talking : Station → Type 0
@@ -221,24 +221,24 @@ module _ (l : Capture) where
     abbrev Sitting : Station → Type 0
     Sitting st = (Sits st × Sound st) × (DidAt l l.lent st × TellsAt l l.lent ear st)
 
-    hushed-part : (st : Station) → Sitting st → Part l st.unit.own_val
-    hushed-part st p = part-hushed l st.unit.own_val (inside_of st) (sits-hush st p.0.0.0 p.1.0)
+    hushed-part : (st : Station) → Sitting st → Part l st.unit.own
+    hushed-part st p = part-hushed l st.unit.own (inside_of st) (sits-hush st p.0.0.0 p.1.0)
 
-    hushes : (st : Station) → Sitting st → Hushes l st.unit.own_val
-    hushes st p = hush-hushes l st.unit.own_val (sits-hush st p.0.0.0 p.1.0)
+    hushes : (st : Station) → Sitting st → Hushes l st.unit.own
+    hushes st p = hush-hushes l st.unit.own (sits-hush st p.0.0.0 p.1.0)
 
     speaker : {ss : List Station} → One Talking Sitting ss → Speaker ss
     speaker (this {x = st} ((talks r j t sender wait z p fits g b less w q asking meant, sound), (did, tells)) a) =
-        let s : Stands l.frame.command l.lent st.unit.own_val r j (deeds_in st.unit.own_val l.marks) × (is_silent r ≡ false) =
-        subst (λ (x : Phase). Did l.frame.command l.lent st.unit.own_val x (deeds_in st.unit.own_val l.marks)) z did in
+        let s : Stands l.frame.command l.lent st.unit.own r j (deeds_in st.unit.own l.marks) × (is_silent r ≡ false) =
+        subst (λ (x : Phase). Did l.frame.command l.lent st.unit.own x (deeds_in st.unit.own l.marks)) z did in
         let was = tells r j s.0 (answering sender wait z) in
         record {
-          own = st.unit.own_val;
+          own = st.unit.own;
           given = s.0.given;
           k = j + count ear;
           acted = was;
           speaks = this (record { named = refl; meant = s.0.meant; inside = stands_has s.0; defined = sym (ap is_silent s.0.said) ∙ s.1 }) (all_map hushes a);
-          parts = also (part-speaks l st.unit.own_val s.0 s.1) (all_map hushed-part a);
+          parts = also (part-speaks l st.unit.own s.0 s.1) (all_map hushed-part a);
         }
     speaker (that {x = st} q o) =
         let s = speaker o in

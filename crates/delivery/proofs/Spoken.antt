@@ -113,7 +113,7 @@ pub record Speech (c : Command) (d : List ℕ) (own : ℕ) (after : Phase) (ear 
 
 module _ (T : Moment) (c : Command) (d : List ℕ) {st st' : Station} {seen : Lines} {busy : Bool} (step : Stepped st seen busy st') (host : Bool) (e : List Deed) (a : List Act) (ear : Listener) where
   abbrev own : ℕ
-  own = st.unit.own_val
+  own = st.unit.own
 
   abbrev newly : List Deed
   newly = deeds_by st.unit.phase st'.unit.phase (inside_of st) seen

@@ -46,11 +46,11 @@ sound_low {st} {st'} {seen} {busy} e s = record {
   room =
       (λ k.
       is_short (kind_of (e.own k)) ((ap length e.buffer ∙ phase_buffer_lem st.unit.phase seen st.buffer) k)
-      ((ap (λ (x : Inside). length x.output) e.inside ∙ phase_output_lem st.unit.phase st.unit.own_val st.unit.serial seen st.buffer st.output) k))
+      ((ap (λ (x : Inside). length x.output) e.inside ∙ phase_output_lem st.unit.phase st.unit.own st.unit.serial seen st.buffer st.output) k))
       ∙ s.room;
   fit =
       subst (λ (own : ℕ). Fit (kind_of own) (inside_of st')) (sym e.own)
-      (subst (Fit (kind_of st.unit.own_val)) (sym e.inside) (came_fit st.unit.own_val (came st.unit.phase st.unit.own_val (inside_of st) seen busy st.buffer) s.fit));
+      (subst (Fit (kind_of st.unit.own)) (sym e.inside) (came_fit st.unit.own (came st.unit.phase st.unit.own (inside_of st) seen busy st.buffer) s.fit));
 }
 
 -- The nibbles of a command.
@@ -79,15 +79,15 @@ shows (Placed m) ss h s a = (hsk_kept (sending (Placed m)) ss refl, nibble-kept 
 shows (Kept m) ss h s a = tt
 
 -- What is known of a unit is known of it after a round: it keeps its code.
-part_own : (T : Moment) {c : Command} {d : List ℕ} {i : ℕ} {sender : Sender} {st : Station} {own : ℕ} → st.unit.own_val ≡ own → Part (Promised T own c d) c d i sender st → Part (Promised T st.unit.own_val c d) c d i sender st
+part_own : (T : Moment) {c : Command} {d : List ℕ} {i : ℕ} {sender : Sender} {st : Station} {own : ℕ} → st.unit.own ≡ own → Part (Promised T own c d) c d i sender st → Part (Promised T st.unit.own c d) c d i sender st
 part_own T {c} {d} {i} {sender} {st} e p = subst (λ (own : ℕ). Part (Promised T own c d) c d i sender st) (sym e) p
 
-turned_own : (T : Moment) {c : Command} {d : List ℕ} {st : Station} {own : ℕ} → st.unit.own_val ≡ own → Turned (Promised T own c d) c st → Turned (Promised T st.unit.own_val c d) c st
+turned_own : (T : Moment) {c : Command} {d : List ℕ} {st : Station} {own : ℕ} → st.unit.own ≡ own → Turned (Promised T own c d) c st → Turned (Promised T st.unit.own c d) c st
 turned_own T {c} {d} {st} e p = subst (λ (own : ℕ). Turned (Promised T own c d) c st) (sym e) p
 
 module _
     (T : Moment) (c : Command) (d : List ℕ) (ok : Sent c d) (i : ℕ) (sender : Sender) (ss : List Station) (hosts : ℕ) (s : Sends (nibble_in (bytes_for c d) i) sender)
-    (a : All (λ (st : Station). Part (Promised T st.unit.own_val c d) c d i sender st × Sound st) ss)
+    (a : All (λ (st : Station). Part (Promised T st.unit.own c d) c d i sender st × Sound st) ss)
   where
     abbrev seen : Lines
     seen = levels_with (sending sender) ss
@@ -107,35 +107,35 @@ module _
     stepped : (st : Station) (busy : Bool) → Sound st → Stepped st seen busy (station_step st seen busy)
     stepped st busy x = low_step_lem st seen busy sent-nibble x.room sent-bav
 
-    known : All (λ (st : Station). (Part (Promised T st.unit.own_val c d) c d i sender st × Sound st) × (pulls_hsk st.unit.phase ≡ true → seen.hsk ≡ true)) ss
+    known : All (λ (st : Station). (Part (Promised T st.unit.own c d) c d i sender st × Sound st) × (pulls_hsk st.unit.phase ≡ true → seen.hsk ≡ true)) ss
     known = all_zip a (hsk_own (sending sender) ss)
 
-    pub units-rest : ((st after : Station) → Becomes seen hosts ss st after → is_answered st.unit.phase ≡ false → is_answered after.unit.phase ≡ true → T st.unit.own_val (inside_of st))
+    pub units-rest : ((st after : Station) → Becomes seen hosts ss st after → is_answered st.unit.phase ≡ false → is_answered after.unit.phase ≡ true → T st.unit.own (inside_of st))
         → sent_of sender seen.hsk ≡ false → i < 2 * length (bytes_for c d)
-        → All (λ (st : Station). Part (Promised T st.unit.own_val c d) c d i (send_of sender seen.hsk n) st × Sound st) (units_after seen hosts ss)
+        → All (λ (st : Station). Part (Promised T st.unit.own c d) c d i (send_of sender seen.hsk n) st × Sound st) (units_after seen hosts ss)
     units-rest noted e l =
         all_becomes seen hosts (λ st busy becomes p. (
-          part_own T (stepped st busy p.0.1).own (part-rests (Promised T st.unit.own_val c d) c d i sender st (station_step st seen busy) seen busy (stepped st busy p.0.1) ok
-              (λ before now g. promised st.unit.own_val c d (inside_of st) (inside_of (station_step st seen busy)) p.0.1.fit g (noted st (station_step st seen busy) becomes before now))
+          part_own T (stepped st busy p.0.1).own (part-rests (Promised T st.unit.own c d) c d i sender st (station_step st seen busy) seen busy (stepped st busy p.0.1) ok
+              (λ before now g. promised st.unit.own c d (inside_of st) (inside_of (station_step st seen busy)) p.0.1.fit g (noted st (station_step st seen busy) becomes before now))
               (shows sender ss (nibble_below (bytes_for c d) i) s a) p.1 e l p.0.0),
           sound_low (stepped st busy p.0.1) p.0.1,
         )) known
 
     pub units-sent : sent_of sender seen.hsk ≡ true → suc i < 2 * length (bytes_for c d)
-        → All (λ (st : Station). Part (Promised T st.unit.own_val c d) c d (suc i) Next st × Sound st) (units_after seen hosts ss)
+        → All (λ (st : Station). Part (Promised T st.unit.own c d) c d (suc i) Next st × Sound st) (units_after seen hosts ss)
     units-sent e l =
         all_step seen (λ st busy p. (
           part_own T (stepped st busy p.0.1).own
-              (part-sent (Promised T st.unit.own_val c d) c d i sender st (station_step st seen busy) seen busy (stepped st busy p.0.1) (shows sender ss (nibble_below (bytes_for c d) i) s a) p.1 e l p.0.0),
+              (part-sent (Promised T st.unit.own c d) c d i sender st (station_step st seen busy) seen busy (stepped st busy p.0.1) (shows sender ss (nibble_below (bytes_for c d) i) s a) p.1 e l p.0.0),
           sound_low (stepped st busy p.0.1) p.0.1,
         )) hosts known
 
     pub units-over : sent_of sender seen.hsk ≡ true → suc i ≡ 2 * length (bytes_for c d)
-        → All (λ (st : Station). Turned (Promised T st.unit.own_val c d) c st × Sound st) (units_after seen hosts ss)
+        → All (λ (st : Station). Turned (Promised T st.unit.own c d) c st × Sound st) (units_after seen hosts ss)
     units-over e l =
         let nine : length (bytes_for c d) ≡ 9 + length d = length_bytes c d in
         all_step seen (λ st busy p. (
           turned_own T (stepped st busy p.0.1).own
-              (part-over (Promised T st.unit.own_val c d) c d i sender st (station_step st seen busy) seen busy (stepped st busy p.0.1) (shows sender ss (nibble_below (bytes_for c d) i) s a) p.1 e l (omega arith) p.0.0),
+              (part-over (Promised T st.unit.own c d) c d i sender st (station_step st seen busy) seen busy (stepped st busy p.0.1) (shows sender ss (nibble_below (bytes_for c d) i) s a) p.1 e l (omega arith) p.0.0),
           sound_low (stepped st busy p.0.1) p.0.1,
         )) hosts known

@@ -44,8 +44,8 @@ use Rattle.delivery.specs.World.{World, Busy, levels, round, Different}
 
 -- A unit whose lent memory is long enough, and whose inside fits its kind.
 pub record Sound (st : Station) : Type 0 where
-  pub room : is_short (kind_of st.unit.own_val) (length st.buffer) (length st.output) ≡ false
-  pub fit : Fit (kind_of st.unit.own_val) (inside_of st)
+  pub room : is_short (kind_of st.unit.own) (length st.buffer) (length st.output) ≡ false
+  pub fit : Fit (kind_of st.unit.own) (inside_of st)
 
 -- Own code or code 0.
 abbrev pub addressed : Command → ℕ → Bool
@@ -66,14 +66,14 @@ pub data Sends (n : ℕ) : Sender → Type 0 where
 pub data Part (P : Reply → Inside → Type 0) (c : Command) (d : List ℕ) (i : ℕ) (sender : Sender) (st : Station) : Type 0 where
   listens :
       (ear : Listener) (t : ℕ) → Fits (nibble_in (bytes_for c d) i) sender ear t → Heard (bytes_for c d) ear (i + t) st.unit.phase st.buffer
-      → (2 ≤ i + t → addressed c st.unit.own_val ≡ true) → (1 ≤ i + t → st.unit.asking ≡ false)
+      → (2 ≤ i + t → addressed c st.unit.own ≡ true) → (1 ≤ i + t → st.unit.asking ≡ false)
       → Part P c d i sender st
   answers :
-      (ear : Listener) (r : Reply) → Fits (nibble_in (bytes_for c d) i) sender ear 1 → suc i ≡ 2 * length (bytes_for c d) → addressed c st.unit.own_val ≡ true
+      (ear : Listener) (r : Reply) → Fits (nibble_in (bytes_for c d) i) sender ear 1 → suc i ≡ 2 * length (bytes_for c d) → addressed c st.unit.own ≡ true
       → st.unit.phase ≡ Receiving ear (Answered r) → P r (inside_of st) → st.unit.asking ≡ false
       → Part P c d i sender st
   sits :
-      (now : Bool) → addressed c st.unit.own_val ≡ false → st.unit.phase ≡ SittingOut now → (now ≡ true → (n : ℕ) × (sender ≡ Kept n)) → st.unit.asking ≡ false
+      (now : Bool) → addressed c st.unit.own ≡ false → st.unit.phase ≡ SittingOut now → (now ≡ true → (n : ℕ) × (sender ≡ Kept n)) → st.unit.asking ≡ false
       → Part P c d i sender st
 
 -- A unit that sits out.
@@ -83,8 +83,8 @@ Sits st = (st.unit.phase ≡ SittingOut false) × (st.unit.asking ≡ false)
 -- A unit that has no response to give: the command does not address it, or silence is defined for what was inside it when it took the
 -- last nibble.
 pub data Hushed (T : Moment) (c : Command) (d : List ℕ) (st : Station) : Type 0 where
-  not_its_own : addressed c st.unit.own_val ≡ false → Hushed T c d st
-  by_the_rule : (given : Inside) → T st.unit.own_val given → is_silent (reply_for st.unit.own_val given c d) ≡ true → Hushed T c d st
+  not_its_own : addressed c st.unit.own ≡ false → Hushed T c d st
+  by_the_rule : (given : Inside) → T st.unit.own given → is_silent (reply_for st.unit.own given c d) ≡ true → Hushed T c d st
 
 -- How long HSK may have been seen high, by where the sender is.
 abbrev pub Quiet : Sender → ℕ → Type 0
@@ -103,18 +103,18 @@ answer_bytes {r = r} p = response_for (answer_data p) (reply_status r)
 -- and the response buffer is what the frame found, with what was taken stored.
 pub data Talk (T : Moment) (c : Command) (d : List ℕ) (stores : Bool) (found : List ℕ) (ear : Listener) (taken : Response) (quiet : ℕ) (buffer : List ℕ) (st : Station) : Type 0 where
   talks :
-      (r : Reply) (j t : ℕ) (sender : Sender) (wait : Bool) → st.unit.phase ≡ Responding r j sender wait → (p : Promised T st.unit.own_val c d r (inside_of st))
+      (r : Reply) (j t : ℕ) (sender : Sender) (wait : Bool) → st.unit.phase ≡ Responding r j sender wait → (p : Promised T st.unit.own c d r (inside_of st))
       → Fits (nibble_in (answer_bytes p) j) sender ear t → taken ≡ taken_at (answer_bytes p) c.buffer_length (j + t) → buffer ≡ stored_at (answer_bytes p) c.buffer_length stores (j + t) found
       → j < length_of (answer_data p) → (wait ≡ true → (sender ≡ Next) × (quiet ≡ 0)) → Quiet sender quiet → st.unit.asking ≡ false
-      → addressed c st.unit.own_val ≡ true
+      → addressed c st.unit.own ≡ true
       → Talk T c d stores found ear taken quiet buffer st
 
 -- A unit whose response has arrived whole in a round that comes to m: `before` is that unit among those which the round found. What
 -- waited for the last nibble is done to what was inside it.
 pub data Spoke (T : Moment) (f : Frame) (d found : List ℕ) (m : Moved) (buffer : List ℕ) (ss : List Station) (st : Station) : Type 0 where
   spoke :
-      (r : Reply) (j : ℕ) (sender : Sender) (before : Station) → Has before ss → before.unit.phase ≡ Responding r j sender false → st.unit.own_val ≡ before.unit.own_val → addressed f.command before.unit.own_val ≡ true
-      → (p : Promised T before.unit.own_val f.command d r (inside_of before))
+      (r : Reply) (j : ℕ) (sender : Sender) (before : Station) → Has before ss → before.unit.phase ≡ Responding r j sender false → st.unit.own ≡ before.unit.own → addressed f.command before.unit.own ≡ true
+      → (p : Promised T before.unit.own f.command d r (inside_of before))
       → m ≡ over f (Complete (reply_status r) (length (answer_data p))) → buffer ≡ received (is_submitted f.kind) (answer_data p) found
       → inside_of st ≡ responded (inside_of before) r → Sits st → Spoke T f d found m buffer ss st
 
@@ -152,7 +152,7 @@ Speaking w busy = (st after : Station) → Becomes (levels w) busy.there w.units
 
 -- T is known of each unit that takes the last nibble in this round.
 abbrev pub Noted : Moment → World → Busy → Type 0
-Noted T w busy = (st after : Station) → Becomes (levels w) busy.there w.units st after → is_answered st.unit.phase ≡ false → is_answered after.unit.phase ≡ true → T st.unit.own_val (inside_of st)
+Noted T w busy = (st after : Station) → Becomes (levels w) busy.there w.units st after → is_answered st.unit.phase ≡ false → is_answered after.unit.phase ≡ true → T st.unit.own (inside_of st)
 
 -- The stages of a frame f that has found the response buffer `found`; T is known of the moments in which units have taken its last
 -- nibble.
@@ -163,7 +163,7 @@ pub data InFrame (T : Moment) (f : Frame) (found : List ℕ) : World → Type 0 
   sends :
       (i : ℕ) (sender : Sender) {timeout : ℕ} {ring : Ring} {units : List Station} {lent : List ℕ} → Framed f lent found timeout → Different units
       → Sends (nibble_in (bytes_for f.command (data_of f lent)) i) sender → i < 2 * length (bytes_for f.command (data_of f lent))
-      → All (λ (st : Station). Part (Promised T st.unit.own_val f.command (data_of f lent)) f.command (data_of f lent) i sender st × Sound st) units
+      → All (λ (st : Station). Part (Promised T st.unit.own f.command (data_of f lent)) f.command (data_of f lent) i sender st × Sound st) units
       → InFrame T f found (world timeout (Sending f i sender false) ring units lent found)
   hears :
       (ear : Listener) (taken : Response) (quiet : ℕ) {timeout : ℕ} {ring : Ring} {units : List Station} {lent response : List ℕ} → Framed f lent found timeout → Different units → length response ≡ length found

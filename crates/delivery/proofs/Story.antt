@@ -56,13 +56,13 @@ use Rattle.delivery.proofs.Stage.{sending, shows, nibble_below}
 
 -- What is known of a unit, and of the controller beside it.
 abbrev pub DidAt : Capture → List ℕ → Station → Type 0
-DidAt l d st = Did l.frame.command d st.unit.own_val st.unit.phase (deeds_in st.unit.own_val l.marks)
+DidAt l d st = Did l.frame.command d st.unit.own st.unit.phase (deeds_in st.unit.own l.marks)
 
 abbrev pub TellsBy : Command → List ℕ → Listener → List Act → ℕ → Phase → List Deed → Type 0
 TellsBy c d ear a own phase e = (r : Reply) (j : ℕ) (s : Stands c d own r j e) → Answering phase r j → HeardOf c d (answer_for c d own s.given) (j + count ear) a
 
 abbrev pub TellsAt : Capture → List ℕ → Listener → Station → Type 0
-TellsAt l d ear st = TellsBy l.frame.command d ear (acts_in l.marks) st.unit.own_val st.unit.phase (deeds_in st.unit.own_val l.marks)
+TellsAt l d ear st = TellsBy l.frame.command d ear (acts_in l.marks) st.unit.own st.unit.phase (deeds_in st.unit.own l.marks)
 
 abbrev pub Still : Station → Type 0
 Still st = is_responding st.unit.phase ≡ false
@@ -93,26 +93,26 @@ module _ (l : Capture) (v : World) (busy : Busy) (different : Different v.units)
     abbrev newly : List Deed
     newly = deeds_by st.unit.phase after.unit.phase (inside_of st) (levels v)
 
-    pub deeds-now : deeds_in st.unit.own_val later.marks ≡ deeds_in st.unit.own_val l.marks ++ newly
+    pub deeds-now : deeds_in st.unit.own later.marks ≡ deeds_in st.unit.own l.marks ++ newly
     deeds-now =
-        deeds_append st.unit.own_val l.marks (round_marks v busy)
-        ∙ ap (λ (x : List Deed). deeds_in st.unit.own_val l.marks ++ x)
-        (deeds_append st.unit.own_val (units_marks (levels v) busy.there v.units) controls
-        ∙ (λ i. (units_deeds different b ∙ (λ k. cond (low k) newly [])) i ++ stage_no_deeds st.unit.own_val v.controller.stage (round v busy).controller.stage (levels v)
+        deeds_append st.unit.own l.marks (round_marks v busy)
+        ∙ ap (λ (x : List Deed). deeds_in st.unit.own l.marks ++ x)
+        (deeds_append st.unit.own (units_marks (levels v) busy.there v.units) controls
+        ∙ (λ i. (units_deeds different b ∙ (λ k. cond (low k) newly [])) i ++ stage_no_deeds st.unit.own v.controller.stage (round v busy).controller.stage (levels v)
         (event_in v.controller (levels v) busy.here v.lent) v.lent v.response (round v busy).response i)
         ∙ append-nil newly)
 
-    module _ (o : after.unit.own_val ≡ st.unit.own_val) (d : List ℕ) where
-      pub did-now : Did l.frame.command d st.unit.own_val after.unit.phase (deeds_in st.unit.own_val l.marks ++ newly) → DidAt later d after
+    module _ (o : after.unit.own ≡ st.unit.own) (d : List ℕ) where
+      pub did-now : Did l.frame.command d st.unit.own after.unit.phase (deeds_in st.unit.own l.marks ++ newly) → DidAt later d after
       did-now q =
           subst (λ (own : ℕ). Did l.frame.command d own after.unit.phase (deeds_in own later.marks)) (sym o)
-          (subst (Did l.frame.command d st.unit.own_val after.unit.phase) (sym deeds-now) q)
+          (subst (Did l.frame.command d st.unit.own after.unit.phase) (sym deeds-now) q)
 
-      pub tells-now : (ear : Listener) {a : List Act} → acts_in later.marks ≡ a → TellsBy l.frame.command d ear a st.unit.own_val after.unit.phase (deeds_in st.unit.own_val l.marks ++ newly) → TellsAt later d ear after
+      pub tells-now : (ear : Listener) {a : List Act} → acts_in later.marks ≡ a → TellsBy l.frame.command d ear a st.unit.own after.unit.phase (deeds_in st.unit.own l.marks ++ newly) → TellsAt later d ear after
       tells-now ear {a} z q =
           subst (λ (own : ℕ). TellsBy l.frame.command d ear (acts_in later.marks) own after.unit.phase (deeds_in own later.marks)) (sym o)
-          (subst (TellsBy l.frame.command d ear (acts_in later.marks) st.unit.own_val after.unit.phase) (sym deeds-now)
-          (subst (λ (x : List Act). TellsBy l.frame.command d ear x st.unit.own_val after.unit.phase (deeds_in st.unit.own_val l.marks ++ newly)) (sym z) q))
+          (subst (TellsBy l.frame.command d ear (acts_in later.marks) st.unit.own after.unit.phase) (sym deeds-now)
+          (subst (λ (x : List Act). TellsBy l.frame.command d ear x st.unit.own after.unit.phase (deeds_in st.unit.own l.marks ++ newly)) (sym z) q))
 
 -- Phases and stages told apart.
 abbrev index_of : Phase → ℕ
@@ -184,13 +184,13 @@ module _ {T : Moment} (l : Capture) {found : List ℕ} where
   begins-did v busy x a high d did =
       all_becomes (levels v) busy.there (λ st host b p.
       did-now l v busy (in_frame_different x) (in_frame_low x) b (own_kept st (levels v) host) d
-      (fresh_did l.frame.command d (step_in x st host p.0.1) (deeds_in st.unit.own_val l.marks) high p.0.0 (fresh_nothing l.frame.command d st.unit.own_val p.0.0 p.1))) (all_zip a did)
+      (fresh_did l.frame.command d (step_in x st host p.0.1) (deeds_in st.unit.own l.marks) high p.0.0 (fresh_nothing l.frame.command d st.unit.own p.0.0 p.1))) (all_zip a did)
 
   -- A round in which the command is sent.
   module _
       (i : ℕ) (sender : Sender) (timeout : ℕ) (ring : Ring) (units : List Station) (lent : List ℕ) (framed : Framed l.frame lent found timeout) (different : Different units)
       (s : Sends (nibble_in (bytes_for l.frame.command (data_of l.frame lent)) i) sender) (less : i < 2 * length (bytes_for l.frame.command (data_of l.frame lent)))
-      (a : All (λ (st : Station). Part (Promised T st.unit.own_val l.frame.command (data_of l.frame lent)) l.frame.command (data_of l.frame lent) i sender st × Sound st) units)
+      (a : All (λ (st : Station). Part (Promised T st.unit.own l.frame.command (data_of l.frame lent)) l.frame.command (data_of l.frame lent) i sender st × Sound st) units)
       (busy : Busy)
     where
       abbrev c : Command
@@ -215,7 +215,7 @@ module _ {T : Moment} (l : Capture) {found : List ℕ} where
       sends-did did =
           all_becomes seen busy.there (λ st host b p.
           did-now l v busy different (in_frame_low x) b (own_kept st seen host) d
-          (part-did c d (step_in x st host p.0.0.1) (deeds_in st.unit.own_val l.marks) (Promised T st.unit.own_val c d) framed.sent i sender shown p.1 less p.0.0.0 p.0.1))
+          (part-did c d (step_in x st host p.0.0.1) (deeds_in st.unit.own l.marks) (Promised T st.unit.own c d) framed.sent i sender shown p.1 less p.0.0.0 p.0.1))
           (all_zip (all_zip a did) (hsk_own (sending sender) units))
 
       stage-now : (round v busy).controller.stage ≡ cond (sent_of sender seen.hsk) (next_nibble l.frame i) (Sending l.frame i (send_of sender seen.hsk (nibble_in (bytes_for c d) i)) false)
@@ -236,8 +236,8 @@ module _ {T : Moment} (l : Capture) {found : List ℕ} where
             all_becomes seen busy.there (λ st host b p.
             let nine = length_bytes c d in
             tells-now l v busy different (in_frame_low x) b (own_kept st seen host) d Ready whole
-            (by st host (deeds_in st.unit.own_val l.marks ++ deeds_by st.unit.phase (station_step st seen host).unit.phase (inside_of st) seen)
-            (part-over (Promised T st.unit.own_val c d) c d i sender st (station_step st seen host) seen host (step_in x st host p.0.1) shown p.1 e all (omega arith) p.0.0))) (all_zip a (hsk_own (sending sender) units))
+            (by st host (deeds_in st.unit.own l.marks ++ deeds_by st.unit.phase (station_step st seen host).unit.phase (inside_of st) seen)
+            (part-over (Promised T st.unit.own c d) c d i sender st (station_step st seen host) seen host (step_in x st host p.0.1) shown p.1 e all (omega arith) p.0.0))) (all_zip a (hsk_own (sending sender) units))
           where
             none_yet : (answer : List ℕ) (j : ℕ) → j ≡ 0 → HeardOf c d answer (j + 0) (map sent (nibbles_for c d))
             none_yet answer j z = sym (ap (λ (k : ℕ). map sent (nibbles_for c d) ++ map heard (take k answer)) (zero-too j z) ∙ append-nil (map sent (nibbles_for c d)))
@@ -245,8 +245,8 @@ module _ {T : Moment} (l : Capture) {found : List ℕ} where
                 zero-too : (j : ℕ) → j ≡ 0 → j + 0 ≡ 0
                 zero-too j z = omega arith
 
-            by : (st : Station) (host : Bool) (e : List Deed) → Turned (Promised T st.unit.own_val c d) c (station_step st seen host) → TellsBy c d Ready (map sent (nibbles_for c d)) st.unit.own_val (station_step st seen host).unit.phase e
-            by st host e (speaks r z m phase q k) r' j k' answers = none_yet (answer_for c d st.unit.own_val k'.given) j (answers_at phase answers)
+            by : (st : Station) (host : Bool) (e : List Deed) → Turned (Promised T st.unit.own c d) c (station_step st seen host) → TellsBy c d Ready (map sent (nibbles_for c d)) st.unit.own (station_step st seen host).unit.phase e
+            by st host e (speaks r z m phase q k) r' j k' answers = none_yet (answer_for c d st.unit.own k'.given) j (answers_at phase answers)
             by st host e (silent phase q k) r' j k' answers = absurd (not_answering (ap is_responding phase) answers)
 
         acted-by : (t u : Bool) → sent_of sender seen.hsk ≡ t → ltb i (last_nibble l.frame) ≡ u → Acted (later_of l v busy) d (round v busy).controller.stage (round v busy).units

@@ -134,9 +134,9 @@ pub data Talked (T : Moment) (f : Frame) (d : List ℕ) (found : List ℕ) (m : 
       (ear : Listener) (taken : Response) (quiet : ℕ) → m ≡ stays (Listening f ear taken quiet) → Talk T f.command d (is_submitted f.kind) found ear taken quiet buffer st → Falls free (talk_left ear st) most
       → Talked T f d found m buffer free most before st
   done :
-      (r : Reply) (j : ℕ) (sender : Sender) → before.unit.phase ≡ Responding r j sender false → (p : Promised T before.unit.own_val f.command d r (inside_of before)) → m ≡ over f (Complete (reply_status r) (length (answer_data p)))
+      (r : Reply) (j : ℕ) (sender : Sender) → before.unit.phase ≡ Responding r j sender false → (p : Promised T before.unit.own f.command d r (inside_of before)) → m ≡ over f (Complete (reply_status r) (length (answer_data p)))
       → buffer ≡ received (is_submitted f.kind) (answer_data p) found → st.unit.phase ≡ SittingOut false → inside_of st ≡ responded (inside_of before) r → st.unit.asking ≡ false
-      → st.unit.own_val ≡ before.unit.own_val → addressed f.command before.unit.own_val ≡ true
+      → st.unit.own ≡ before.unit.own → addressed f.command before.unit.own ≡ true
       → Talked T f d found m buffer free most before st
 
 module _ (T : Moment) (f : Frame) (d found : List ℕ) (timeout : ℕ) (eight : 8 ≤ timeout) (room : f.command.buffer_length ≤ length found) (st st' : Station) (seen : Lines) (host busy : Bool) (step : Stepped st seen busy st') where
@@ -160,7 +160,7 @@ module _ (T : Moment) (f : Frame) (d found : List ℕ) (timeout : ℕ) (eight : 
   not-asking : st.unit.asking ≡ false → st'.unit.asking ≡ false
   not-asking e = step.asking ∙ ap (λ (b : Bool). b && not seen.hsk) e
 
-  same-own : addressed f.command st.unit.own_val ≡ true → addressed f.command st'.unit.own_val ≡ true
+  same-own : addressed f.command st.unit.own ≡ true → addressed f.command st'.unit.own ≡ true
   same-own e = ap (addressed f.command) step.own ∙ e
 
   module _ (r : Reply) (j : ℕ) (sender : Sender) (wait : Bool) (e : st.unit.phase ≡ Responding r j sender wait) where
@@ -168,10 +168,10 @@ module _ (T : Moment) (f : Frame) (d found : List ℕ) (timeout : ℕ) (eight : 
     stepped = responding_step st.unit.serial r j sender wait seen.hsk st.input
 
     phase-is : st'.unit.phase ≡ stepped.phase
-    phase-is = step.phase ∙ ap (λ (x : Phase). (phase_step x st.unit.own_val st.unit.serial seen busy st.buffer st.input).phase) e
+    phase-is = step.phase ∙ ap (λ (x : Phase). (phase_step x st.unit.own st.unit.serial seen busy st.buffer st.input).phase) e
 
     inside_is : inside_of st' ≡ with_state (inside_of st) stepped.serial
-    inside_is = step.inside ∙ ap (λ (x : Phase). inside_after x st.unit.own_val (inside_of st) seen busy st.buffer) e
+    inside_is = step.inside ∙ ap (λ (x : Phase). inside_after x st.unit.own (inside_of st) seen busy st.buffer) e
 
   abbrev isLetGo : Listener → Bool
   isLetGo ear = not (listener_hsk ear && host)
@@ -183,9 +183,9 @@ module _ (T : Moment) (f : Frame) (d found : List ℕ) (timeout : ℕ) (eight : 
   buffer-after ear taken buffer = listening_buffer f ear taken seen buffer
 
   -- The round before the first nibble.
-  begins : (r : Reply) (j t : ℕ) (ear : Listener) (taken : Response) (quiet : ℕ) (buffer : List ℕ) (e : st.unit.phase ≡ Responding r j Next true) (p : Promised T st.unit.own_val f.command d r (inside_of st))
+  begins : (r : Reply) (j t : ℕ) (ear : Listener) (taken : Response) (quiet : ℕ) (buffer : List ℕ) (e : st.unit.phase ≡ Responding r j Next true) (p : Promised T st.unit.own f.command d r (inside_of st))
       → Fits (nibble_in (answer_bytes p) j) Next ear t → taken ≡ taken_at (answer_bytes p) limit (j + t) → buffer ≡ stored_at (answer_bytes p) limit stores (j + t) found → j < length_of (answer_data p)
-      → quiet ≡ 0 → st.unit.asking ≡ false → addressed f.command st.unit.own_val ≡ true → seen.hsk ≡ (listener_hsk ear || sender_hsk Next)
+      → quiet ≡ 0 → st.unit.asking ≡ false → addressed f.command st.unit.own ≡ true → seen.hsk ≡ (listener_hsk ear || sender_hsk Next)
       → Talked T f d found (after ear taken quiet) (buffer-after ear taken buffer) (isLetGo ear) (talk_left ear st) st st'
   begins r j t ear taken quiet buffer e p f_next g b l z q own h =
       let same : inside_of st' ≡ inside_of st = inside_is r j Next true e in
@@ -205,9 +205,9 @@ module _ (T : Moment) (f : Frame) (d found : List ℕ) (timeout : ℕ) (eight : 
   -- A nibble that does not count as sent yet, not taken in this round.
   module _
       (r : Reply) (j t : ℕ) (sender : Sender) (ear : Listener) (taken : Response) (quiet : ℕ) (buffer : List ℕ) (e : st.unit.phase ≡ Responding r j sender false)
-      (p : Promised T st.unit.own_val f.command d r (inside_of st)) (fits : Fits (nibble_in (answer_bytes p) j) sender ear t) (g : taken ≡ taken_at (answer_bytes p) limit (j + t))
+      (p : Promised T st.unit.own f.command d r (inside_of st)) (fits : Fits (nibble_in (answer_bytes p) j) sender ear t) (g : taken ≡ taken_at (answer_bytes p) limit (j + t))
       (b : buffer ≡ stored_at (answer_bytes p) limit stores (j + t) found) (l : j < length_of (answer_data p)) (c : Quiet sender quiet) (q : st.unit.asking ≡ false)
-      (own : addressed f.command st.unit.own_val ≡ true) (view : Sees sender ear seen.hsk seen.nibble) (h : seen.hsk ≡ (listener_hsk ear || sender_hsk sender))
+      (own : addressed f.command st.unit.own ≡ true) (view : Sees sender ear seen.hsk seen.nibble) (h : seen.hsk ≡ (listener_hsk ear || sender_hsk sender))
     where
       abbrev n : ℕ
       n = nibble_in (answer_bytes p) j

@@ -89,7 +89,7 @@ all_new m (one_more {own = own} {retry = retry} coded apart made) h b =
     let l : length (drop 2432 m) ≡ length m - 2432 = length-drop 2432 m in
     also (new_at own retry m coded (omega arith) b) (all_new (drop 2432 m) made (omega arith) (below_drop 2432 m b))
 
-all_apart : (code : ℕ) {us : List Unit} (m : List ℕ) → All (λ (u : Unit). u.own ≡ code → ⊥) us → All (λ (st : Station). st.unit.own_val ≡ code → ⊥) (stations_of us m)
+all_apart : (code : ℕ) {us : List Unit} (m : List ℕ) → All (λ (u : Unit). u.own ≡ code → ⊥) us → All (λ (st : Station). st.unit.own ≡ code → ⊥) (stations_of us m)
 all_apart code m none = none
 all_apart code m (also p a) = also p (all_apart code (drop 2432 m) a)
 
@@ -140,7 +140,7 @@ parts-called takes st p = record { buffer = p.buffer; input = p.input; output = 
 parts-called raises st p = record { buffer = p.buffer; input = p.input; output = p.output }
 
 parts_lent : (buffer : List ℕ) → length buffer ≡ 256 → (st : Station) → Parts st → Parts (with_buffer buffer st)
-parts_lent buffer l st p = record { buffer = by (is_short (kind_of st.unit.own_val) (length buffer) (length st.output)); input = p.input; output = p.output }
+parts_lent buffer l st p = record { buffer = by (is_short (kind_of st.unit.own) (length buffer) (length st.output)); input = p.input; output = p.output }
   where
     by : (t : Bool) → length (cond t st.buffer buffer) ≡ 256
     by true = p.buffer

@@ -36,13 +36,13 @@ spoken_code : {T : Moment} {c : Command} {d : List ℕ} {r : Reply} {x : Inside}
 spoken_code {c = c} {d = d} {r = r} own p z a = code_by (eqb c.device own) c own r refl a (λ e. ap is_silent p.said ∙ (every_lawful (kind_of own)).zero_silent p.given c (length d) (stored_of d) e) z
 
 -- Nobody beside the unit with the command's code responds.
-others_sit : (T : Moment) {c : Command} {d : List ℕ} (own : ℕ) → c.device ≡ own → {ss : List Station} → All (λ (x : Station). x.unit.own_val ≡ own → ⊥) ss
-    → All (λ (st : Station). Turned (Promised T st.unit.own_val c d) c st × Sound st) ss → All (λ (st : Station). Sits st × Sound st) ss
+others_sit : (T : Moment) {c : Command} {d : List ℕ} (own : ℕ) → c.device ≡ own → {ss : List Station} → All (λ (x : Station). x.unit.own ≡ own → ⊥) ss
+    → All (λ (st : Station). Turned (Promised T st.unit.own c d) c st × Sound st) ss → All (λ (st : Station). Sits st × Sound st) ss
 others_sit T own e none none = none
-others_sit T own e (also {x = st} h hs) (also (speaks r z a phase p q, s) ts) = absurd (h (sym (spoken_code st.unit.own_val p z a) ∙ e))
+others_sit T own e (also {x = st} h hs) (also (speaks r z a phase p q, s) ts) = absurd (h (sym (spoken_code st.unit.own p z a) ∙ e))
 others_sit T own e (also h hs) (also (silent phase q why, s) ts) = also ((phase, q), s) (others_sit T own e hs ts)
 
-hushed : (T : Moment) {c : Command} {d : List ℕ} (st : Station) → Hush (Promised T st.unit.own_val c d) c st → Hushed T c d st
+hushed : (T : Moment) {c : Command} {d : List ℕ} (st : Station) → Hush (Promised T st.unit.own c d) c st → Hushed T c d st
 hushed T st (not_mine a) = not_its_own a
 hushed T st (ruled r z p) = by_the_rule p.given p.took (sym (ap is_silent p.said) ∙ z)
 
@@ -56,8 +56,8 @@ joined s h (somebody o) = somebody (that s o)
 joined s h (nobody_does a b) = nobody_does (also s a) (also h b)
 
 pub answering : (T : Moment) (c : Command) (d : List ℕ) (stores : Bool) (found : List ℕ) {ss : List Station} → Different ss
-    → All (λ (st : Station). Turned (Promised T st.unit.own_val c d) c st × Sound st) ss → Answering T c d stores found ss
+    → All (λ (st : Station). Turned (Promised T st.unit.own c d) c st × Sound st) ss → Answering T c d stores found ss
 answering T c d stores found nobody none = nobody_does none none
 answering T c d stores found (another h hs) (also {x = st} (speaks r z a phase p q, s) ts) =
-    somebody (this {x = st} (talks r 0 0 Next true phase p f_next refl refl (omega arith) (λ _. (refl, refl)) (omega arith) q a, s) (others_sit T st.unit.own_val (spoken_code st.unit.own_val p z a) h ts))
+    somebody (this {x = st} (talks r 0 0 Next true phase p f_next refl refl (omega arith) (λ _. (refl, refl)) (omega arith) q a, s) (others_sit T st.unit.own (spoken_code st.unit.own p z a) h ts))
 answering T c d stores found (another h hs) (also {x = st} (silent phase q why, s) ts) = joined ((phase, q), s) (hushed T st why) (answering T c d stores found hs ts)

@@ -72,7 +72,7 @@ module _
     pub waits-did : All (DidAt later d) (round v busy).units
     waits-did =
         all_becomes seen busy.there (λ st host b p.
-        did-now l v busy different (in_frame_low x) b (own_kept st seen host) d (sits-did c d (step_in l x st host p.0.1) (deeds_in st.unit.own_val l.marks) p.0.0.0 p.1)) (all_zip a did)
+        did-now l v busy different (in_frame_low x) b (own_kept st seen host) d (sits-did c d (step_in l x st host p.0.1) (deeds_in st.unit.own l.marks) p.0.0.0 p.1)) (all_zip a did)
 
     pub waits-acted : in_frame (round v busy).controller.stage ≡ true → Acted later d (round v busy).controller.stage (round v busy).units
     waits-acted going =
@@ -97,13 +97,13 @@ module _
         record {
           answerer = nobody;
           acted = waits-acts ∙ (λ i. so_far i ++ acts_in (ended_by (stage i) (end i)));
-          answers = all_codes (all_map (λ st p. hush-hushes ended st.unit.own_val p.1) hushed);
-          parts = all_codes (all_map (λ st p. hush-part ended st.unit.own_val (inside_of st) p.1) hushed);
+          answers = all_codes (all_map (λ st p. hush-hushes ended st.unit.own p.1) hushed);
+          parts = all_codes (all_map (λ st p. hush-part ended st.unit.own (inside_of st) p.1) hushed);
         }
       where
         buffer-by : (t : Bool) → is_submitted l.frame.kind ≡ t → cond t found [] ≡ cond t l.found []
         buffer-by true s = kept s
         buffer-by false s = refl
 
-        hushed : All (λ (st : Station). (Sits st × Sound st) × Hush c d st.unit.own_val (deeds_in st.unit.own_val later.marks)) (round v busy).units
-        hushed = all_map (λ st p. (p.0, subst (λ (y : Phase). Did c d st.unit.own_val y (deeds_in st.unit.own_val later.marks)) p.0.0.0 p.1)) (all_zip (units-sit Ready busy.there units a) waits-did)
+        hushed : All (λ (st : Station). (Sits st × Sound st) × Hush c d st.unit.own (deeds_in st.unit.own later.marks)) (round v busy).units
+        hushed = all_map (λ st p. (p.0, subst (λ (y : Phase). Did c d st.unit.own y (deeds_in st.unit.own later.marks)) p.0.0.0 p.1)) (all_zip (units-sit Ready busy.there units a) waits-did)

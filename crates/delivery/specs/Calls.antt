@@ -50,7 +50,7 @@ in_frame (Listening f ear taken quiet) = true
 abbrev pub with_buffer : List ℕ → Station → Station
 with_buffer buffer st = record {
   unit = st.unit;
-  buffer = cond (is_short (kind_of st.unit.own_val) (length buffer) (length st.output)) st.buffer buffer;
+  buffer = cond (is_short (kind_of st.unit.own) (length buffer) (length st.output)) st.buffer buffer;
   input = st.input;
   output = st.output;
 }

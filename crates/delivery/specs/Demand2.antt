@@ -124,7 +124,7 @@ InTurn (command k d response) ms = ms ≡ begins (record { kind = Submitted; com
 -- A unit pulls a data line only in its response: no other has placed a nibble.
 pub data Places (frames : List Capture) (st : Station) : Type 0 where
   no_nibble : (pulls_of st.unit).nibble ≡ 15 → Places frames st
-  its_own : (l : Capture) (before : List Capture) (x : Inside) → frames ≡ l ∷ before → Speaks l st.unit.own_val x st.unit.own_val → Places frames st
+  its_own : (l : Capture) (before : List Capture) (x : Inside) → frames ≡ l ∷ before → Speaks l st.unit.own x st.unit.own → Places frames st
 
 -- The application is told something only as a frame ends, and that is in the log.
 pub data TellsEnds (answer : Answer Event) (ms : List Mark) : Type 0 where
@@ -136,7 +136,7 @@ pub data TellsEnds (answer : Answer Event) (ms : List Mark) : Type 0 where
 pub record Demand2 {w v : World} (r : Run w v) : Type 0 where
   pub frames : Delivered (codes_of v.units) (in_frame v.controller.stage) (frames_of (log r))
   pub in_turn : (busy : Busy) → InTurn (due_all service (log r)) (round_marks v busy)
-  pub insides : Pairs (λ (st after : Station). inside_of after ≡ (following_all st.unit.own_val (whole_of st) (log r)).inside) w.units v.units
+  pub insides : Pairs (λ (st after : Station). inside_of after ≡ (following_all st.unit.own (whole_of st) (log r)).inside) w.units v.units
   pub placed : All (Places (frames_of (log r))) v.units
   pub tells : (busy : Busy) → TellsEnds (outcome v busy) (round_marks v busy)
   pub between : in_frame v.controller.stage ≡ false → (busy : Busy) → units_marks (levels v) busy.there v.units ≡ []

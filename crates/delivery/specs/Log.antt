@@ -99,7 +99,7 @@ station_deeds st seen busy = cond seen.bav (deeds_by st.unit.phase (station_step
 
 abbrev pub units_marks : Lines → ℕ → List Station → List Mark
 units_marks seen hosts [] = []
-units_marks seen hosts (st ∷ ss) = map (does st.unit.own_val) (station_deeds st seen (is_odd hosts)) ++ units_marks seen (hosts / 2) ss
+units_marks seen hosts (st ∷ ss) = map (does st.unit.own) (station_deeds st seen (is_odd hosts)) ++ units_marks seen (hosts / 2) ss
 
 -- What the application is told in a round.
 abbrev pub told_in : World → Busy → Event
@@ -113,7 +113,7 @@ round_marks v busy =
 
 abbrev pub host_marks : ℕ → HostCall → List Station → List Mark
 host_marks i call [] = []
-host_marks zero call (st ∷ ss) = asks st.unit.own_val call ∷ []
+host_marks zero call (st ∷ ss) = asks st.unit.own call ∷ []
 host_marks (suc i) call (st ∷ ss) = host_marks i call ss
 
 abbrev pub submission_marks : Answer Done → Mark → List Mark

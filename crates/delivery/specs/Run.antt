@@ -33,7 +33,7 @@ pub record QuietStart (w : World) : Type 0 where
   pub codes : Different w.units
 
 abbrev pub codes_of : List Station → List ℕ
-codes_of ss = map (λ (st : Station). st.unit.own_val) ss
+codes_of ss = map (λ (st : Station). st.unit.own) ss
 
 -- A run: rounds, with any hosts busy, and calls of any hosts between any two of them, in mid-frame too.
 pub data Run (w : World) : World → Type 0 where

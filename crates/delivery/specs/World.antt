@@ -58,4 +58,4 @@ TheBus =
 -- Different codes.
 pub data Different : List Station → Type 0 where
   nobody : Different []
-  another : {st : Station} {ss : List Station} → All (λ (x : Station). x.unit.own_val ≡ st.unit.own_val → ⊥) ss → Different ss → Different (st ∷ ss)
+  another : {st : Station} {ss : List Station} → All (λ (x : Station). x.unit.own ≡ st.unit.own → ⊥) ss → Different ss → Different (st ∷ ss)

@@ -20,18 +20,18 @@ use Rattle.inside.specs.Calls.{HostCall, feeds, takes, raises, called_by, called
 use Rattle.inside.specs.Inside.{Inside, inside_of, has_request}
 
 pub record Called (call : HostCall) (st after : Station) : Type 0 where
-  pub own : after.unit.own_val ≡ st.unit.own_val
+  pub own : after.unit.own ≡ st.unit.own
   pub retry : after.unit.retry ≡ st.unit.retry
   pub quiet : after.unit.quiet ≡ st.unit.quiet
   pub asking : after.unit.asking ≡ st.unit.asking
   pub phase : after.unit.phase ≡ st.unit.phase
   pub buffer : after.buffer ≡ st.buffer
-  pub inside : inside_of after ≡ called (kind_of st.unit.own_val) call (inside_of st)
+  pub inside : inside_of after ≡ called (kind_of st.unit.own) call (inside_of st)
 
 pub unit_called : (call : HostCall) (st : Station) → Called call st (called_by call st)
-unit_called (feeds b h) st = by (feeding_in (kind_of st.unit.own_val) st.unit.serial b) refl
+unit_called (feeds b h) st = by (feeding_in (kind_of st.unit.own) st.unit.serial b) refl
   where
-    by : (a : Answer Serial) → feeding_in (kind_of st.unit.own_val) st.unit.serial b ≡ a → Called (feeds b h) st (called_by (feeds b h) st)
+    by : (a : Answer Serial) → feeding_in (kind_of st.unit.own) st.unit.serial b ≡ a → Called (feeds b h) st (called_by (feeds b h) st)
     by (gives s) e = record { own = rw e; retry = rw e; quiet = rw e; asking = rw e; phase = rw e; buffer = refl; inside = rw e }
     by (refused k) e = record { own = rw e; retry = rw e; quiet = rw e; asking = rw e; phase = rw e; buffer = refl; inside = rw e }
 unit_called takes st = by (popped st.output st.unit.serial.output) refl

@@ -45,7 +45,7 @@ has_after seen hosts here = (is_odd hosts, here)
 has_after seen hosts (there h) = let n = has_after seen (hosts / 2) h in (n.0, there n.1)
 
 -- A round with BAV high.
-high_unit : (st : Station) (seen : Lines) (host : Bool) → seen.nibble < 16 → is_short (kind_of st.unit.own_val) (length st.buffer) (length st.output) ≡ false → seen.bav ≡ false → (station_step st seen host).unit ≡ high_step st.unit seen.hsk
+high_unit : (st : Station) (seen : Lines) (host : Bool) → seen.nibble < 16 → is_short (kind_of st.unit.own) (length st.buffer) (length st.output) ≡ false → seen.bav ≡ false → (station_step st seen host).unit ≡ high_step st.unit seen.hsk
 high_unit st seen host n room high =
     let a : ltb 15 seen.nibble ≡ false = le-ltb 15 seen.nibble (omega arith) in
     rw (a, room, high)
@@ -78,7 +78,7 @@ deeper b = record { unit = b.unit; has = there b.has; waits = b.waits }
 behind-at : (i : ℕ) (call : HostCall) {ss : List Station} {st : Station} → Has st ss → Behind st (called_at i call ss)
 behind-at zero call {st = st} here =
     let k = unit_called call st in
-    record { unit = called_by call st; has = here; waits = record { retry = k.retry; quiet = k.quiet; asking = k.asking; request = λ e. ap has_request k.inside ∙ request_called (kind_of st.unit.own_val) (inside_of st) call e } }
+    record { unit = called_by call st; has = here; waits = record { retry = k.retry; quiet = k.quiet; asking = k.asking; request = λ e. ap has_request k.inside ∙ request_called (kind_of st.unit.own) (inside_of st) call e } }
 behind-at (suc i) call here = as_it_is here
 behind-at zero call (there h) = as_it_is (there h)
 behind-at (suc i) call (there h) = deeper (behind-at i call h)
@@ -190,7 +190,7 @@ begin_by (suc n) w v st q r has request idle some h =
             request' = later.0.waits.request (ap (λ (u : Unit). u.serial.requesting) unit-is ∙ request)
 
             served : is_served (inside_of st) ≡ true
-            served = (every_lawful (kind_of st.unit.own_val)).served (inside_of st) (has_all (on_sound (every_run w v q r)) has).fit request
+            served = (every_lawful (kind_of st.unit.own)).served (inside_of st) (has_all (on_sound (every_run w v q r)) has).fit request
 
             step : (t : Bool) → leb st.unit.retry (quiet_after st.unit) ≡ t → BeginsWithin n (called_all (round v busy) calls)
             step true z =

@@ -83,7 +83,7 @@ same_by : (st : Station) (seen : Lines) (busy : Bool) {x : Phase} → seen.nibbl
 same_by st seen busy n s e f = by seen.bav refl
   where
     by : (t : Bool) → seen.bav ≡ t → inside_of (station_step st seen busy) ≡ inside_of st
-    by true low = (low_step_lem st seen busy n s.room low).inside ∙ ap (λ (y : Phase). inside_after y st.unit.own_val (inside_of st) seen busy st.buffer) e ∙ f st.unit.own_val (inside_of st) st.buffer
+    by true low = (low_step_lem st seen busy n s.room low).inside ∙ ap (λ (y : Phase). inside_after y st.unit.own (inside_of st) seen busy st.buffer) e ∙ f st.unit.own (inside_of st) st.buffer
     by false high = (high_step_lem st seen busy n s.room high).1.1
 
 fresh_same : (st : Station) (seen : Lines) (busy : Bool) → seen.nibble < 16 → Sound st → Fresh st → inside_of (station_step st seen busy) ≡ inside_of st
@@ -115,12 +115,12 @@ harmless_effect own f x d h a = by (eqb f.command.device 0) refl
         (every_lawful (kind_of own)).request_taken x f.command (length d) (stored_of d) (both_false (eqb f.command.command 0x01) (eqb f.command.command 0x09) (eqb f.command.command 0xFF) other h.1)
 
 -- A unit's request in a round of a frame, where it is not the round in which its answer 00 has gone out.
-request_kept : (own : ℕ) (f : Frame) (d : List ℕ) (st new : Station) → Harmless own (f ∷ []) → st.unit.own_val ≡ own → has_request (inside_of st) ≡ true
+request_kept : (own : ℕ) (f : Frame) (d : List ℕ) (st new : Station) → Harmless own (f ∷ []) → st.unit.own ≡ own → has_request (inside_of st) ≡ true
     → ((r : Reply) (j : ℕ) (sender : Sender) → st.unit.phase ≡ Responding r j sender false → new.unit.phase ≡ SittingOut false → clears r ≡ true → ⊥)
     → Changed f.command d st new → has_request (inside_of new) ≡ true
 request_kept own f d st new h o q go (unchanged same same-phase) = ap has_request same ∙ q
 request_kept own f d st new h o q go (fixed_now a old fixed) =
-    ap has_request fixed.inside ∙ harmless_effect st.unit.own_val f (inside_of st) d (subst (λ (k : ℕ). Harmless k (f ∷ [])) (sym o) h) a ∙ q
+    ap has_request fixed.inside ∙ harmless_effect st.unit.own f (inside_of st) d (subst (λ (k : ℕ). Harmless k (f ∷ [])) (sym o) h) a ∙ q
 request_kept own f d st new h o q go (done_now a r j sender p phase inside) = by (clears r) refl
   where
     by : (t : Bool) → clears r ≡ t → has_request (inside_of new) ≡ true
@@ -129,7 +129,7 @@ request_kept own f d st new h o q go (done_now a r j sender p phase inside) = by
 
 -- Who responds while a frame runs is the one unit that its command addresses, and its reply the one that is promised.
 data Talking (T : Moment) (c : Command) (d : List ℕ) (st : Station) : Type 0 where
-  talking : (r : Reply) (j : ℕ) (sender : Sender) (wait : Bool) (given : Inside) → st.unit.phase ≡ Responding r j sender wait → r ≡ reply_for st.unit.own_val given c d → addressed c st.unit.own_val ≡ true → Talking T c d st
+  talking : (r : Reply) (j : ℕ) (sender : Sender) (wait : Bool) (given : Inside) → st.unit.phase ≡ Responding r j sender wait → r ≡ reply_for st.unit.own given c d → addressed c st.unit.own ≡ true → Talking T c d st
 
 talk_of : {T : Moment} {c : Command} {d : List ℕ} {stores : Bool} {found : List ℕ} {ear : Listener} {taken : Response} {quiet : ℕ} {buffer : List ℕ} {st : Station} → Talk T c d stores found ear taken quiet buffer st → Talking T c d st
 talk_of (talks r j t sender wait e p fits g b l w z q own) = talking r j sender wait p.given e p.said own
@@ -152,7 +152,7 @@ becomes_has : {seen : Lines} {hosts : ℕ} {ss : List Station} {st new : Station
 becomes_has first_one = here
 becomes_has (behind b) = there (becomes_has b)
 
-same_has : {ss : List Station} {x y : Station} → Different ss → Has x ss → Has y ss → x.unit.own_val ≡ y.unit.own_val → x ≡ y
+same_has : {ss : List Station} {x y : Station} → Different ss → Has x ss → Has y ss → x.unit.own ≡ y.unit.own → x ≡ y
 same_has d here here e = refl
 same_has (another a d) here (there h) e = absurd (has_all a h (sym e))
 same_has (another a d) (there h) here e = absurd (has_all a h e)
@@ -172,7 +172,7 @@ record Arrived (f : Frame) (x : World) (busy : Busy) : Type 0 where
   has : Has before x.units
   response : Response
   phase : reply_in Silent before.unit.phase ≡ reply
-  addresses : addressed f.command before.unit.own_val ≡ true
+  addresses : addressed f.command before.unit.own ≡ true
   moved : moved_in x busy ≡ over f response
   status : status_of response ≡ reply_status reply
 
@@ -237,11 +237,11 @@ module _ (w x : World) (own : ℕ) (q : QuietStart w) (r : Run w x) (busy : Busy
     both-hosts = all_map (λ st p. either (λ (host : Bool). Changed f.command (data_of f x.lent) st (station_step st (levels x) host)) p.0 p.1) (all_zip (changes (Took r) f found x i true) (changes (Took r) f found x i false))
 
     -- Unless its answer 00 has gone out in this round.
-    kept_by : ((st new : Station) → Becomes (levels x) busy.there x.units st new → (p : Reply) (j : ℕ) (sender : Sender) → st.unit.own_val ≡ own → st.unit.phase ≡ Responding p j sender false → new.unit.phase ≡ SittingOut false → clears p ≡ true → ⊥)
+    kept_by : ((st new : Station) → Becomes (levels x) busy.there x.units st new → (p : Reply) (j : ℕ) (sender : Sender) → st.unit.own ≡ own → st.unit.phase ≡ Responding p j sender false → new.unit.phase ≡ SittingOut false → clears p ≡ true → ⊥)
         → HoldsOn
     kept_by never =
         still (all_becomes (levels x) busy.there (λ st host b p e.
-        let mine : st.unit.own_val ≡ own = sym (own_kept st (levels x) host) ∙ e in
+        let mine : st.unit.own ≡ own = sym (own_kept st (levels x) host) ∙ e in
         request_kept own f (data_of f x.lent) st (station_step st (levels x) host) safe mine (p.0 mine)
         (λ reply j sender phase new polled. never st (station_step st (levels x) host) b reply j sender mine phase new polled) (p.1 host)) (all_zip requests both-hosts))
 
@@ -252,7 +252,7 @@ module _ (w x : World) (own : ℕ) (q : QuietStart w) (r : Run w x) (busy : Busy
         subst Shapes (frame_held i) all
 
     -- The round in which its answer 00 has gone out hands its code over.
-    answered-now : Arrived f x busy → (st new : Station) → Becomes (levels x) busy.there x.units st new → (p : Reply) (j : ℕ) (sender : Sender) → st.unit.own_val ≡ own
+    answered-now : Arrived f x busy → (st new : Station) → Becomes (levels x) busy.there x.units st new → (p : Reply) (j : ℕ) (sender : Sender) → st.unit.own ≡ own
         → st.unit.phase ≡ Responding p j sender false → clears p ≡ true → told_in x busy ≡ Handed own
     answered-now came st new b p j sender mine phase polled = by (frame_talks i b (ap is_responding phase))
       where
@@ -260,14 +260,14 @@ module _ (w x : World) (own : ℕ) (q : QuietStart w) (r : Run w x) (busy : Busy
         by (talking reply k sender' wait given e said a) =
             let d = data_of f x.lent in
             let same : reply ≡ p = ap (reply_in Silent) (sym e ∙ phase) in
-            let given-reply = reply_for st.unit.own_val given f.command d in
+            let given-reply = reply_for st.unit.own given f.command d in
             let is-poll : clears given-reply ≡ true = ap clears (sym said ∙ same) ∙ polled in
-            let law = every_lawful (kind_of st.unit.own_val) in
+            let law = every_lawful (kind_of st.unit.own) in
             let command : eqb f.command.command 0x0A ≡ true = law.clears_poll given f.command (length d) (stored_of d) is-poll in
             let device : f.command.device ≡ 0 → ⊥ = λ z. true≢false (sym (law.zero_silent given f.command (length d) (stored_of d) z) ∙ clears_speaks given-reply is-poll) in
-            let at_own : own ≡ f.command.device = sym mine ∙ addressed_own f.command st.unit.own_val device a in
+            let at_own : own ≡ f.command.device = sym mine ∙ addressed_own f.command st.unit.own device a in
             let frame : f ≡ poll_of own = poll_frame f own shape command (sym at_own) in
-            let one : came.before ≡ st = same_has (on_different (every_run w x q r)) came.has (becomes_has b) (addressed_own f.command came.before.unit.own_val device came.addresses ∙ sym at_own ∙ sym mine) in
+            let one : came.before ≡ st = same_has (on_different (every_run w x q r)) came.has (becomes_has b) (addressed_own f.command came.before.unit.own device came.addresses ∙ sym at_own ∙ sym mine) in
             let zero-status : status_of came.response ≡ 0x00 = came.status ∙ ap reply_status (sym came.phase ∙ ap (λ (y : Station). reply_in Silent y.unit.phase) one ∙ ap (reply_in Silent) phase) ∙ clears-says p polled in
             frame_told w x q r busy i came.response came.moved ∙ (λ m. frameEvent (frame m) (zero-status m) (count_of came.response))
 
@@ -300,7 +300,7 @@ module _ (w x : World) (own : ℕ) (q : QuietStart w) (r : Run w x) (busy : Busy
 -- A host call leaves a request.
 requests_called : (own i : ℕ) (call : HostCall) {ss : List Station} → All (Requests own) ss → All (Requests own) (called_at i call ss)
 requests_called own i call none = none
-requests_called own zero call (also {x = st} p a) = also (λ e. let k = unit_called call st in ap has_request k.inside ∙ request_called (kind_of st.unit.own_val) (inside_of st) call (p (sym k.own ∙ e))) a
+requests_called own zero call (also {x = st} p a) = also (λ e. let k = unit_called call st in ap has_request k.inside ∙ request_called (kind_of st.unit.own) (inside_of st) call (p (sym k.own ∙ e))) a
 requests_called own (suc i) call (also p a) = also p (requests_called own i call a)
 
 -- Service frames of a run that goes on.

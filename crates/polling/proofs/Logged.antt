@@ -101,14 +101,14 @@ module _ (codes : List ℕ) where
   does-say own (also p a) = also p (does-say own a)
 
   abbrev SettlesNow : Station → Type 0
-  SettlesNow st = Settles codes st.unit.own_val (inside_of st)
+  SettlesNow st = Settles codes st.unit.own (inside_of st)
 
   units-say : (seen : Lines) (hosts : ℕ) {ss : List Station} → All SettlesNow ss → All (Says codes) (units_marks seen hosts ss)
   units-say seen hosts none = none
   units-say seen hosts (also {x = st} s a) =
       all_append
-      (does-say st.unit.own_val
-      (either seen.bav (deeds-say st.unit.own_val (inside_of st) s st.unit.phase (station_step st seen (is_odd hosts)).unit.phase seen) none))
+      (does-say st.unit.own
+      (either seen.bav (deeds-say st.unit.own (inside_of st) s st.unit.phase (station_step st seen (is_odd hosts)).unit.phase seen) none))
       (units-say seen (hosts / 2) a)
 
   -- The controller in a round.
@@ -195,7 +195,7 @@ codes-run start = refl
 codes-run (a_round {v = v} r busy) = codes-after (levels v) busy.there v.units ∙ codes-run r
 codes-run (a_call {v = v} r call) = codes_alike (alike_called v call) ∙ codes-run r
 
-each_code : (ss : List Station) → All (λ (st : Station). Has st.unit.own_val (codes_of ss)) ss
+each_code : (ss : List Station) → All (λ (st : Station). Has st.unit.own (codes_of ss)) ss
 each_code [] = none
 each_code (st ∷ ss) = also here (all_map (λ x h. there h) (each_code ss))
 
@@ -205,7 +205,7 @@ log-says w v q start = none
 log-says w _ q (a_round {v = v} r busy) =
     let now = a_round r busy in
     let shapes : Shapes (held (round v busy).controller.stage) = subst (λ (c : Controller). Shapes (held c.stage)) (sym (made w (round v busy) q now)) (shape_since q.timeout (moves_of now [])) in
-    let each : All (λ (st : Station). Has st.unit.own_val (codes_of w.units)) v.units = subst (λ (codes : List ℕ). All (λ (st : Station). Has st.unit.own_val codes) v.units) (codes-run r) (each_code v.units) in
+    let each : All (λ (st : Station). Has st.unit.own (codes_of w.units)) v.units = subst (λ (codes : List ℕ). All (λ (st : Station). Has st.unit.own codes) v.units) (codes-run r) (each_code v.units) in
     let units : All (SettlesNow (codes_of w.units)) v.units =
     all_map (λ st p. record { on_bus = p.0; coded = p.1.0; fit = p.1.1.fit }) (all_zip each (all_zip (every_coded w v q r) (on_sound (every_run w v q r)))) in
     all_append (log-says w v q r)

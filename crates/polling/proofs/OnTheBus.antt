@@ -76,7 +76,7 @@ made w v q r = run-moves r [] ∙ ap (λ (c : Controller). after_all c (moves_of
 pub took_fit : (w v : World) → QuietStart w → (r : Run w v) (own : ℕ) (x : Inside) → Took r own x → Fit (kind_of own) x
 took_fit w v q start own x t = absurd t
 took_fit w _ q (a_round {v = v} r busy) own x (takes_it st after b e now o i) =
-    subst (λ (k : ℕ). Fit (kind_of k) x) o (subst (Fit (kind_of st.unit.own_val)) i (becomes_all (on_sound (every_run w v q r)) b).fit)
+    subst (λ (k : ℕ). Fit (kind_of k) x) o (subst (Fit (kind_of st.unit.own)) i (becomes_all (on_sound (every_run w v q r)) b).fit)
 took_fit w _ q (a_round {v = v} r busy) own x (took_it i t) = took_fit w v q r own x t
 took_fit w _ q (a_call {v = v} r call) own x t = took_fit w v q r own x t
 
@@ -100,7 +100,7 @@ has_lent own false (suc i) buffer (later h) = later (has_lent own false i buffer
 
 -- No unit has code 0.
 abbrev pub Coded : Station → Type 0
-Coded st = st.unit.own_val ≡ 0 → ⊥
+Coded st = st.unit.own ≡ 0 → ⊥
 
 coded_at : (i : ℕ) (call : HostCall) {ss : List Station} → All Coded ss → All Coded (called_at i call ss)
 coded_at i call none = none
@@ -156,7 +156,7 @@ pub spoken : (w v : World) → QuietStart w → (r : Run w v) (busy : Busy) (own
     → Said r busy own
 spoken w v q r busy own found x (that p o) = spoken w v q r busy own found x o
 spoken w v q r busy own found x (this (spoke reply j sender before has k e a p m b inside s, y) all) = record {
-  speaker = before.unit.own_val;
+  speaker = before.unit.own;
   addresses = a;
   inside = p.given;
   fit = p.fit;
@@ -167,7 +167,7 @@ spoken w v q r busy own found x (this (spoke reply j sender before has k e a p m
 -- Held when polled: handed over.
 pub hushed_none : {T : Moment} (own : ℕ) → (own ≡ 0 → ⊥) → ((code : ℕ) (x : Inside) → T code x → Fit (kind_of code) x) → {ss : List Station} → HasCode own ss → All (Hushed T (poll_of own).command []) ss → ⊥
 hushed_none own nonzero fits (it_has e) (also (not_its_own a) hs) = true≢false (sym (or-first (eqb own own) (eqb own 0) (eq-eqb own own refl)) ∙ sym (ap (λ (k : ℕ). eqb own k || eqb own 0) e) ∙ a)
-hushed_none own nonzero fits (it_has {st = st} e) (also (by_the_rule given t z) hs) = true≢false (sym z ∙ (every_lawful (kind_of st.unit.own_val)).speaks given own (fits st.unit.own_val given t) nonzero)
+hushed_none own nonzero fits (it_has {st = st} e) (also (by_the_rule given t z) hs) = true≢false (sym z ∙ (every_lawful (kind_of st.unit.own)).speaks given own (fits st.unit.own given t) nonzero)
 hushed_none own nonzero fits (later h) (also p hs) = hushed_none own nonzero fits h hs
 
 -- The answer to a poll says 00 just where a request is held.

@@ -17,11 +17,11 @@ use Rattle.polling.specs.Moves.{services, ahead, in_ring, is_for}
 
 -- The unit with this code is on the bus, and holds a request.
 pub data HasCode (own : ℕ) : List Station → Type 0 where
-  it_has : {st : Station} {ss : List Station} → st.unit.own_val ≡ own → HasCode own (st ∷ ss)
+  it_has : {st : Station} {ss : List Station} → st.unit.own ≡ own → HasCode own (st ∷ ss)
   later : {st : Station} {ss : List Station} → HasCode own ss → HasCode own (st ∷ ss)
 
 abbrev pub Requests : ℕ → Station → Type 0
-Requests own st = st.unit.own_val ≡ own → has_request (inside_of st) ≡ true
+Requests own st = st.unit.own ≡ own → has_request (inside_of st) ≡ true
 
 -- No disable or close goes to the unit and no bus reset is sent, in a frame already running then or in a later one.
 abbrev pub Harmless : ℕ → List Frame → Type 0

@@ -37,25 +37,25 @@ are_spared own c (m ∷ ms) e =
 -- The unit is on the bus, and holds a request: tested unit by unit.
 abbrev pub is_on : ℕ → List Station → Bool
 is_on own [] = false
-is_on own (st ∷ ss) = eqb st.unit.own_val own || is_on own ss
+is_on own (st ∷ ss) = eqb st.unit.own own || is_on own ss
 
 pub is_on_lem : (own : ℕ) (ss : List Station) → is_on own ss ≡ true → HasCode own ss
 is_on_lem own [] e = absurd (false≢true e)
-is_on_lem own (st ∷ ss) e = by (eqb st.unit.own_val own) refl e (is_on_lem own ss)
+is_on_lem own (st ∷ ss) e = by (eqb st.unit.own own) refl e (is_on_lem own ss)
   where
-    by : (t : Bool) → eqb st.unit.own_val own ≡ t → (t || is_on own ss) ≡ true → (is_on own ss ≡ true → HasCode own ss) → HasCode own (st ∷ ss)
-    by true t e more = it_has (eqb-true st.unit.own_val own t)
+    by : (t : Bool) → eqb st.unit.own own ≡ t → (t || is_on own ss) ≡ true → (is_on own ss ≡ true → HasCode own ss) → HasCode own (st ∷ ss)
+    by true t e more = it_has (eqb-true st.unit.own own t)
     by false t e more = later (more e)
 
 abbrev pub are_asking : ℕ → List Station → Bool
 are_asking own [] = true
-are_asking own (st ∷ ss) = (not (eqb st.unit.own_val own) || has_request (inside_of st)) && are_asking own ss
+are_asking own (st ∷ ss) = (not (eqb st.unit.own own) || has_request (inside_of st)) && are_asking own ss
 
 pub are_asking_lem : (own : ℕ) (ss : List Station) → are_asking own ss ≡ true → All (Requests own) ss
 are_asking_lem own [] e = none
 are_asking_lem own (st ∷ ss) e =
-    let t = both (not (eqb st.unit.own_val own) || has_request (inside_of st)) (are_asking own ss) e in
-    also (λ (same : st.unit.own_val ≡ own). sym (ap (λ (b : Bool). not b || has_request (inside_of st)) (eq-eqb st.unit.own_val own same)) ∙ t.0) (are_asking_lem own ss t.1)
+    let t = both (not (eqb st.unit.own own) || has_request (inside_of st)) (are_asking own ss) e in
+    also (λ (same : st.unit.own ≡ own). sym (ap (λ (b : Bool). not b || has_request (inside_of st)) (eq-eqb st.unit.own own same)) ∙ t.0) (are_asking_lem own ss t.1)
 
 -- No disable or close goes to it, and no bus reset is sent: tested round by round, with what `then` says of the world behind them.
 abbrev pub is_harmless : ℕ → List Frame → Bool

@@ -75,7 +75,7 @@ abbrev marks_between : Lines → List Station → List Station → List Mark
 marks_between seen [] after = []
 marks_between seen (st ∷ ss) [] = []
 marks_between seen (st ∷ ss) (next ∷ after) =
-    map (does st.unit.own_val) (cond seen.bav (deeds_by st.unit.phase next.unit.phase (inside_of st) seen) []) ++ marks_between seen ss after
+    map (does st.unit.own) (cond seen.bav (deeds_by st.unit.phase next.unit.phase (inside_of st) seen) []) ++ marks_between seen ss after
 
 abbrev marks_to : World → World → Busy → List Mark
 marks_to v next busy =
@@ -84,7 +84,7 @@ marks_to v next busy =
 
 marks_between_lem : (seen : Lines) (hosts : ℕ) (ss : List Station) → units_marks seen hosts ss ≡ marks_between seen ss (units_after seen hosts ss)
 marks_between_lem seen hosts [] = refl
-marks_between_lem seen hosts (st ∷ ss) = ap (λ (ms : List Mark). map (does st.unit.own_val) (station_deeds st seen (is_odd hosts)) ++ ms) (marks_between_lem seen (hosts / 2) ss)
+marks_between_lem seen hosts (st ∷ ss) = ap (λ (ms : List Mark). map (does st.unit.own) (station_deeds st seen (is_odd hosts)) ++ ms) (marks_between_lem seen (hosts / 2) ss)
 
 marks_to_lem : (v : World) (busy : Busy) → round_marks v busy ≡ marks_to v (round v busy) busy
 marks_to_lem v busy =
@@ -218,7 +218,7 @@ lent : (kind : Kind) (own : ℕ) → Lent kind (inside_of (station_of own))
 lent SerialUnit own = (refl, zeros_below 256)
 lent VideoUnit own = tt
 
-others : (own : ℕ) (codes : List ℕ) → is_other own codes ≡ true → All (λ (x : Station). x.unit.own_val ≡ own → ⊥) (quiet_bus codes).units
+others : (own : ℕ) (codes : List ℕ) → is_other own codes ≡ true → All (λ (x : Station). x.unit.own ≡ own → ⊥) (quiet_bus codes).units
 others own [] e = none
 others own (code ∷ codes) e =
     let t = both (not (eqb code own)) (is_other own codes) e in
