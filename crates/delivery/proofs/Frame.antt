@@ -136,9 +136,10 @@ part_quiet (listens ear t f h a q) = heard_quiet h
 part_quiet (answers ear r f l a e k q) = ap is_responding e
 part_quiet (sits now a e k q) = ap is_responding e
 
-pub becomes_all : {seen : Lines} {hosts : ℕ} {ss : List Station} {P : Station → Type 0} {st after : Station} → All P ss → Becomes seen hosts ss st after → P st
+pub becomes_all : {P : Station → Type 0} {seen : Lines} {hosts : ℕ} {ss : List Station} {st after : Station} → All P ss → Becomes seen hosts ss st after → P st
+becomes_all none b = elim b [ ]
 becomes_all (also p a) in_front = p
-becomes_all (also p a) (behind b) = becomes_all a b
+becomes_all {seen = seen} {hosts = hosts} (also p a) (behind b) = becomes_all {hosts = hosts / 2} a b
 
 nobody_speaks : {seen : Lines} {hosts : ℕ} {ss : List Station} → All (λ (st : Station). is_responding st.unit.phase ≡ false) ss
     → (st after : Station) → Becomes seen hosts ss st after → is_responding st.unit.phase ≡ true → is_responding after.unit.phase ≡ true
@@ -157,6 +158,7 @@ module _
     (rest : (st : Station) (host : Bool) → Sits st × Sound st → Sits (station_step st seen host) × Sound (station_step st seen host))
   where
     nobody-new : (hosts : ℕ) {ss : List Station} → All (λ (st : Station). Sits st × Sound st) ss → One P (λ (st : Station). Sits st × Sound st) (units_after seen hosts ss) → ⊥
+    nobody-new hosts none o = elim o [ ]
     nobody-new hosts (also {x = st} p a) (this {x = after} q b) = true≢false (sym (responds after q) ∙ sits_quiet (rest st (is_odd hosts) p))
     nobody-new hosts (also p a) (that q o) = nobody-new (hosts / 2) a o
 

@@ -3,7 +3,7 @@ use Prim.Native.Nat.{ℕ, zero, suc, ◌+◌, ◌-◌, ◌<◌, ◌≤◌}
 use native.Mathlib.Nat.{not-suc-le-zero}
 use native.Mathlib.Omega.{arith}
 use mathlib.Core.Path.{◌≡◌, refl, sym, ◌∙◌, ap}
-use mathlib.Core.Bool.{Bool, true, false, cond, not, ◌&&◌, false≢true, and_false}
+use mathlib.Core.Bool.{Bool, true, false, cond, not, ◌&&◌, false≢true, and-false}
 use mathlib.Core.List.{List, [], ◌∷◌}
 use Rattle.answer.specs.Answer.{nothing_taken}
 use Rattle.answer.specs.declared.Response.{Response}
@@ -14,7 +14,7 @@ use Rattle.frame.specs.declared.Frame.{Frame}
 use Rattle.frame.specs.declared.Moved.{Moved}
 use Rattle.frame.specs.declared.Stage.TheVariants.{Resting}
 use Rattle.unit.specs.Unit.{pulls_hsk}
-use Rattle.delivery.specs.Calls.{Call, called_all, in_frame, running}
+use Rattle.delivery.specs.Calls.{Call, called, called_all, in_frame, running}
 use Rattle.delivery.specs.Run.{Run, start, a_round, a_call}
 use Rattle.delivery.specs.Ends.{left, units_free, is_free, quietly}
 use Rattle.delivery.specs.FramesEnd.{longest, Staying, free_rounds, FramesEnd, Ends, has_ended, next_free, FramesEndInTime, EndsQuietly, quiet_ended, next_quiet, QuietlyFree, FramesEndQuietly}
@@ -118,27 +118,27 @@ frames_end_in_time w v f q r e = by (runs_in f (every_run w v q r) e)
 -- A round with no host busy is free.
 units_quiet : (ss : List Station) → units_free 0 ss ≡ true
 units_quiet [] = refl
-units_quiet (st ∷ ss) = ap (λ (x : Bool). not x && units_free 0 ss) (and_false (pulls_hsk st.unit.phase)) ∙ units_quiet ss
+units_quiet (st ∷ ss) = ap (λ (x : Bool). not x && units_free 0 ss) (and-false (pulls_hsk st.unit.phase)) ∙ units_quiet ss
 
 pub quietly_free : QuietlyFree
-quietly_free w = ap (λ (x : Bool). not x && units_free 0 w.units) (and_false (pulls_of w.controller.stage).hsk) ∙ units_quiet w.units
+quietly_free w = ap (λ (x : Bool). not x && units_free 0 w.units) (and-false (pulls_of w.controller.stage).hsk) ∙ units_quiet w.units
 
 -- Calls in a row.
 all_in : {f : Frame} {found : List ℕ} {v : World} (calls : List Call) → InFrame Any f found v → (then : List ℕ) × InFrame Any f then (called_all v calls)
 all_in {found = found} [] x = (found, x)
-all_in (call ∷ calls) x = all_in calls (in_frame_called call x)
+all_in {f = f} {found = found} {v = v} (call ∷ calls) x = all_in {found = found_after v call found} calls (in_frame_called call x)
 
 abbrev all_run : {v u : World} (calls : List Call) → Run v u → Run v (called_all u calls)
 all_run [] more = more
-all_run (call ∷ calls) more = all_run calls (a_call more call)
+all_run {v = v} {u = u} (call ∷ calls) more = all_run {u = called u call} calls (a_call more call)
 
 all_stay : {v u : World} (calls : List Call) (more : Run v u) → Staying more → Staying (all_run calls more)
 all_stay [] more s = s
-all_stay (call ∷ calls) more s = all_stay calls (a_call more call) s
+all_stay {u = u} (call ∷ calls) more s = all_stay {u = called u call} calls (a_call more call) s
 
 all-count : {v u : World} (calls : List Call) (more : Run v u) → free_rounds (all_run calls more) ≡ free_rounds more
 all-count [] more = refl
-all-count (call ∷ calls) more = all-count calls (a_call more call)
+all-count {u = u} (call ∷ calls) more = all-count {u = called u call} calls (a_call more call)
 
 ends-quietly : {n : ℕ} {f : Frame} {found : List ℕ} {w : World} → InFrame Any f found w → Ends n w → EndsQuietly n w
 ends-quietly x (has_ended e) = quiet_ended e

@@ -103,7 +103,7 @@ pub one_known : {T : Moment} {c : Command} {d : List ℕ} {stores : Bool} {found
 one_known {T} {c} {d} {stores} {found} {ear} {taken} {quiet} {buffer} Q rest {ss} o =
     pick (one_left ear (levels_with (hearing ear) ss).hsk rest (λ st p k. talk_phase st p.0.0.0 (levels_with (hearing ear) ss).hsk p.1.0 k) (one_seen (hearing ear) refl (λ st p. talk_nibble p.0.0) o))
   where
-    pick : {s : List Station} {n : ℕ} {X : Station → Type 0}
+    pick : {n : ℕ} {X : Station → Type 0} {s : List Station}
         → One (λ (st : Station). (((Talk T c d stores found ear taken quiet buffer st × Q (talk_left ear st)) × Sound st) × X st) × (n ≡ talk_left ear st)) (λ (st : Station). Sits st × Sound st) s
         → Q n
     pick (this p a) = subst Q (sym p.1) p.0.0.0.1

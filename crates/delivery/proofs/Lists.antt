@@ -29,11 +29,12 @@ pub one_has {ℓ} : {A : Type ℓ} {P Q : A → Type ℓ} {xs : List A} → One 
 one_has (this p a) = this (p, here) a
 one_has {A = A} {P = P} {Q = Q} (that q o) = that q (deeper (one_has o))
   where
-    deeper : {y : A} {ys zs : List A} → One (λ (x : A). P x × Has x zs) Q ys → One (λ (x : A). P x × Has x (y ∷ zs)) Q ys
+    deeper : {y : A} {zs ys : List A} → One (λ (x : A). P x × Has x zs) Q ys → One (λ (x : A). P x × Has x (y ∷ zs)) Q ys
     deeper (this p a) = this (p.0, there p.1) a
     deeper (that q o) = that q (deeper o)
 
 pub has_all {ℓ κ} : {A : Type ℓ} {P : A → Type κ} {xs : List A} {x : A} → All P xs → Has x xs → P x
+has_all none h = elim h [ ]
 has_all (also p a) here = p
 has_all (also p a) (there h) = has_all a h
 

@@ -18,7 +18,7 @@ use Rattle.delivery.proofs.Moves.{Becomes, in_front, behind}
 use Rattle.delivery.specs.Following.{Whole, following_all, following}
 use Rattle.delivery.specs.Lists.{All, none, also}
 use Rattle.delivery.specs.Log.{Act, sent, heard, told, Deed, Mark, begins, acts, does, asks, submitted, station_deeds, units_marks, stage_marks, begun_by, ended_by, host_marks, Capture, cut, cut_all, act_in, acts_in, deed_in, deeds_in, deeds_by, Due, due_by, due_all}
-use Rattle.delivery.specs.World.{Different, another}
+use Rattle.delivery.specs.World.{Different, another, nobody}
 
 -- One after the other.
 pub acts_append : (a b : List Mark) → acts_in (a ++ b) ≡ acts_in a ++ acts_in b
@@ -138,17 +138,19 @@ nobodys_deeds own seen hosts (also {x = st} {xs = ss} h a) =
 -- Of a unit that a round moves.
 pub units_deeds : {seen : Lines} {hosts : ℕ} {ss : List Station} {st after : Station} → Different ss → Becomes seen hosts ss st after
     → deeds_in st.unit.own (units_marks seen hosts ss) ≡ cond seen.bav (deeds_by st.unit.phase after.unit.phase (inside_of st) seen) []
+units_deeds nobody b = elim b [ ]
 units_deeds {seen = seen} {hosts = hosts} {st = st} (another {ss = ss} a d) in_front =
     deeds_append st.unit.own (map (does st.unit.own) (station_deeds st seen (is_odd hosts))) (units_marks seen (hosts / 2) ss)
     ∙ (λ i. own_deeds st.unit.own (station_deeds st seen (is_odd hosts)) i ++ nobodys_deeds st.unit.own seen (hosts / 2) a i)
     ∙ append-nil (station_deeds st seen (is_odd hosts))
 units_deeds {seen = seen} {hosts = hosts} {st = st} (another {st = x} {ss = ss} a d) (behind b) =
     deeds_append st.unit.own (map (does x.unit.own) (station_deeds x seen (is_odd hosts))) (units_marks seen (hosts / 2) ss)
-    ∙ (λ i. other_deeds st.unit.own x.unit.own (station_deeds x seen (is_odd hosts)) (λ e. apart a b (sym e)) i ++ units_deeds d b i)
+    ∙ (λ i. other_deeds st.unit.own x.unit.own (station_deeds x seen (is_odd hosts)) (λ e. apart a b (sym e)) i ++ units_deeds {hosts = hosts / 2} d b i)
   where
-    apart : {seen : Lines} {hosts : ℕ} {code : ℕ} {ss : List Station} {y after : Station} → All (λ (z : Station). z.unit.own ≡ code → ⊥) ss → Becomes seen hosts ss y after → y.unit.own ≡ code → ⊥
+    apart : {seen : Lines} {code : ℕ} {hosts : ℕ} {ss : List Station} {y after : Station} → All (λ (z : Station). z.unit.own ≡ code → ⊥) ss → Becomes seen hosts ss y after → y.unit.own ≡ code → ⊥
+    apart none b e = elim b [ ]
     apart (also h hs) in_front e = h e
-    apart (also h hs) (behind m) e = apart hs m e
+    apart {hosts = hosts} (also h hs) (behind m) e = apart {hosts = hosts / 2} hs m e
 
 -- The controller's marks are no unit's.
 pub stage_no_deeds : (own : ℕ) (stage next : Stage) (seen : Lines) (event : Event) (lent response after : List ℕ) → deeds_in own (stage_marks stage next seen event lent response after) ≡ []

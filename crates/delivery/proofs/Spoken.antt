@@ -78,6 +78,7 @@ took_no [] h = h
 took_no (n ∷ xs) (there h) = took_no xs h
 
 pub spoke_no : {x : Inside} (xs : List ℕ) → Has (settled x) (map spoke xs) → ⊥
+spoke_no [] h = elim h [ ]
 spoke_no (n ∷ xs) (there h) = spoke_no xs h
 
 pub settled_first : {x y : Inside} {rest : List Deed} → Has (settled y) (settled x ∷ rest) → (Has (settled y) rest → ⊥) → y ≡ x

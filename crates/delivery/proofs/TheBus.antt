@@ -62,7 +62,7 @@ with_all : {b : Bus} {c : Controller} {vs : List Unit} (us : List Unit) → Hold
 with_all {b} {c} {vs} [] h few = subst (Holds b c) (sym (append-nil vs)) h
 with_all {b} {c} {vs} (u ∷ us) h few =
     let more : length (vs ++ (u ∷ [])) ≡ length vs + 1 = length-append vs (u ∷ []) in
-    subst (Holds (with_units (with_unit b u) us) c) (append_assoc vs (u ∷ []) us) (with_all us (with_one u h (omega arith)) (omega arith))
+    subst (Holds (with_units (with_unit b u) us) c) (append_assoc vs (u ∷ []) us) (with_all {b = with_unit b u} us (with_one u h (omega arith)) (omega arith))
 
 -- Each unit as it is made, in memory of any bytes.
 lent_to_lem : (kind : Kind) (x : Inside) → QueueLent x → Lent kind x
