@@ -40,7 +40,7 @@ use Rattle.polling.proofs.Handing.{starts, free}
 use Rattle.polling.proofs.OnTheBus.{asking_low}
 
 -- A unit behind a round.
-has_after : (seen : Lines) (hosts : ℕ) {ss : List Station} {st : Station} → Has st ss → (host : Bool) × Has (station_step st seen host) (units_after seen hosts ss)
+has_after : (seen : Lines) {st : Station} (hosts : ℕ) {ss : List Station} → Has st ss → (host : Bool) × Has (station_step st seen host) (units_after seen hosts ss)
 has_after seen hosts here = (is_odd hosts, here)
 has_after seen hosts (there h) = let n = has_after seen (hosts / 2) h in (n.0, there n.1)
 
@@ -126,7 +126,7 @@ some_call v (lends_unit i buffer) h = h
 -- A row of calls.
 calls_run : {w v : World} (calls : List Call) → Run w v → Run w (called_all v calls)
 calls_run [] r = r
-calls_run (call ∷ calls) r = calls_run calls (a_call r call)
+calls_run {v = v} (call ∷ calls) r = calls_run {v = called v call} calls (a_call r call)
 
 after_calls : (v : World) (calls : List Call) {st : Station} → Has st v.units → 0 < counted v.controller.ring → Behind st (called_all v calls).units × (0 < counted (called_all v calls).controller.ring)
 after_calls v [] h some = (as_it_is h, some)

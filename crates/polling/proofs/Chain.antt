@@ -1,5 +1,5 @@
 -- The whole chain on demand 2's bus.
-use Prim.Native.Nat.{ℕ, zero, suc, ◌+◌, ◌<◌, ◌≤◌}
+use Prim.Native.Nat.{ℕ, zero, suc, ◌+◌, ◌/◌, ◌<◌, ◌≤◌}
 use native.Mathlib.Omega.{arith}
 use mathlib.Core.Path.{◌≡◌, refl, sym, ◌∙◌, ap, subst}
 use mathlib.Core.Bool.{Bool, true, false, cond, ◌&&◌, ◌||◌, true≢false, false≢true}
@@ -139,7 +139,7 @@ one_talks : {T : Moment} {c : Command} {d : List ℕ} {stores : Bool} {found : L
 one_talks (this p a) first_one e = talk_of p.0
 one_talks (this p a) (behind b) e = absurd (true≢false (sym e ∙ ap is_responding (becomes_all a b).0.0))
 one_talks (that q o) first_one e = absurd (true≢false (sym e ∙ ap is_responding q.0.0))
-one_talks (that q o) (behind b) e = one_talks o b e
+one_talks {hosts = hosts} (that q o) (behind b) e = one_talks {hosts = hosts / 2} o b e
 
 frame_talks : {T : Moment} {f : Frame} {found : List ℕ} {w : World} {seen : Lines} {hosts : ℕ} {st new : Station} → InFrame T f found w → Becomes seen hosts w.units st new
     → is_responding st.unit.phase ≡ true → Talking T f.command (data_of f w.lent) st
@@ -152,7 +152,7 @@ becomes_has : {seen : Lines} {hosts : ℕ} {ss : List Station} {st new : Station
 becomes_has first_one = here
 becomes_has (behind b) = there (becomes_has b)
 
-same_has : {ss : List Station} {x y : Station} → Different ss → Has x ss → Has y ss → x.unit.own ≡ y.unit.own → x ≡ y
+same_has : {x y : Station} {ss : List Station} → Different ss → Has x ss → Has y ss → x.unit.own ≡ y.unit.own → x ≡ y
 same_has d here here e = refl
 same_has (another a d) here (there h) e = absurd (has_all a h (sym e))
 same_has (another a d) (there h) here e = absurd (has_all a h e)

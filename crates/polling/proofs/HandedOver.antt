@@ -74,6 +74,8 @@ tail [] = []
 tail (x ∷ row) = row
 
 told-last : (ns : List ℕ) (row more rest : List Act) {e : Event} {buffer : List ℕ} → map sent ns ++ more ≡ row ++ rest → Has (told e buffer) row → length ns < length row
+told-last [] [] more rest q h = elim h [ ]
+told-last (n ∷ ns) [] more rest q h = elim h [ ]
 told-last [] (x ∷ row) more rest q h = omega arith
 told-last (n ∷ ns) (x ∷ row) more rest q here = absurd (false≢true (ap is_told q))
 told-last (n ∷ ns) (x ∷ row) more rest q (there h) = let less = told-last ns row more rest (ap tail q) h in omega arith

@@ -56,6 +56,7 @@ in_has own (e ∷ es) i = by (eqb e.code own) refl i (λ k. in_has own es k)
     by false g h next = there (next (sym (leb-suc-suc (suc (place_of own es)) (length es)) ∙ h))
 
 has_in : (own : ℕ) (l : List Entry) → Has own (codes_in l) → is_in own l ≡ true
+has_in own [] h = elim h [ ]
 has_in own (e ∷ es) here =
     ap (λ (t : Bool). ltb (cond t 0 (suc (place_of own es))) (suc (length es))) (eq-eqb own own refl) ∙ lt-ltb 0 (suc (length es)) (omega arith)
 has_in own (e ∷ es) (there h) = by (eqb e.code own) (has_in own es h)

@@ -197,8 +197,8 @@ pub said_by : {w v : World} {r : Run w v} {busy : Busy} {own : ℕ} → (own ≡
 said_by {r = r} {busy = busy} {own = own} nonzero k = subst (λ (n : ℕ). Took (a_round r busy) n k.inside) (addressed_own (poll_of own).command k.speaker nonzero k.addresses) k.taken
 
 -- A request's pull is seen.
-pub asking_low : (l : Lines) {ss : List Station} {st : Station} → Has st ss → st.unit.asking ≡ true → (levels_with l ss).bav ≡ true
-asking_low l {st = st} (here {xs = ss}) e = bav_kept (wired l (pulls_of st.unit)) ss (or_second l.bav st.unit.asking e)
+pub asking_low : {st : Station} (l : Lines) {ss : List Station} → Has st ss → st.unit.asking ≡ true → (levels_with l ss).bav ≡ true
+asking_low {st = st} l (here {xs = ss}) e = bav_kept (wired l (pulls_of st.unit)) ss (or_second l.bav st.unit.asking e)
 asking_low l (there {y = y} h) e = asking_low (wired l (pulls_of y.unit)) h e
 
 pub bus_starts : BusStarts
