@@ -6,6 +6,11 @@
 
 mod names;
 
+// The descriptors of what a program says, and of what it says is wrong.
+pub const STDOUT_FILENO: i32 = 1;
+
+pub const STDERR_FILENO: i32 = 2;
+
 // Words as they are.
 pub fn say(out: i32, words: &[u8]) {
     if 0 < out {
