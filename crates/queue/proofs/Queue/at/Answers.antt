@@ -1,5 +1,4 @@
 -- `queue::Queue::at` meets its contract: it reads the ring at the place of byte i.
-use borrow.Author.Rules.{rules}
 use Rattle.queue.proofs.Queue.at.Goals as goal
 
 pub returns : goal.returns

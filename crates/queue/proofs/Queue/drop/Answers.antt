@@ -3,7 +3,6 @@ use Prim.Native.Nat.{◌-◌}
 use native.Mathlib.Omega.{arith}
 use mathlib.Core.Path.{◌≡◌}
 use Rattle.queue.specs.Queue.{held}
-use borrow.Author.Rules.{rules}
 use Rattle.queue.proofs.Queue.drop.Goals as goal
 
 pub returns-then-n-held : goal.returns-then-n-held

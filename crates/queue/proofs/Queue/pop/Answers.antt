@@ -2,7 +2,6 @@
 use native.Mathlib.Omega.{arith}
 use mathlib.Core.Path.{sym}
 use Rattle.queue.proofs.Laws.{popped_front}
-use borrow.Author.Rules.{rules}
 use Rattle.queue.proofs.Queue.pop.Goals as goal
 
 pub returns-then-count-eq0 : goal.returns-then-count-eq0

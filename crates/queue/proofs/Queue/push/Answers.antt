@@ -4,7 +4,6 @@ use native.Mathlib.Nat.{min-eq_left}
 use native.Mathlib.Omega.{arith}
 use Rattle.queue.specs.Queue.{room}
 use Rattle.queue.proofs.Laws.{tests}
-use borrow.Author.Rules.{rules}
 use Rattle.queue.proofs.Queue.push.Goals as goal
 
 pub returns-then-count-lt256 : goal.returns-then-count-lt256

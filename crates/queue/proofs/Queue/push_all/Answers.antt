@@ -1,17 +1,16 @@
 -- `queue::Queue::push_all` meets its contract. The loop's invariant: storing what is left of the data gives what storing all of it
 -- gives at the start. The measure is how much is left.
-use Prim.Native.Nat.{ℕ, ◌+◌, ◌-◌, ◌%◌, ◌≤◌, ◌<◌}
+use Prim.Native.Nat.{ℕ, ◌+◌, ◌%◌, ◌≤◌, ◌<◌}
 use native.Mathlib.Nat.{add-zero}
 use native.Mathlib.Omega.{arith}
-use mathlib.Core.Logic.{⊎_elim}
 use mathlib.Core.Path.{◌≡◌, sym, ◌∙◌, ap}
 use mathlib.Core.List.{List}
 use lib.ListN.{length, get_or, set, drop, drop_of_length-le}
 use lib.Seq.{set_out}
 use Rattle.queue.specs.Queue.{room, stored}
 use Rattle.queue.proofs.Laws.{tests, length-stored, stored_next}
-use borrow.Author.Rules.{rules}
 use Rattle.queue.proofs.Queue.push_all.Goals as goal
+use Rattle.queue.proofs.Queue.push_all.Goals.{then-place-bytes, else-place-bytes}
 
 pub loop-i-init : goal.loop-i-init
 loop-i-init c = rw add-zero
@@ -23,7 +22,7 @@ loop-i-preserved c =
     let d = c.args.«data».now in
     let back = c.args.self.head + c.len.result in
     let next : c.if-place-bytes.bytes ≡ set l ((back + i) % 256) (get_or d i 0) =
-    ⊎_elim (λ w. w.2) (λ w. w.1 ∙ sym (set_out l ((back + i) % 256) (get_or d i 0) w.0.left)) c.if-place-bytes.branch in
+    elim c.if-place-bytes.branch [ then-place-bytes w ↦ w.bytes-is | else-place-bytes w ↦ w.bytes-is ∙ sym (set_out l ((back + i) % 256) (get_or d i 0) w.if-place-bytes.false) ] in
     ap (λ (x : List ℕ). stored x (back + (i + 1)) (drop (i + 1) d)) next
     ∙ stored_next l back i d c.loop-i-test.true
     ∙ c.loop-i.invariant

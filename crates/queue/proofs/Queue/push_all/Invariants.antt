@@ -1,16 +1,9 @@
 -- `queue::Queue::push_all` meets its contract. The loop's invariant: storing what is left of the data gives what storing all of it
 -- gives at the start. The measure is how much is left.
-use Prim.Native.Nat.{ℕ, ◌+◌, ◌-◌, ◌%◌, ◌≤◌, ◌<◌}
-use native.Mathlib.Nat.{add-zero}
-use native.Mathlib.Omega.{arith}
-use mathlib.Core.Logic.{⊎_elim}
-use mathlib.Core.Path.{◌≡◌, sym, ◌∙◌, ap}
-use mathlib.Core.List.{List}
-use lib.ListN.{length, get_or, set, drop, drop_of_length-le}
-use lib.Seq.{set_out}
-use Rattle.queue.specs.Queue.{room, stored}
-use Rattle.queue.proofs.Laws.{tests, length-stored, stored_next}
-use borrow.Author.Rules.{rules}
+use Prim.Native.Nat.{◌+◌, ◌-◌}
+use mathlib.Core.Path.{◌≡◌}
+use lib.ListN.{drop}
+use Rattle.queue.specs.Queue.{stored}
 use Rattle.queue.proofs.Queue.push_all.Given as goal
 
 abbrev pub invariant-loop-i : goal.invariant-loop-i
