@@ -3,7 +3,7 @@ use Rattle.std.specs.Prelude.{ℕ, zero, suc, ◌+◌, ◌*◌, ◌≡◌, true,
 use Rattle.screen.specs.Screen.{new_screen, at, reading, scrolling, wrapping, guarding, asking}
 use Rattle.screen.specs.Text.{with_text, cells_after}
 use Rattle.screen.specs.declared.Screen.{Screen}
-use Rattle.screen.specs.declared.Sequence.TheVariants.{Plain, Escape, Row, Column, Skips}
+use Rattle.screen.specs.declared.Sequence.TheVariants.{Escape, Row, Column, Skips}
 
 -- What the definitions give, and what is expected.
 pub record Example (A : Type 0) : Type 0 where
