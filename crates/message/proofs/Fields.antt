@@ -1,11 +1,11 @@
 -- Fields one after the other, over any widths: how long they are, and that values and bytes give each other back.
-use Prim.Native.Nat.{ℕ, zero, suc, ◌+◌, ◌-◌, ◌^◌, ◌<◌, ◌≤◌}
+use Prim.Native.Nat.{ℕ, zero, suc, ◌+◌, ◌^◌, ◌<◌, ◌≤◌}
 use native.Mathlib.Omega.{arith}
-use mathlib.Core.Path.{◌≡◌, refl, sym, ◌∙◌, ap, ap₂}
+use mathlib.Core.Path.{◌≡◌, refl, sym, ◌∙◌, ap}
 use mathlib.Core.List.{List, [], ◌∷◌, ◌++◌, append_assoc}
 use lib.Dec.{lit<}
-use lib.ListN.{length, take, drop, set, get_or, replicate, length-append, length-take, length-drop}
-use lib.Seq.{take_at, drop_at, take-add, length-take-le, get_or-take, get_or-drop}
+use lib.ListN.{length, take, drop, set, replicate, length-append, length-drop}
+use lib.Seq.{take_at, drop_at, take-add, length-take-le, get_or-drop}
 use Rattle.field.specs.Field.{field, value_of, Below}
 use Rattle.field.proofs.Laws.{length_digits, number_digits, digits_number}
 use Rattle.message.specs.Format.{laid, size}

@@ -1,14 +1,14 @@
 -- What a check answers, by the tests it makes; and what those were where it found a message.
 use Prim.Native.Nat.{ℕ, suc, ◌+◌, ◌<◌, ◌≤◌}
 use native.Mathlib.Omega.{arith}
-use mathlib.Core.Path.{◌≡◌, refl, sym, ◌∙◌, ap}
+use mathlib.Core.Path.{◌≡◌, refl, ◌∙◌, ap}
 use mathlib.Core.Bool.{Bool, true, false, cond}
 use mathlib.Core.List.{List, [], ◌∷◌}
 use borrow.Author.Tests.{lt-ltb, le-ltb, eq-eqb, ne_eqb, eqb-true}
 use lib.Dec.{ltb, eqb}
-use lib.ListN.{length, get_or, take, drop}
+use lib.ListN.{length, get_or, take}
 use Rattle.field.specs.Field.{value_of}
-use Rattle.message.specs.Answer.{Answer, gives, refused}
+use Rattle.message.specs.Answer.{gives, refused}
 use Rattle.message.specs.Reading.{announced, checking}
 use Rattle.message.proofs.Lists.{elements-drop}
 

@@ -2,7 +2,7 @@
 -- Stated for any format; `proofs/RoundTrip.antt` proves both, once.
 use Rattle.std.specs.Prelude.{ℕ, ◌^◌, ◌<◌, ◌≤◌, ◌≡◌, List, [], ◌∷◌, ◌++◌, length, take, drop}
 use Rattle.field.specs.Field.{Below}
-use Rattle.message.specs.Answer.{Answer, gives}
+use Rattle.message.specs.Answer.{gives}
 use Rattle.message.specs.Format.{Format, Message, least}
 use Rattle.message.specs.Reading.{reading}
 use Rattle.message.specs.Writing.{writing, written_as}

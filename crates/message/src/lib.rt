@@ -2,4 +2,3 @@
 // specs/, laws in proofs/. There is no code here.
 
 #![tactic(auto)]
-
