@@ -2,11 +2,11 @@
 use Prim.Native.Nat.{ℕ, ◌+◌, ◌*◌, ◌/◌, ◌%◌, ◌<◌, ◌≤◌}
 use native.Mathlib.Nat.{add-zero, mod-eq_of_lt}
 use native.Mathlib.Omega.{arith}
-use mathlib.Core.Path.{◌≡◌, refl, sym, ◌∙◌, ap}
-use mathlib.Core.List.{List, [], ◌∷◌, ◌++◌}
-use lib.ListN.{length, set, take, drop, get_or, length-set, length-drop}
+use mathlib.Core.Path.{◌≡◌, sym, ◌∙◌, ap}
+use mathlib.Core.List.{List, [], ◌++◌}
+use lib.ListN.{length, set, take, drop, length-set, length-drop}
 use lib.Seq.{take-add, take_all, set_out}
-use Rattle.field.specs.Field.{field, value_of, Below}
+use Rattle.field.specs.Field.{field, Below}
 use Rattle.message.specs.Format.{command_format, laid}
 use Rattle.message.specs.Reading.{values_in, announced}
 use Rattle.message.proofs.Lists.{elements-drop}
