@@ -1,6 +1,6 @@
 // Expectations and failures. A failure is said with its script and line, and all of them again at the end.
 use crate::{Desk, UNREACHED, tell};
-use libc::STDOUT_FILENO;
+use page::STDOUT_FILENO;
 use statement::{LOG_BYTES, NONE, Numbers, OTHER, Statement};
 
 // An expectation of numbers: those that the statement names, and those that were found. The words of a failure; 0 letters for none.

@@ -1,7 +1,7 @@
 // A script is read as a whole before any of it is played.
 use crate::plan;
 use crate::plan::Plan;
-use libc::STDOUT_FILENO;
+use page::STDOUT_FILENO;
 use word::Reading;
 
 // The longest line.

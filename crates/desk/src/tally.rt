@@ -1,6 +1,6 @@
 // How the scripts so far have gone.
 use crate::{Desk, judge};
-use libc::{STDERR_FILENO, STDOUT_FILENO};
+use page::{STDERR_FILENO, STDOUT_FILENO};
 use statement::LOG_BYTES;
 
 // Expectations that held, failures, how many letters of failures are kept, and whether a script was not played whole or an expectation

@@ -8,7 +8,7 @@ pub mod noted;
 pub mod pictured;
 
 use desk::{Desk, hosts, judge, plan, tell};
-use libc::STDERR_FILENO;
+use page::STDERR_FILENO;
 use line::Lines;
 use statement::{A_ROUND, Doing, Numbers, OF_CONTROLLER, ONE_MORE, Statement};
 

@@ -9,7 +9,7 @@ mod rows;
 mod words;
 mod writings;
 
-use libc::STDOUT_FILENO;
+use page::STDOUT_FILENO;
 
 // The scan of 7.1 prints O and 0 alike; its words, odd parity, make the last byte the letter O. Its response is an example of a message: a unit
 // that is asked for length 0 accepts 128, not 80.

@@ -1,6 +1,6 @@
 // Every cut of a message, and of two messages one behind the other, read as one.
 use crate::{messages, words};
-use libc::STDOUT_FILENO;
+use page::STDOUT_FILENO;
 
 pub fn cuts(m: u8, s: &[u8]) {
     page::bytes(STDOUT_FILENO, s);

@@ -1,5 +1,5 @@
 // What is said, by its place in the list of `say`.
-use libc::STDOUT_FILENO;
+use page::STDOUT_FILENO;
 
 // Of an example.
 pub const WRITTEN: u64 = 0;

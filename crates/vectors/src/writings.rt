@@ -1,6 +1,6 @@
 // Messages written into lent buffers and read back: the examples, and data lengths on both sides of each limit.
 use crate::{messages, readings, rows, words};
-use libc::STDOUT_FILENO;
+use page::STDOUT_FILENO;
 use writer::Written;
 
 // The length of the buffer that an example is written into.
