@@ -1,7 +1,6 @@
 -- `Ring::cut` meets its contract: an unused slot behind the entries changes none.
 use mathlib.Core.Path.{◌∙◌}
 use mathlib.Core.List.{[], ◌∷◌, ◌++◌}
-use borrow.Author.Rules.{rules}
 use Rattle.ring.specs.Ring.{none, live, cut_at}
 use Rattle.ring.proofs.Laws.{slots_same, get_or-none}
 use Rattle.ring.proofs.Ring.cut.Goals as goal

@@ -1,14 +1,8 @@
 -- `Ring::find` meets its contract: while nobody before i has the code, it stands as far behind i as in the rest.
-use Prim.Native.Nat.{suc, ◌+◌, ◌-◌, ◌≤◌, ◌<◌}
-use native.Mathlib.Omega.{arith}
-use native.Mathlib.Numerals.{add-one}
-use mathlib.Core.Path.{◌≡◌, sym, ◌∙◌, ap}
-use mathlib.Core.Logic.{◌≢◌}
-use borrow.Author.Rules.{rules}
-use lib.ListN.{length, drop, get_or}
-use Rattle.ring.specs.Ring.{none, live, place_of}
-use Rattle.ring.specs.declared.Entry.{Entry}
-use Rattle.ring.proofs.Laws.{mapped_length, length-live, place_found, place-next, place_end}
+use Prim.Native.Nat.{◌+◌, ◌-◌, ◌≤◌}
+use mathlib.Core.Path.{◌≡◌}
+use lib.ListN.{length, drop}
+use Rattle.ring.specs.Ring.{live, place_of}
 use Rattle.ring.proofs.Ring.find.Given as goal
 
 abbrev pub invariant-loop-i : goal.invariant-loop-i

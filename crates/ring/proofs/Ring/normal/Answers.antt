@@ -1,6 +1,5 @@
 -- `Ring::normal` meets its contract: a cut behind the last entry takes none away.
 use mathlib.Core.Path.{◌∙◌, ap}
-use borrow.Author.Rules.{rules}
 use Rattle.ring.specs.Ring.{ring_of, live}
 use Rattle.ring.proofs.Laws.{cut_past, live_below}
 use Rattle.ring.proofs.Ring.normal.Goals as goal

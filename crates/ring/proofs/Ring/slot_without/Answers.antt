@@ -1,7 +1,6 @@
 -- `Ring::slot_without` meets its contract: before the gap nothing moves, behind it each entry moves up.
 use native.Mathlib.Numerals.{add-one}
 use mathlib.Core.Path.{sym, ◌∙◌}
-use borrow.Author.Rules.{rules}
 use Rattle.ring.specs.Ring.{live}
 use Rattle.ring.proofs.Laws.{get_or-cut-before, get_or-cut-after, none-after-cut}
 use Rattle.ring.proofs.Ring.slot_without.Goals as goal

@@ -1,5 +1,5 @@
 -- `Ring::turned` meets its contract: the front is cut and put at the back.
-use Prim.Native.Nat.{◌≤◌, ◌<◌}
+use Prim.Native.Nat.{◌<◌}
 use native.Mathlib.Omega.{arith}
 use mathlib.Core.Path.{◌≡◌, ◌∙◌, ap}
 use mathlib.Core.List.{[], ◌∷◌, ◌++◌}
@@ -7,15 +7,8 @@ use borrow.Author.Rules.{rules}
 use lib.ListN.{length}
 use Rattle.ring.specs.Ring.{ring_of, live, counted, cut_at}
 use Rattle.ring.specs.declared.Entry.{Entry}
-use Rattle.ring.proofs.Laws.{mapped_length, length-live, live-within, turned_empty, turned_some}
+use Rattle.ring.proofs.Laws.{mapped_length, length-live, turned_some}
 use Rattle.ring.proofs.Ring.turned.Goals as goal
-
-pub returns-then-len-eq0 : goal.returns-then-len-eq0
-returns-then-len-eq0 c =
-    let r = c.args.self in
-    let within : length (live r) ≤ counted r = live-within r in
-    let empty : length (live r) ≤ 0 = omega (arith, within, c.if-len-eq0.true, c.len.ensures) in
-    c.cut.ensures ∙ ap ring_of (turned_empty (live r) empty)
 
 pub returns : goal.returns
 returns c =
