@@ -1,0 +1,10 @@
+-- What is left to go through grows less.
+use Prim.Native.Nat.{◌-◌}
+use lib.ListN.{length}
+use Rattle.picture.proofs.dump.put.Given as goal
+
+abbrev pub invariant-loop-k : goal.invariant-loop-k
+invariant-loop-k l = Unit {0}
+
+abbrev pub decreases-loop-k : goal.decreases-loop-k
+decreases-loop-k l = length l.words - l.k
