@@ -1,10 +1,8 @@
 -- `tail::blocks` meets its contract: each turn brings the copy 128 bytes further.
 use Prim.Native.Nat.{◌-◌, ◌%◌, ◌≤◌}
-use native.Mathlib.Omega.{arith}
-use mathlib.Core.Path.{◌≡◌, refl, ◌∙◌}
+use mathlib.Core.Path.{◌≡◌}
 use lib.ListN.{length}
-use Rattle.tail.proofs.Copies.{lent, Copied, further, up_to-all}
-use borrow.Author.Rules.{rules}
+use Rattle.tail.proofs.Copies.{Copied}
 use Rattle.tail.proofs.blocks.Given as goal
 
 abbrev pub invariant-loop-i : goal.invariant-loop-i
