@@ -40,7 +40,7 @@ fn put(head: &[u8], data: &[u8], end: &[u8], out: &mut [u8]) -> usize
 {
     let at = head.len();
     let behind = at + data.len();
-    bytes::copy(head, out);
+    out[..at].copy_from_slice(head);
     tail::few(&mut out[behind..], end);
     tail::fill(&mut out[at..], data);
     behind + end.len()
