@@ -1,6 +1,6 @@
 /* Hex-Bus for a gateway: serial and video units, the controller with its polling ring, messages and device classes.
  *
- * Link libgateway.a (`rt staticlib gateway`). Nothing is allocated, there are no globals, and no call keeps a pointer.
+ * Link libgateway.a (`rt lib` in crates/gateway makes it, in out/). Nothing is allocated, there are no globals, and no call keeps a pointer.
  * State lives in memory of the caller: a hexbus_unit or a hexbus_controller is made by its make call and then changed by its
  * calls alone. Its words may be copied, stored and moved like any other bytes.
  *
