@@ -4,7 +4,11 @@
 
 pub mod files;
 
-use libc::STDERR_FILENO;
+ghost use Rattle.std.specs.Prelude.{◌≤◌};
+
+use page::STDERR_FILENO;
+use std::env::FillError;
+use std::rt::Env;
 
 // What the words behind `run` ask for: how many scripts, whether frames are pictured, and which words name the files of the dump and of the
 // screens, 0 for none.
@@ -18,7 +22,7 @@ pub struct Wanted {
 }
 
 // The words behind `run`. What is wrong with them is said.
-pub fn words() -> Wanted {
+pub fn words(rt: &impl Env) -> Wanted {
     let mut w = Wanted {
         scripts: 0,
         pictured: 0,
@@ -26,13 +30,34 @@ pub fn words() -> Wanted {
         screen: 0,
         is_wrong: false,
     };
-    let n = os::arg_count();
+    let n = count(rt);
     let mut i = 2usize;
     while i < n {
-        w = with_word(w, i);
+        w = with_word(rt, w, i);
         i += 1;
     }
     checked(w, n)
+}
+
+// How many words the command line has, the program's own name among them.
+pub fn count(rt: &impl Env) -> usize {
+    let mut front = [0u8; 1];
+    for i in 0..usize::MAX {
+        if matches!(rt.arg(i, &mut front), Err(FillError::NotPresent)) {
+            return i;
+        }
+    }
+    usize::MAX
+}
+
+// A word of the command line, at the front of a name; how many letters it has, 0 where it is missing or too long for a name.
+pub fn arg(rt: &impl Env, i: usize, name: &mut [u8; 4096]) -> usize
+    ensures { result ≤ 4096 }
+{
+    match rt.arg(i, name) {
+        Ok(n) => n,
+        Err(_) => 0,
+    }
 }
 
 // What only all of them together show to be wrong.
@@ -55,9 +80,9 @@ fn checked(w: Wanted, n: usize) -> Wanted {
     next
 }
 
-fn with_word(w: Wanted, i: usize) -> Wanted {
+fn with_word(rt: &impl Env, w: Wanted, i: usize) -> Wanted {
     let mut name = [0u8; 4096];
-    let n = os::arg(i, &mut name);
+    let n = arg(rt, i, &mut name);
     let word = &name[..n];
     let mut next = w;
     if (w.dump == i) | (w.screen == i) {
