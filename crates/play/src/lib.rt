@@ -8,8 +8,8 @@ pub mod noted;
 pub mod pictured;
 
 use desk::{Desk, hosts, judge, plan, tell};
-use page::STDERR_FILENO;
 use line::Lines;
+use page::STDERR_FILENO;
 use statement::{A_ROUND, Doing, Numbers, OF_CONTROLLER, ONE_MORE, Statement};
 
 // A run until something has happened is at most so long, where the script sets no limit.
