@@ -8,8 +8,11 @@ use bench::Acted;
 use bus::Bus;
 use desk::tally::Tally;
 use desk::{Desk, tally};
-use libc::STDOUT_FILENO;
+use page::STDOUT_FILENO;
 use play::{noted, pictured};
+use std::fs::File;
+use std::io::Input;
+use std::rt::{Env, Files};
 
 // A bus, and what is kept beside it.
 #[derive(Clone, Copy)]
@@ -21,22 +24,22 @@ struct Bench {
 // Where the verdict goes.
 const VERDICT: i32 = 9;
 
-fn main() {
+fn main(rt: HostRuntime) {
     let mut forms = [0u8; 8192];
-    if done(&mut forms) {
+    if done(&rt, &mut forms) {
         io::write_all(VERDICT, b"ok\n");
     }
 }
 
 // What the first word asks for; whether it was done.
-fn done(page: &mut [u8; 8192]) -> bool {
+fn done<R: Env + Files<File = File> + Input>(rt: &R, page: &mut [u8; 8192]) -> bool {
     let mut name = [0u8; 4096];
     let n = script::forms(page);
-    let k = os::arg(1, &mut name);
+    let k = asked::arg(rt, 1, &mut name);
     let first = &name[..k];
     let forms = word::front(page, n);
     if word::is(first, b"run") {
-        return run(forms);
+        return run(rt, forms);
     }
     if (k == 0) | word::is(first, b"help") | word::is(first, b"--help") {
         return help(forms);
@@ -67,24 +70,35 @@ is the number of the pass.
     true
 }
 
-fn run(forms: &[u8]) -> bool {
-    let w = asked::words();
+fn run<R: Env + Files<File = File> + Input>(rt: &R, forms: &[u8]) -> bool {
+    let w = asked::words(rt);
     if w.is_wrong {
         return false;
     }
     let mut text = [0u8; 1048577];
-    lent(forms, w, &mut text)
+    lent(rt, forms, w, &mut text)
 }
 
 // The memory for all scripts.
-fn lent(forms: &[u8], w: Wanted, text: &mut [u8; 1048577]) -> bool {
+fn lent<R: Env + Files<File = File> + Input>(
+    rt: &R,
+    forms: &[u8],
+    w: Wanted,
+    text: &mut [u8; 1048577],
+) -> bool {
     let mut bytes = [0u8; 159744];
-    scripts(forms, w, text, &mut bytes)
+    scripts(rt, forms, w, text, &mut bytes)
 }
 
 // Each script in the order of the words; whether all of them were played whole and every expectation held.
-fn scripts(forms: &[u8], w: Wanted, text: &mut [u8; 1048577], bytes: &mut [u8; 159744]) -> bool {
-    let n = os::arg_count();
+fn scripts<R: Env + Files<File = File> + Input>(
+    rt: &R,
+    forms: &[u8],
+    w: Wanted,
+    text: &mut [u8; 1048577],
+    bytes: &mut [u8; 159744],
+) -> bool {
+    let n = asked::count(rt);
     let mut t = Tally {
         held: 0,
         failed: 0,
@@ -94,7 +108,7 @@ fn scripts(forms: &[u8], w: Wanted, text: &mut [u8; 1048577], bytes: &mut [u8; 1
     let mut i = 2usize;
     while i < n {
         if (i != w.dump) & (i != w.screen) {
-            t = named(forms, w, i, t, text, bytes);
+            t = named(rt, forms, w, i, t, text, bytes);
         }
         i += 1;
     }
@@ -102,7 +116,8 @@ fn scripts(forms: &[u8], w: Wanted, text: &mut [u8; 1048577], bytes: &mut [u8; 1
 }
 
 // The script that a word names; an option is passed over.
-fn named(
+fn named<R: Env + Files<File = File> + Input>(
+    rt: &R,
     forms: &[u8],
     w: Wanted,
     i: usize,
@@ -111,18 +126,18 @@ fn named(
     bytes: &mut [u8; 159744],
 ) -> Tally {
     let mut name = [0u8; 4096];
-    let n = os::arg(i, &mut name);
+    let n = asked::arg(rt, i, &mut name);
     let word = &name[..n];
     if asked::is_option(word) {
         return t;
     }
-    let length = files::load(word, text);
+    let length = files::load(rt, word, text);
     let script = word::front(text, length);
-    let dump = playable(forms, w, word, script, bytes);
+    let dump = playable(rt, forms, w, word, script, bytes);
     let screen = if dump < 0 {
         -1
     } else {
-        files::open(w.screen, true)
+        files::open(rt, w.screen, true)
     };
     if screen < 0 {
         return tally::not_run(t, bytes, word);
@@ -135,7 +150,14 @@ fn named(
 
 // A script is played only if every line of it can be, and its dump can be written: the descriptor of that, 0 for none; -1 for a script that
 // is not played.
-fn playable(forms: &[u8], w: Wanted, name: &[u8], text: &[u8], bytes: &mut [u8; 159744]) -> i32 {
+fn playable<R: Env + Files<File = File>>(
+    rt: &R,
+    forms: &[u8],
+    w: Wanted,
+    name: &[u8],
+    text: &[u8],
+    bytes: &mut [u8; 159744],
+) -> i32 {
     if text.len() == 0 {
         return -1;
     }
@@ -146,7 +168,7 @@ fn playable(forms: &[u8], w: Wanted, name: &[u8], text: &[u8], bytes: &mut [u8; 
         page::say(STDOUT_FILENO, b": nothing was run\n\n");
         return -1;
     }
-    let dump = files::open(w.dump, false);
+    let dump = files::open(rt, w.dump, false);
     if 0 <= dump {
         page::show(STDOUT_FILENO, name);
         page::say(STDOUT_FILENO, b"\n");
