@@ -38,15 +38,15 @@ module _ (ws : List ℕ) (hsk : Bool) (d : List ℕ) where
 
   module _ (w : flag_of (at ws WAIT) ≡ false) where
     pub keeps : eqb (at ws SENDER) 1 ≡ true → set ws SENDER 2 ≡ carried_in ws (stage_after ws hsk d)
-    keeps p = after (Kept (at ws NIBBLE % 256)) (simp (unchanged, flag_again (at ws WAIT) false w, tag_set 3 (at ws SENDER) 2 refl)) (rw (w, p))
+    keeps p = after (Kept (at ws NIBBLE % 256)) (simp (unchanged, tag_set 3 (at ws SENDER) 2 refl)) (rw (w, p))
 
     module _ (p : eqb (at ws SENDER) 1 ≡ false) where
       pub places : {nibble : ℕ} → eqb (at ws SENDER) 2 ≡ false → nibble ≡ number_in 256 (at ws NIBBLE) (nibble_of (loaded_frame ws) d (at ws NEXT))
           → set (set ws SENDER 1) NIBBLE nibble ≡ carried_in ws (stage_after ws hsk d)
-      places k e = after (Placed (nibble_of (loaded_frame ws) d (at ws NEXT))) (simp (unchanged, e, flag_again (at ws WAIT) false w, tag_set 3 (at ws SENDER) 1 refl)) (rw (w, p, k))
+      places k e = after (Placed (nibble_of (loaded_frame ws) d (at ws NEXT))) (simp (unchanged, e, tag_set 3 (at ws SENDER) 1 refl)) (rw (w, p, k))
 
       pub stays : eqb (at ws SENDER) 2 ≡ true → hsk ≡ true → ws ≡ carried_in ws (stage_after ws hsk d)
-      stays k h = after (Kept (at ws NIBBLE % 256)) (simp (unchanged, flag_again (at ws WAIT) false w, tag_again 3 (at ws SENDER) 2 (tag_of_lem 3 (at ws SENDER) 2 k refl))) (rw (w, p, k, h))
+      stays k h = after (Kept (at ws NIBBLE % 256)) (simp (unchanged, tag_again 3 (at ws SENDER) 2 (tag_of_lem 3 (at ws SENDER) 2 k refl))) (rw (w, p, k, h))
 
       pub is-sent : {l : List ℕ} → eqb (at ws SENDER) 2 ≡ true → hsk ≡ false → l ≡ carried_in ws (next_nibble (loaded_frame ws) (at ws NEXT)) → l ≡ carried_in ws (stage_after ws hsk d)
       is-sent k h e = let next : stage_after ws hsk d ≡ next_nibble (loaded_frame ws) (at ws NEXT) = rw (w, p, k, h) in e ∙ ap (carried_in ws) (sym next)
