@@ -7,7 +7,7 @@ use mathlib.Core.Bool.{Bool}
 use mathlib.Core.List.{List, [], ◌∷◌, ◌++◌, append_assoc, append-nil}
 use borrow.Rule.Slice.PartMut.{mid_of, put_mid, drop_put, mid_len}
 use lib.ListN.{length, take, drop, get_or, set, take-append-drop, length-append, length-drop, drop_of_length-le}
-use lib.Seq.{drop-cons, drop-drop, drop_at, drop-set-lt, take-add, take_at, take-length, take-take, take-append-add, take-suc-set, length-take-le, append_snoc}
+use lib.Seq.{drop-cons, drop-drop, drop_at, drop-set-lt, take-add, take_at, take-length, take-take, take-suc-set, length-take-le, append_snoc}
 use Rattle.line.specs.Line.{wired}
 use Rattle.line.specs.declared.Lines.{Lines}
 use Rattle.message.specs.Answer.{Answer}

@@ -198,7 +198,7 @@ fn copied(s: &[u8], from: usize) -> [u8; 256]
 {
     let mut copy = [0u8; 256];
     let end = from + 256;
-    bytes::copy(&s[from..end], &mut copy);
+    copy.copy_from_slice(&s[from..end]);
     copy
 }
 
@@ -207,7 +207,8 @@ fn put(part: &[u8; 256], s: &mut [u8], from: usize)
     requires { from + 256 ≤ length s.old }
     ensures { s.new ≡ take from s.old ++ (part.now ++ drop (from + 256) s.old) }
 {
-    bytes::copy(part, &mut s[from..]);
+    let end = from + 256;
+    s[from..end].copy_from_slice(part);
 }
 
 // A count of units: one over 16 is that of sixteen.
