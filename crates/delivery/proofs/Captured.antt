@@ -24,7 +24,7 @@ use Rattle.delivery.specs.Calls.{Call, host, submits, acknowledges, lends, lends
 use Rattle.delivery.specs.Demand2.{Ended}
 use Rattle.delivery.specs.Run.{QuietStart, Run, start, a_round, a_call, codes_of}
 use Rattle.delivery.proofs.Rounds.{Took, takes_it, took_it}
-use Rattle.delivery.specs.Lists.{All, none, also, Has, here, there}
+use Rattle.delivery.specs.Lists.{All, none, also, Has}
 use Rattle.delivery.specs.Log.{Act, sent, heard, told, acts, settled, Mark, stage_marks, begun_by, ended_by, round_marks, call_marks, log, Capture, cut_all, frames_of, deeds_in}
 use Rattle.delivery.proofs.Promised.{Moment}
 use Rattle.delivery.proofs.Stages.{Fresh, idles, selects, InFrame, begins, sends, hears, waits, On, rests, submitted, ended, runs, is_free, is_resting, is_answered}

@@ -23,7 +23,7 @@ use Rattle.ring.specs.declared.Ring.{Ring}
 use Rattle.serial.specs.declared.Reply.{Reply}
 use Rattle.unit.specs.Unit.{pulls_hsk, pulls_nibble}
 use Rattle.delivery.specs.Run.{codes_of}
-use Rattle.delivery.specs.Lists.{All, none, also, One, this, that, Has, here, there}
+use Rattle.delivery.specs.Lists.{All, none, also, One, this, that, Has, there}
 use Rattle.delivery.specs.Log.{Act, heard, told, Deed, settled, Mark, acts, deeds_by, ended_by, Capture, acts_in, deeds_in, sent, took, spoke, done}
 use Rattle.delivery.proofs.Moves.{Becomes, in_front, behind}
 use Rattle.delivery.proofs.Promised.{Moment, Promised}
@@ -34,7 +34,6 @@ use Rattle.delivery.proofs.EveryRound.{in_frame_nibble, in_frame_low}
 use Rattle.delivery.proofs.Frame.{talk_responds, control, own_kept}
 use Rattle.delivery.proofs.Lists.{all_map, all_zip, all_becomes, one_all}
 use Rattle.delivery.proofs.Listening.{hearing as lines, one_seen, talk_nibble, sits_step}
-use Rattle.delivery.proofs.Part.{speaks}
 use Rattle.delivery.proofs.Spoken.{count, hearing, HeardOf, Spoken, goes_on, is_done, Speech, talk-spoken, only, took_no, spoke_no, settled_first}
 use Rattle.delivery.proofs.Story.{DidAt, TellsBy, TellsAt, Still, Acted, listening_so, later_of, acts-now, did-now, tells-now, not_answering, answers_at, stands_has, step_in, deeds-now}
 use Rattle.answer.specs.declared.Response.TheVariants.{Complete as Whole}

@@ -1,5 +1,5 @@
 -- Between frames, and frame after frame: every round and every call of a run leads from one such world to the next.
-use Prim.Native.Nat.{ℕ, zero, suc, ◌+◌, ◌-◌, ◌<◌, ◌≤◌}
+use Prim.Native.Nat.{ℕ, zero, suc, ◌+◌, ◌<◌, ◌≤◌}
 use native.Mathlib.Omega.{arith}
 use mathlib.Core.Path.{◌≡◌, refl, sym, ◌∙◌, ap, subst}
 use mathlib.Core.Bool.{Bool, true, false, cond, ◌||◌, false≢true}
@@ -37,7 +37,6 @@ use Rattle.turn.specs.Turn.{turn_of, ring_by, ring_ended}
 use Rattle.unit.specs.Unit.{pulls_nibble}
 use Rattle.whole.specs.Whole.{Sent}
 use Rattle.delivery.proofs.Stages.{AtRest, Codes, Finishes, Framed, Fresh, Goes, InFrame, Noted, On, Sits, Sound, Spoke, answer_data, answered, begins, ended, hears, idles, is_free, is_resting, moved_in, on, rests, runs, selects, sends, spoke, submitted, unanswered, waits, world}
-use Rattle.delivery.specs.Calls.{host}
 use Rattle.delivery.proofs.Promised.{Moment}
 use Rattle.delivery.specs.Lists.{All, none, also, One, this, that}
 use Rattle.delivery.specs.World.{World, Busy, round, Different}

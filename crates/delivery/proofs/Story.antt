@@ -38,7 +38,7 @@ use Rattle.serial.specs.declared.Reply.{Reply}
 use Rattle.serial.specs.declared.Reply.TheVariants.{Silent}
 use Rattle.whole.specs.Whole.{bytes_for}
 use Rattle.whole.proofs.Whole.{length_bytes}
-use Rattle.delivery.specs.Lists.{All, Has, here, there}
+use Rattle.delivery.specs.Lists.{All, Has}
 use Rattle.delivery.specs.Log.{Act, sent, heard, Deed, settled, spoke, Mark, acts, deeds_by, units_marks, stage_marks, round_marks, Capture, acts_in, deeds_in}
 use Rattle.delivery.proofs.Moves.{Becomes}
 use Rattle.delivery.proofs.Promised.{Moment, Promised}

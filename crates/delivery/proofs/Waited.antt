@@ -1,5 +1,5 @@
 -- A frame's log while the controller listens and nobody responds.
-use Prim.Native.Nat.{ℕ, ◌+◌}
+use Prim.Native.Nat.{ℕ}
 use mathlib.Core.Path.{◌≡◌, refl, sym, ◌∙◌, ap, subst}
 use mathlib.Core.Bool.{Bool, true, false, cond}
 use mathlib.Core.List.{List, [], ◌∷◌, ◌++◌, append-nil, map}
@@ -15,7 +15,7 @@ use Rattle.line.specs.declared.Lines.{Lines}
 use Rattle.phase.specs.declared.Phase.{Phase}
 use Rattle.ring.specs.declared.Ring.{Ring}
 use Rattle.delivery.specs.Run.{codes_of}
-use Rattle.delivery.specs.Lists.{All, here, there}
+use Rattle.delivery.specs.Lists.{All}
 use Rattle.delivery.specs.Log.{Act, heard, told, acts, ended_by, Capture, acts_in, deeds_in, sent}
 use Rattle.delivery.proofs.Promised.{Moment}
 use Rattle.delivery.proofs.Stages.{Sits, Sound, InFrame, is_responding, Framed, world, Finishes, moved_in, waits, Hushed}
@@ -25,7 +25,7 @@ use Rattle.delivery.proofs.EveryRound.{in_frame_nibble, in_frame_low}
 use Rattle.delivery.proofs.Frame.{control, own_kept}
 use Rattle.delivery.proofs.Lists.{all_map, all_zip, all_becomes}
 use Rattle.delivery.proofs.Story.{DidAt, Acted, listening_so, later_of, acts-now, did-now, not_answering, step_in}
-use Rattle.delivery.specs.Demand2.{event_told, unit, end_by, Ended, nobody}
+use Rattle.delivery.specs.Demand2.{event_told, end_by, Ended, nobody}
 use Rattle.delivery.proofs.Completed.{tells_so, all_codes, hush-hushes, hush-part}
 use Rattle.frame.specs.declared.Moved.{Moved}
 use Rattle.answer.specs.Answer.{nothing_taken}

@@ -2,4 +2,3 @@
 // definitions in specs/, proofs in proofs/. There is no code here.
 
 #![tactic(auto)]
-

@@ -1,4 +1,3 @@
 // The papers' marked cases: a list and one statement, in specs/ and proofs/. There is no code here.
 
 #![tactic(auto)]
-

@@ -10,7 +10,7 @@ use lib.ListN.{length}
 use Rattle.controller.specs.declared.Controller.{Controller}
 use Rattle.delivery.specs.Calls.{Call, host, submits as submitsTo, acknowledges as acknowledgesTo, lends, lends_unit, called, in_frame, running}
 use Rattle.delivery.specs.Demand2.{Answerer, nobody, unit, Answers, Speaks, Ended as Complete, Delivered, all_ended, one_runs, TellsEnds, nothing, of_a_frame, reply_to, status_by, data_by, event_told}
-use Rattle.delivery.specs.Lists.{also, that, Has, here, there}
+use Rattle.delivery.specs.Lists.{also, Has, here, there}
 use Rattle.delivery.specs.Log.{Act, told, settled, Mark, begins, acts, does as did, asks, submitted, round_marks, call_marks, log, Capture, with_mark as noted, cut_all, frames_of, act_in, acts_in, deeds_in}
 use Rattle.delivery.specs.Run.{QuietStart, Run, start, a_round, a_call, codes_of}
 use Rattle.delivery.specs.World.{World, Busy, round, outcome}

@@ -2,4 +2,3 @@
 // proofs/. There is no code here.
 
 #![tactic(auto)]
-
