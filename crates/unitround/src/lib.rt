@@ -320,9 +320,9 @@ fn responding(words: &mut Words, hsk: bool, input: &[u8; 256])
 
 // The nibble is sent: on to the next, or what waited for the last happens.
 fn sent(words: &mut Words)
-    requires words_value { eqb (at words.old PHASE) 4 ≡ true }
-    requires words_value_2 { flag_of (at words.old WAIT) ≡ false }
-    requires words_value_3 { eqb (at words.old SENDER) 2 ≡ true }
+    requires is_responding { eqb (at words.old PHASE) 4 ≡ true }
+    requires waits_no_more { flag_of (at words.old WAIT) ≡ false }
+    requires is_kept { eqb (at words.old SENDER) 2 ≡ true }
     ensures { words.new ≡ sends words.old }
 {
     let reply = unitwords::reply(words[REPLY], words[VALUE]);
