@@ -5,7 +5,7 @@ use Rattle.kind.specs.declared.Kind.{Kind}
 use Rattle.message.specs.Answer.{Answer, gives, refused, kept}
 use Rattle.queue.specs.Queue.{held, room, queue_with, bytes_with, popped}
 use Rattle.queue.specs.declared.Popped.{Popped}
-use Rattle.queue.specs.declared.Popped.TheVariants.{Byte as Front, Nothing as None}
+use Rattle.queue.specs.declared.Popped.TheVariants.{Byte as Front, Nothing as Empty}
 use Rattle.serial.specs.Serial.{with_input, with_output, with_request}
 use Rattle.serial.specs.declared.Serial.{Serial}
 use Rattle.unit.specs.Unit.{new_unit}
@@ -58,11 +58,11 @@ fed NotOpen = refused 7
 -- Taking: the oldest byte of the output queue, or nothing.
 abbrev pub taking_in : Serial → Popped → Serial
 taking_in s (Front b q) = with_output s q
-taking_in s None = s
+taking_in s Empty = s
 
 abbrev pub taken_by : Unit → Popped → Taken
 taken_by u (Front b q) = Byte b (with_serial u (taking_in u.serial (Front b q)))
-taken_by u None = Nothing
+taken_by u Empty = Nothing
 
 abbrev pub taking : Unit → List ℕ → Taken
 taking u output = taken_by u (popped output u.serial.output)
