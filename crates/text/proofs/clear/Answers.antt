@@ -4,6 +4,3 @@ use Rattle.text.proofs.clear.Goals as goal
 
 pub returns-then-cells-ge-CELLS : goal.returns-then-cells-ge-CELLS
 returns-then-cells-ge-CELLS c = simp (tests, c.if-cells-ge-CELLS.true) c.erase.ensures
-
-pub returns-else-cells-ge-CELLS : goal.returns-else-cells-ge-CELLS
-returns-else-cells-ge-CELLS c = simp (tests, c.if-cells-ge-CELLS.false)

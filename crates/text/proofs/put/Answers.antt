@@ -1,20 +1,13 @@
 -- `text::put` meets its contract: at each turn one character more of a copy of the text into the cells.
-use Prim.Native.Nat.{ℕ, ◌+◌, ◌-◌, ◌≤◌, ◌<◌}
+use Prim.Native.Nat.{ℕ, ◌+◌, ◌≤◌, ◌<◌}
 use native.Mathlib.Numerals.{add-one}
 use native.Mathlib.Omega.{arith}
-use mathlib.Core.Path.{refl, sym, ◌∙◌, ap}
+use mathlib.Core.Path.{sym, ◌∙◌, ap}
 use borrow.Author.Count.{below_more}
 use lib.ListN.{length, drop, set, get_or, length-set, length-drop}
-use lib.Seq.{paste, paste-zero, paste-suc, get_or-drop}
+use lib.Seq.{paste, paste-suc, get_or-drop}
 use Rattle.text.proofs.put.Goals as goal
 use Rattle.text.proofs.put.Goals.{then-most-left, else-most-left}
-
-pub loop-n-init : goal.loop-n-init
-loop-n-init c =
-    let a = c.args in
-    let least : (c.if-most-left.end ≤ a.most) × (c.if-most-left.end ≤ length a.text.now - a.i) =
-    elim c.if-most-left.branch [ then-most-left w ↦ (omega arith, omega arith) | else-most-left w ↦ (omega arith, omega arith) ] in
-    (least, (omega arith, (refl, (paste-zero a.cells.now a.place (drop a.i a.text.now), λ k h. absurd (omega arith)))))
 
 pub loop-n-preserved : goal.loop-n-preserved
 loop-n-preserved c =

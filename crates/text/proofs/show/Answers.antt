@@ -2,19 +2,11 @@
 use Prim.Native.Nat.{◌+◌, ◌<◌}
 use native.Mathlib.Omega.{arith}
 use mathlib.Core.Bool.{Bool}
-use mathlib.Core.Path.{refl, sym, ◌∙◌, ap}
+use mathlib.Core.Path.{◌∙◌, ap}
 use lib.ListN.{length}
 use Rattle.screen.specs.Screen.{at}
-use Rattle.text.proofs.Texts.{drawn_if, ready, text_end, drawn_if_end, after_run, after_byte}
+use Rattle.text.proofs.Texts.{drawn_if, text_end, drawn_if_end, after_run, after_byte}
 use Rattle.text.proofs.show.Goals as goal
-
-pub loop-i-init : goal.loop-i-init
-loop-i-init c =
-    let a = c.args in
-    (omega arith, (λ h. ready a.s a.cells.now (sym c.is_drawn-draws.ensures ∙ h), (refl, (refl, refl))))
-
-pub run-n-requires : goal.run-n-requires
-run-n-requires c = (c.loop-i-test.true, c.loop-i.invariant.1.0)
 
 pub returns-then-text-i : goal.returns-then-text-i
 returns-then-text-i c =
@@ -31,20 +23,6 @@ returns-then-text-i c =
       text_end t text (i + n) c.if-text-i.true ∙ ran.1.1.0 ∙ inv.1.1.1.0,
       drawn_if_end told.result t text _ (i + n) c.if-text-i.true ∙ ran.1.1.1 ∙ inv.1.1.1.1 ∙ ap (λ (d : Bool). drawn_if d a.s text a.cells.now) told.ensures,
     )
-
-pub draw-requires : goal.draw-requires
-draw-requires c =
-    let s = c.loop-i.after in
-    let cells = c.loop-i.cells in
-    let i = c.loop-i.i in
-    let n = c.run-n.result in
-    let inv = c.loop-i.invariant in
-    let told = c.is_drawn-draws in
-    let a = c.args in
-    let text = a.text.now in
-    let t = at s s.row (s.column + n) in
-    let ran = after_run told.result s text cells _ i n inv.1.0 c.run-n.ensures.draws_value.0 c.run-n.ensures.result_in_bounds c.run-n.ensures.cells_after in
-    ran.0
 
 pub loop-i-preserved : goal.loop-i-preserved
 loop-i-preserved c =
@@ -65,14 +43,4 @@ loop-i-preserved c =
         step.0,
         (step.1.0 ∙ ran.1.0 ∙ inv.1.1.0, (step.1.1.0 ∙ ran.1.1.0 ∙ inv.1.1.1.0, step.1.1.1 ∙ ran.1.1.1 ∙ inv.1.1.1.1)),
       ),
-    )
-
-pub returns : goal.returns
-returns c =
-    let inv = c.loop-i.invariant in
-    let told = c.is_drawn-draws in
-    let a = c.args in
-    let text = a.text.now in (
-      text_end c.loop-i.after text c.loop-i.i c.loop-i-test.false ∙ inv.1.1.1.0,
-      drawn_if_end told.result c.loop-i.after text c.loop-i.cells c.loop-i.i c.loop-i-test.false ∙ inv.1.1.1.1 ∙ ap (λ (d : Bool). drawn_if d a.s text a.cells.now) told.ensures,
     )

@@ -1,17 +1,11 @@
 -- `text::cells::close_up` meets its contract: at each turn one cell more of a copy of those behind the gap; then the gap's are erased.
-use Prim.Native.Nat.{◌+◌, ◌-◌}
+use Prim.Native.Nat.{◌-◌}
 use native.Mathlib.Numerals.{add-one}
 use native.Mathlib.Omega.{arith}
-use mathlib.Core.Path.{◌≡◌, refl, ◌∙◌}
-use lib.ListN.{drop, length-set}
-use lib.Seq.{paste-zero}
+use mathlib.Core.Path.{◌≡◌, ◌∙◌}
+use lib.ListN.{length-set}
 use Rattle.text.proofs.Moves.{closed-next, closed_all}
 use Rattle.text.proofs.cells.close_up.Goals as goal
-
-pub loop-i-init : goal.loop-i-init
-loop-i-init c =
-    let a = c.args in
-    (omega arith, (refl, paste-zero a.cells.now a.from (drop (a.from + a.g) a.cells.now)))
 
 pub loop-i-preserved : goal.loop-i-preserved
 loop-i-preserved c =

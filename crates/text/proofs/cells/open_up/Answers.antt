@@ -1,18 +1,11 @@
 -- `text::cells::open_up` meets its contract: a copy that grows at its front, from the last cell that is kept; then the gap is erased.
-use Prim.Native.Nat.{suc, ◌+◌, ◌-◌, ◌<◌}
+use Prim.Native.Nat.{suc, ◌-◌, ◌<◌}
 use native.Mathlib.Nat.{add-zero, sub-zero}
 use native.Mathlib.Omega.{arith}
-use mathlib.Core.Path.{◌≡◌, refl, ◌∙◌}
-use lib.ListN.{drop, length-set}
-use lib.Seq.{paste-zero}
+use mathlib.Core.Path.{◌≡◌, ◌∙◌}
+use lib.ListN.{length-set}
 use Rattle.text.proofs.Moves.{opened-next, opened-all}
 use Rattle.text.proofs.cells.open_up.Goals as goal
-
-pub loop-i-init : goal.loop-i-init
-loop-i-init c =
-    let a = c.args in
-    let none : a.n - a.g - (a.n - a.g) ≡ 0 = omega arith in
-    (omega arith, (refl, rw none (paste-zero a.cells.now (a.from + a.g + (a.n - a.g)) (drop (a.from + (a.n - a.g)) a.cells.now))))
 
 pub loop-i-preserved : goal.loop-i-preserved
 loop-i-preserved c =
