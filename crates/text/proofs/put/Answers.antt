@@ -23,7 +23,7 @@ loop-n-preserved c =
         omega arith,
         (
           simp length-set inv.1.1.0,
-          (rw (add-one, inv.1.1.1.0) (same ∙ store), below_more (λ (k : ℕ). 0x20 ≤ get_or text (a.i + k) 0) n inv.1.1.1.1 c.if-b-lt32.false),
+          (rw (add-one, inv.1.1.1.0) (same ∙ store), below_more (λ (k : ℕ). 0x20 ≤ get_or text (a.i + k) 0) n inv.1.1.1.1 (omega arith)),
         ),
       ),
     )
