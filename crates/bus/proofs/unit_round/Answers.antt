@@ -7,7 +7,24 @@ pub returns : goal.returns
 returns c =
     let a = c.args in
     let e = c.unit_after-after.ensures in
-    let parts = round_in_parts
-    a.u a.seen a.busy a.memory.now c.copied-buffer.result c.copied-input.result c.unit_after-after.new.buffer c.unit_after-after.new.output _ _ c.requires
-    c.copied-buffer.ensures c.copied-input.ensures e.value e.buffer_after e.output_after refl c.put.ensures in
-    record { value = parts.0; memory_after = parts.1 }
+    let both =
+    round_in_parts
+    a.u
+    a.seen
+    a.busy
+    a.memory.now
+    c.copied-buffer.result
+    c.copied-input.result
+    c.unit_after-after.new.buffer
+    c.unit_after-after.new.output
+    _
+    c.put.new.s
+    c.requires
+    c.copied-buffer.ensures
+    c.copied-input.ensures
+    e.value
+    e.buffer_after
+    e.output_after
+    refl
+    c.put.ensures in
+    record { value = both.0; memory_after = both.1 }

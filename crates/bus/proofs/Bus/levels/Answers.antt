@@ -1,30 +1,16 @@
 -- `Bus::levels` meets its contract: at each turn, the levels so far with the pulls of the units that are left.
-use Prim.Native.Nat.{suc, ◌≤◌, ◌<◌}
+use Prim.Native.Nat.{suc, ◌<◌}
 use native.Mathlib.Omega.{arith}
 use native.Mathlib.Numerals.{add-one}
-use mathlib.Core.Path.{◌≡◌, sym, ◌∙◌, ap}
-use borrow.Author.Rules.{rules}
-use lib.ListN.{length, take, drop, drop_of_length-le}
+use mathlib.Core.Path.{sym, ◌∙◌, ap}
+use lib.ListN.{length, take, drop}
 use lib.Seq.{get_or-take}
 use Rattle.line.specs.Line.{wired}
 use Rattle.line.specs.declared.Lines.{Lines}
 use Rattle.unit.specs.Unit.{pulls_of}
-use Rattle.ring.proofs.Laws.{mapped_length, front_length}
 use Rattle.bus.specs.Bus.{counted, levels_left}
 use Rattle.bus.proofs.Laws.{levels-next}
 use Rattle.bus.proofs.Bus.levels.Goals as goal
-
-pub loop-i-init : goal.loop-i-init
-loop-i-init c =
-    let b = c.args.self in
-    let n = c.up_to_16-n.ensures in
-    let full : length b.units ≡ 16 = search (rules, mapped_length) in (
-      omega arith,
-      (
-        omega (arith, n),
-        (front_length b.units b.count full ∙ sym n, ap (λ (l : Lines). levels_left l (take (counted b) b.units)) c.pulls-l.ensures),
-      ),
-    )
 
 pub loop-i-preserved : goal.loop-i-preserved
 loop-i-preserved c =
@@ -48,11 +34,3 @@ loop-i-preserved c =
         ),
       ),
     )
-
-pub returns : goal.returns
-returns c =
-    let b = c.args.self in
-    let us = take (counted b) b.units in
-    let inv = c.loop-i.invariant in
-    let all : length us ≤ c.loop-i.i = omega (arith, inv.1.1.0, c.loop-i-test.false) in
-    ap (levels_left c.loop-i.l) (sym (drop_of_length-le us all)) ∙ inv.1.1.1
