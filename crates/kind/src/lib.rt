@@ -17,6 +17,7 @@ pub enum Kind {
 }
 
 // The kind of a unit with this own code.
+#[tactic(auto, unfolding(crate::specs::Kinds::kind_of))]
 pub fn kind_of(own: u8) -> Kind
     ensures { result ≡ kind_of own }
 {
