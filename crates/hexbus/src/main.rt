@@ -1,5 +1,5 @@
-// Runs a bus on a desk: a controller and up to sixteen units, played by a script (docs/SCRIPTS.md). A program has no exit status: at its
-// very end it writes `ok` to descriptor 9 if all that it was asked for was done and every expectation held. The launcher reads that.
+// Runs a bus on a desk: a controller and up to sixteen units, played by a script (docs/SCRIPTS.md). It gives no exit status of its
+// own: at its very end it writes `ok` to descriptor 9 if all that it was asked for was done and every expectation held. The launcher reads that.
 
 #![tactic(auto)]
 
