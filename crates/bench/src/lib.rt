@@ -2,193 +2,132 @@
 
 #![tactic(auto)]
 
-use bus::Bus;
-use controller::Stepping;
-use controllercalls::told;
-use frame::Stage;
-use host::Made;
-use line::Lines;
-use statement::{Doing, Numbers, Statement, Told};
+ghost use Rattle.std.specs.Prelude.{◌≤◌};
 
-// A bus after an act, and what this came to.
-#[derive(Clone, Copy)]
-pub struct Acted {
-    pub bus: Bus,
-    pub told: Told,
-}
+use bus::{Bus, MEMORY};
+use desk::View;
+use picture::Marks;
+use statement::{Act, Doing, Form, Refusal, Statement, Stepped, Store, Told, UNIT_MEMORY, Values};
 
-// What is seen of a bus: its lines, whether the controller may start and nothing is submitted, and a bit for each unit that pulls BAV for a
-// request, and that holds one.
-#[derive(Clone, Copy)]
-pub struct View {
-    pub lines: Lines,
-    pub is_free: bool,
-    pub asking: u64,
-    pub requesting: u64,
-}
-
-// A bus with a controller of the default time-out and no unit.
-pub fn start() -> Bus {
-    let made = application::make(application::TIMEOUT);
-    Bus::new(made.controller)
-}
-
-// An act of the unit at a place under 16, of the controller, of all in a round, or one unit more.
-pub fn act(
+// A bus, the response buffer of its application, and the memory of its units.
+#[derive(Drop)]
+pub struct Bench {
     bus: Bus,
-    s: Statement,
-    w: Doing,
-    bytes: &mut [u8; 159744],
-    response: &mut [u8; 65536],
-    memory: &mut [u8; 38912],
-) -> Acted {
-    let act = w.act;
-    match act {
-        statement::A_ROUND => round(bus, w, bytes, response, memory),
-        statement::OF_CONTROLLER => of_controller(bus, s, w, bytes, response),
-        statement::ONE_MORE => one_more(bus, s.numbers),
-        _ => of_unit(bus, s, w, bytes, memory),
+    pub response: [u8; 65536],
+    pub memory: [u8; MEMORY],
+}
+
+impl Bench {
+    // A bus with a controller of the default time-out and no unit.
+    pub fn new() -> Bench {
+        let made = application::make(application::TIMEOUT);
+        Bench {
+            bus: Bus::new(made.controller),
+            response: [0; 65536],
+            memory: [0xEE; MEMORY],
+        }
+    }
+
+    // An act for a statement, and what it comes to.
+    pub fn act(&mut self, s: &Statement, doing: &Doing, store: &mut Store) -> Told {
+        match doing.act {
+            // The length of a forced command counts as in its frame, which has two bytes for it.
+            Act::Round => Told::Stepped(round(
+                &mut self.bus,
+                doing,
+                controllercalls::data(store, doing.length % 65536),
+                &mut self.response,
+                &mut self.memory,
+            )),
+            Act::Controller if s.is(Form::Step) => Told::Stepped(controllercalls::step(
+                &mut self.bus.controller,
+                s,
+                doing,
+                store,
+                &mut self.response,
+            )),
+            Act::Controller => Told::Called(controllercalls::act(
+                &mut self.bus.controller,
+                s,
+                store,
+                &mut self.response,
+            )),
+            Act::OneMore => Told::Called(self.one_more(&s.values)),
+            Act::Unit(i) => self.of_unit(i, s, doing, store),
+        }
+    }
+
+    // One unit more, if its settings are in range.
+    fn one_more(&mut self, values: &Values) -> Result<(), Refusal> {
+        let u = unitcalls::make(values)?;
+        self.bus = self.bus.with(u);
+        Ok(())
+    }
+
+    // The unit at a place. The ring as it was before is noted.
+    fn of_unit(&mut self, i: usize, s: &Statement, doing: &Doing, store: &mut Store) -> Told {
+        self.entries(store);
+        let part = self.memory.chunks_exact_mut(UNIT_MEMORY).nth(i);
+        match (self.bus.units.get_mut(i), part) {
+            (Some(u), Some(memory)) => unitcalls::act(u, s, doing, store, memory),
+            _ => Told::Called(Ok(())),
+        }
+    }
+
+    // The application acknowledges the request of a code.
+    pub fn acknowledge(&mut self, code: u8) {
+        // What is not marked stays as it is.
+        let _ = controllercalls::acknowledge(&mut self.bus.controller, code);
+    }
+
+    // What is seen of the bus.
+    pub fn view(&self) -> View {
+        let units = &self.bus.units;
+        View {
+            lines: self.bus.levels(),
+            is_free: controller::is_idle(self.bus.controller.stage),
+            asking: units.map(|u| u.asking),
+            is_requesting: units.iter().any(|u| u.serial.requesting),
+        }
+    }
+
+    // What the units and the controller leave on the lines (picture).
+    pub fn marks(&self) -> Marks {
+        let mut marks = [picture::RELEASED; 22];
+        for (mark, u) in marks.iter_mut().zip(self.bus.units.iter()) {
+            *mark = picture::mark(unit::pulls(*u));
+        }
+        marks[picture::CONTROLLER] = picture::mark(controller::pulls(self.bus.controller));
+        marks
+    }
+
+    // What an expectation finds of a unit by its place, none for the controller.
+    pub fn looks(&self, form: Option<Form>, party: Option<usize>) -> Values {
+        match party.and_then(|i| self.bus.units.get(i)) {
+            Some(u) => unitcalls::looks(u, form),
+            None => controllercalls::looks(&self.bus.controller, form),
+        }
+    }
+
+    // The entries of the ring are noted: how many bytes these are.
+    pub fn entries(&self, store: &mut Store) -> usize
+        ensures { result ≤ 32 }
+    {
+        controllercalls::entries(&self.bus.controller.ring, &mut store.ring)
     }
 }
 
 // A round of every party, with what was lent for the controller's command.
-fn round(bus: Bus, w: Doing, bytes: &[u8], response: &mut [u8], memory: &mut [u8; 38912]) -> Acted {
-    let lent = (w.lent % 65536) as usize;
-    let data = controllercalls::data(bytes, w.length % 65536);
-    let c = bus.controller;
-    let before = c.stage;
-    let seen = Lines {
-        bav: w.bav,
-        hsk: w.hsk,
-        nibble: w.nibble,
-    };
-    if lent <= response.len() {
-        let r = bus.round(seen, w.busy, data, &mut response[0..lent], memory);
-        let outcome = r.outcome;
-        return stepped(before, r.bus, outcome);
-    }
-    // No script lends more than there is.
-    stepped(before, bus, Stepping::Buffer)
-}
-
-// A bus whose controller has stepped, from a stage.
-fn stepped(before: Stage, bus: Bus, outcome: Stepping) -> Acted {
-    let c = bus.controller;
-    Acted {
-        bus,
-        told: told::told(before, c, outcome),
-    }
-}
-
-fn of_controller(
-    mut bus: Bus,
-    s: Statement,
-    w: Doing,
-    bytes: &mut [u8; 159744],
-    response: &mut [u8; 65536],
-) -> Acted {
-    let c = bus.controller;
-    if s.form == statement::STEP {
-        let before = c.stage;
-        let by_hand = controllercalls::step(c, s, w, bytes, response);
-        let after = by_hand.controller;
-        let outcome = by_hand.outcome;
-        bus.controller = after;
-        return stepped(before, bus, outcome);
-    }
-    let a = controllercalls::act(c, s, bytes, response);
-    let after = a.controller;
-    bus.controller = after;
-    Acted {
-        bus,
-        told: told::number(a.refusal),
-    }
-}
-
-// One unit more, if its settings are in range.
-fn one_more(bus: Bus, n: Numbers) -> Acted {
-    match unitcalls::make(n) {
-        Made::New(u) => Acted {
-            bus: bus.with(u),
-            told: told::number(0),
-        },
-        Made::Setting => Acted {
-            bus,
-            told: told::number(5),
-        },
-    }
-}
-
-fn of_unit(
-    mut bus: Bus,
-    s: Statement,
-    w: Doing,
-    bytes: &mut [u8; 159744],
-    memory: &mut [u8; 38912],
-) -> Acted {
-    let i = (w.act % 16) as usize;
-    entries(bus, bytes);
-    let a = unitcalls::act(bus.units[i], s, w, bytes, memory);
-    let u = a.unit;
-    bus.units[i] = u;
-    Acted {
-        bus,
-        told: told::number(a.number),
-    }
-}
-
-// The application acknowledges the request of a code.
-pub fn acknowledged(mut bus: Bus, code: u64) -> Bus {
-    let a = controllercalls::acknowledge(bus.controller, (code % 256) as u8);
-    let c = a.controller;
-    bus.controller = c;
-    bus
-}
-
-// What is seen of the bus and its first units.
-pub fn seen(bus: Bus, count: u64) -> View {
-    let c = bus.controller;
-    let stage = c.stage;
-    let mut s = View {
-        lines: bus.levels(),
-        is_free: controller::is_idle(stage),
-        asking: 0,
-        requesting: 0,
-    };
-    let mut i = count % 17;
-    while 0 < i {
-        i = i - 1;
-        let u = bus.units[(i % 16) as usize];
-        s.asking = s.asking % 65536 * 2 + u.asking as u64 % 2;
-        s.requesting = s.requesting % 65536 * 2 + u.serial.requesting as u64 % 2;
-    }
-    s
-}
-
-// What the first units and the controller leave on the lines (picture).
-pub fn marks(bus: Bus, count: u64) -> [u8; 22] {
-    let n = (count % 17) as usize;
-    let mut marks = [picture::RELEASED; 22];
-    let mut i = 0usize;
-    while i < n {
-        marks[i] = picture::mark(unit::pulls(bus.units[i % 16]));
-        i += 1;
-    }
-    marks[picture::CONTROLLER] = picture::mark(controller::pulls(bus.controller));
-    marks
-}
-
-// The numbers that an expectation finds of a party.
-pub fn looks(bus: Bus, form: u64, party: u64) -> Numbers {
-    if party < 16 {
-        return unitcalls::looks(bus.units[party as usize % 16], form);
-    }
-    controllercalls::looks(bus.controller, form)
-}
-
-// The entries of the ring are noted: how many bytes these are.
-pub fn entries(bus: Bus, bytes: &mut [u8; 159744]) -> u64 {
-    let c = bus.controller;
-    let ring = c.ring;
-    controllercalls::entries(ring, bytes)
+fn round(
+    bus: &mut Bus,
+    doing: &Doing,
+    data: &[u8],
+    response: &mut [u8],
+    memory: &mut [u8; MEMORY],
+) -> Stepped {
+    let before = bus.controller.stage;
+    let n = doing.lent.min(response.len());
+    let r = bus.round(doing.seen, doing.busy, data, &mut response[..n], memory);
+    *bus = r.bus;
+    controllercalls::stepped(before, &bus.controller, r.outcome)
 }

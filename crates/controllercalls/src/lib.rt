@@ -2,254 +2,191 @@
 
 #![tactic(auto)]
 
-pub mod told;
+mod told;
+
+ghost use Rattle.std.specs.Prelude.{◌≡◌, ◌≤◌, IfErr, take};
 
 use application::{Acknowledging, Making, Submitting};
-use controller::{Controller, Stepped, Stepping};
+use controller::Controller;
 use frame::Stage;
 use header::Command;
-use line::Lines;
 use ring::Ring;
-use statement::{COMMAND_BYTES, Doing, NONE, Numbers, RING_BYTES, Statement};
-
-// A controller after a call, and the refusal, 0 for none.
-#[derive(Clone, Copy)]
-pub struct Acted {
-    pub controller: Controller,
-    pub refusal: u64,
-}
+use statement::{Doing, Form, Refusal, Statement, Stepped, Store, Value, Values};
+pub use told::stepped;
 
 // What the statement says of the controller.
 pub fn act(
-    c: Controller,
-    s: Statement,
-    bytes: &mut [u8; 159744],
+    c: &mut Controller,
+    s: &Statement,
+    store: &mut Store,
     response: &mut [u8; 65536],
-) -> Acted {
-    let form = s.form;
-    match form {
-        statement::CONTROLLER => return make(c, statement::or(s.numbers.first, 200)),
-        statement::RESTART => return make(c, c.timeout as u64),
-        statement::SUBMIT..=statement::DO => return submit(c, s, bytes, response),
-        statement::ACKNOWLEDGE => return acknowledge(c, (s.numbers.first % 256) as u8),
-        _ => (),
+) -> Result<(), Refusal> {
+    match s.form {
+        Some(Form::Controller) => make(c, s.values.number_or(0, 200)),
+        Some(Form::Restart) => make(c, c.timeout as u64),
+        Some(Form::Submit | Form::Force | Form::Do) => submit(c, s, store, response),
+        Some(Form::Acknowledge) => acknowledge(c, (s.values.number_or(0, 0) % 256) as u8),
+        _ => Ok(()),
     }
-    Acted {
-        controller: c,
-        refusal: 0,
+}
+
+// The application acknowledges the request of a code.
+pub fn acknowledge(c: &mut Controller, code: u8) -> Result<(), Refusal>
+    ensures { IfErr result (λ e. (e ≡ 8) × (c.new ≡ c.old)) }
+{
+    let acknowledged = application::acknowledge(*c, code);
+    match acknowledged.outcome {
+        Acknowledging::Cleared => *c = acknowledged.controller,
+        Acknowledging::NotMarked => return Err(8),
     }
+    Ok(())
+}
+
+// A step by hand, with the data of the statement, or of the command if it has none; what this comes to.
+pub fn step(
+    c: &mut Controller,
+    s: &Statement,
+    doing: &Doing,
+    store: &Store,
+    response: &mut [u8],
+) -> Stepped {
+    let data = if s.values.has(7) {
+        word::front(&store.statement, s.bytes)
+    } else {
+        // A forced command may be longer than what is lent: its length comes round behind 65,536.
+        data(store, doing.length % 65537)
+    };
+    let lent = s.values.number_or(6, doing.lent as u64) as usize;
+    let n = lent.min(response.len());
+    let before = c.stage;
+    let by_hand = controller::step(*c, doing.seen, s.values.has(4), data, &mut response[..n]);
+    *c = by_hand.controller;
+    stepped(before, c, by_hand.outcome)
+}
+
+// The data of the command that was submitted last, so many bytes.
+pub fn data(store: &Store, length: usize) -> &[u8]
+    ensures { result.now ≡ take length store.now.command }
+{
+    word::front(&store.command, length)
+}
+
+// What an expectation finds of the controller: what it pulls, or all that the application may look at.
+pub fn looks(c: &Controller, form: Option<Form>) -> Values {
+    let mut found = Values::none();
+    if form == Some(Form::ExpectPulls) {
+        let pulls = controller::pulls(*c);
+        found.set(0, Some(Value::Word(1)));
+        found.set_flag(1, pulls.bav);
+        found.set_flag(2, pulls.hsk);
+        found.set_number(3, pulls.nibble as u64);
+    } else {
+        let looks = application::look(*c);
+        found.set_flag(0, looks.may_start);
+        found.set_flag(1, looks.submitted);
+    }
+    found
+}
+
+// The entries of the ring, noted as two bytes each: its code and its mark. How many bytes these are.
+pub fn entries(ring: &Ring, noted: &mut [u8; 32]) -> usize
+    ensures { result ≤ 32 }
+{
+    for (i, pair) in noted.chunks_exact_mut(2).enumerate() {
+        let e = ring.entry(i);
+        pair.copy_from_slice(&[e.code, e.marked as u8]);
+    }
+    2 * ring.len()
 }
 
 // A new controller with a time-out, or the one that there was.
-fn make(c: Controller, timeout: u64) -> Acted {
+fn make(c: &mut Controller, timeout: u64) -> Result<(), Refusal> {
     let made = application::make((timeout % 4294967296) as u32);
-    let outcome = made.outcome;
-    match outcome {
-        Making::New => with(made.controller, 0),
-        Making::Setting => with(c, 5),
+    match made.outcome {
+        Making::New => *c = made.controller,
+        Making::Setting => return Err(5),
     }
-}
-
-// The application acknowledges the request of a code. A refusal leaves the controller as it is.
-pub fn acknowledge(c: Controller, code: u8) -> Acted {
-    let acknowledged = application::acknowledge(c, code);
-    let outcome = acknowledged.outcome;
-    let refusal = match outcome {
-        Acknowledging::Cleared => 0,
-        Acknowledging::NotMarked => 8,
-    };
-    with(acknowledged.controller, refusal)
-}
-
-fn with(controller: Controller, refusal: u64) -> Acted {
-    Acted {
-        controller,
-        refusal,
-    }
+    Ok(())
 }
 
 // Submits the command of the statement, or forces it on the controller past the checks of the application. Its bytes are kept for its
 // frame, and the response buffer is filled with EE.
 fn submit(
-    c: Controller,
-    s: Statement,
-    bytes: &mut [u8; 159744],
+    c: &mut Controller,
+    s: &Statement,
+    store: &mut Store,
     response: &mut [u8; 65536],
-) -> Acted {
-    let refusal = refusal(c, s, bytes, response);
-    if 0 < refusal {
-        return Acted {
-            controller: c,
-            refusal,
+) -> Result<(), Refusal> {
+    check(c, s, store, response)?;
+    keep(s, store);
+    response.fill(0xEE);
+    let length = (length_of(s) % 65536) as u16;
+    let frame = frame::submitted(command_of(&s.values), length);
+    *c = controller::with_stage(*c, Stage::Waiting(frame));
+    Ok(())
+}
+
+// Why a command is refused. One that is forced is refused only while another runs.
+fn check(c: &Controller, s: &Statement, store: &Store, response: &[u8]) -> Result<(), Refusal> {
+    if s.is(Form::Force) {
+        return if controller::is_idle(c.stage) {
+            Ok(())
+        } else {
+            Err(1)
         };
     }
-    keep(s, bytes);
-    fill(response);
-    waiting(c, s)
-}
-
-// The refusal of a command, 0 for none. One that is forced is refused only while another runs.
-fn refusal(c: Controller, s: Statement, bytes: &[u8], response: &[u8]) -> u64 {
-    if s.form == statement::FORCE {
-        return forcing(c);
-    }
-    let lent = statement::or(s.numbers.sixth, 65535) % 65536;
+    let lent = s.values.number_or(5, 65535) as usize;
     let submitted = application::submit(
-        c,
-        command_of(s.numbers),
-        word::front(bytes, length_of(s) as usize),
-        word::front(response, lent as usize),
+        *c,
+        command_of(&s.values),
+        word::front(&store.statement, length_of(s)),
+        word::front(response, lent),
     );
-    let outcome = submitted.outcome;
-    match outcome {
-        Submitting::Accepted => 0,
-        Submitting::Running => 1,
-        Submitting::TooLong => 2,
-        Submitting::PollCommand => 3,
-        Submitting::FullRing => 4,
-        Submitting::ShortResponse => 11,
+    match submitted.outcome {
+        Submitting::Accepted => Ok(()),
+        Submitting::Running => Err(1),
+        Submitting::TooLong => Err(2),
+        Submitting::PollCommand => Err(3),
+        Submitting::FullRing => Err(4),
+        Submitting::ShortResponse => Err(11),
     }
-}
-
-fn forcing(c: Controller) -> u64 {
-    let stage = c.stage;
-    if controller::is_idle(stage) { 0 } else { 1 }
 }
 
 // The command of a statement. Where it gives no buffer length, this is 4 for an open in words.
-fn command_of(n: Numbers) -> Command {
-    let buffer = if statement::front(n) == 3 { 4 } else { 0 };
+fn command_of(values: &Values) -> Command {
+    let buffer = if values.front() == 3 { 4 } else { 0 };
     Command {
-        device: (n.first % 256) as u8,
-        command: (n.second % 256) as u8,
-        logical_unit: (statement::or(n.third, 0) % 256) as u8,
-        record_number: (statement::or(n.fourth, 0) % 65536) as u16,
-        buffer_length: (statement::or(n.fifth, buffer) % 65536) as u16,
+        device: (values.number_or(0, 0) % 256) as u8,
+        command: (values.number_or(1, 0) % 256) as u8,
+        logical_unit: (values.number_or(2, 0) % 256) as u8,
+        record_number: (values.number_or(3, 0) % 65536) as u16,
+        buffer_length: (values.number_or(4, buffer) % 65536) as u16,
     }
 }
 
 // How many bytes of data the command has.
-fn length_of(s: Statement) -> u64 {
-    s.bytes % 65537 + statement::front(s.numbers) % 4
+fn length_of(s: &Statement) -> usize {
+    s.bytes.saturating_add(s.values.front())
 }
 
-// A controller that waits with the command, as one that has accepted it.
-fn waiting(c: Controller, s: Statement) -> Acted {
-    let length = (length_of(s) % 65536) as u16;
-    let command = command_of(s.numbers);
-    let controller = controller::with_stage(c, Stage::Waiting(frame::submitted(command, length)));
-    Acted {
-        controller,
-        refusal: 0,
+// The data of a command: for an open in words its length and attributes, then the bytes of the statement. The last bytes of a forced
+// command that is too long go where the first stand-in's answer stands.
+fn keep(s: &Statement, store: &mut Store) {
+    let Store {
+        statement,
+        command,
+        answers,
+        ..
+    } = store;
+    let mut at = 0usize;
+    if let Some(attributes) = s.values.attributes() {
+        let length = (s.values.number_or(11, 0) % 65536) as u16;
+        let [low, high] = length.to_le_bytes();
+        command[..3].copy_from_slice(&[low, high, attributes]);
+        at = 3;
     }
-}
-
-// The data of a command: for an open in words its length and attributes, then the bytes of the statement.
-fn keep(s: Statement, bytes: &mut [u8; 159744]) {
-    let front = statement::front(s.numbers) as usize;
-    let length = statement::or(s.numbers.twelfth, 0);
-    if 0 < front {
-        bytes[COMMAND_BYTES] = (length % 256) as u8;
-        bytes[COMMAND_BYTES + 1] = (length / 256 % 256) as u8;
-        bytes[COMMAND_BYTES + 2] = (statement::attributes(s.numbers) % 256) as u8;
+    let places = command[at..].iter_mut().chain(answers[0].iter_mut());
+    for (to, b) in places.zip(word::front(statement, s.bytes)) {
+        *to = *b;
     }
-    statement::copy(bytes, COMMAND_BYTES + front % 4, (s.bytes % 65537) as usize);
-}
-
-fn fill(response: &mut [u8; 65536]) {
-    let mut i = 0usize;
-    while i < 65536 {
-        response[i] = 0xEE;
-        i += 1;
-    }
-}
-
-// The data of the command that was submitted last, so many bytes.
-pub fn data(bytes: &[u8], length: u64) -> &[u8] {
-    word::part(
-        bytes,
-        COMMAND_BYTES,
-        COMMAND_BYTES + (length % 65537) as usize,
-    )
-}
-
-// A step by hand, with the data of the statement, or of the command if it has none.
-pub fn step(
-    c: Controller,
-    s: Statement,
-    w: Doing,
-    bytes: &[u8; 159744],
-    response: &mut [u8; 65536],
-) -> Stepped {
-    let seen = Lines {
-        bav: w.bav,
-        hsk: w.hsk,
-        nibble: w.nibble,
-    };
-    let data = data_of(s, w.length, bytes);
-    let most = statement::or(s.numbers.seventh, w.lent) % 65536;
-    with_lent(
-        c,
-        seen,
-        s.numbers.fifth != NONE,
-        data,
-        most as usize,
-        response,
-    )
-}
-
-fn data_of(s: Statement, length: u64, bytes: &[u8]) -> &[u8] {
-    if s.numbers.eighth == NONE {
-        return data(bytes, length);
-    }
-    word::front(bytes, s.bytes as usize)
-}
-
-// A step with so much of the response buffer lent.
-fn with_lent(
-    c: Controller,
-    seen: Lines,
-    busy: bool,
-    data: &[u8],
-    lent: usize,
-    response: &mut [u8],
-) -> Stepped {
-    if lent <= response.len() {
-        return controller::step(c, seen, busy, data, &mut response[0..lent]);
-    }
-    // No script lends more than there is.
-    Stepped {
-        controller: c,
-        outcome: Stepping::Buffer,
-    }
-}
-
-// The numbers that an expectation finds of the controller: what it pulls, or all that the application may look at.
-pub fn looks(c: Controller, form: u64) -> Numbers {
-    let mut n = Numbers::none();
-    if form == statement::PULLS {
-        let l = controller::pulls(c);
-        n.first = statement::OTHER;
-        n.second = statement::flag(l.bav);
-        n.third = statement::flag(l.hsk);
-        n.fourth = l.nibble as u64;
-        return n;
-    }
-    let looks = application::look(c);
-    n.first = statement::flag(looks.may_start);
-    n.second = statement::flag(looks.submitted);
-    n
-}
-
-// The entries of the ring, noted as two bytes each: its code and its mark. How many bytes these are.
-pub fn entries(r: Ring, bytes: &mut [u8; 159744]) -> u64 {
-    let mut i = 0usize;
-    while i < 16 {
-        let e = r.entry(i);
-        let at = RING_BYTES + 2 * i;
-        bytes[at] = e.code;
-        bytes[at + 1] = e.marked as u8;
-        i += 1;
-    }
-    2 * (r.len() as u64 % 17)
 }

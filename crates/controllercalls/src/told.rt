@@ -1,104 +1,66 @@
-// What a step of the controller has come to, in numbers.
+// What a step of the controller has come to.
 use controller::{Controller, Stepping};
 use frame::{Frame, Kind, Stage};
 use ring::Ring;
-use statement::Told;
-use turn::Event;
+use statement::{Event, Framed, Stepped};
 
 // From the stage before it.
-pub fn told(before: Stage, c: Controller, outcome: Stepping) -> Told {
-    let mut t = framed(before, c);
-    let is_frame = t.frame != statement::NO_FRAME;
-    t.is_told = true;
-    match outcome {
-        Stepping::On(event) => match event {
-            Event::Nothing => t.is_told = is_frame,
-            Event::Ended(status, n) => {
-                t.is_ended = true;
-                t.status = status as u64;
-                t.received = n as u64;
-            }
-            Event::Handed(code) => t.handed = code as u64,
-        },
-        Stepping::Level => t.number = 5,
-        Stepping::Data => t.number = 10,
-        Stepping::Buffer => t.number = 11,
-    }
-    t
-}
-
-// Frames that begin, and service frames that end.
-fn framed(before: Stage, c: Controller) -> Told {
-    let after = c.stage;
-    let ring = c.ring;
-    match before {
-        Stage::Free => service(after, ring),
-        Stage::Waiting(f) => submitted(f),
-        Stage::Listening(f, _, r, _) => ended(after, f, r.status()),
-        _ => number(0),
+pub fn stepped(before: Stage, c: &Controller, outcome: Stepping) -> Stepped {
+    let event = match outcome {
+        Stepping::On(event) => Ok(event_of(event)),
+        Stepping::Level => Err(5),
+        Stepping::Data => Err(10),
+        Stepping::Buffer => Err(11),
+    };
+    Stepped {
+        frame: framed(before, c),
+        event,
     }
 }
 
-// A call has come to a number.
-pub fn number(number: u64) -> Told {
-    Told {
-        number,
-        is_told: false,
-        frame: statement::NO_FRAME,
-        code: 0,
-        command: 0,
-        buffer: 0,
-        length: 0,
-        status: 0,
-        is_ended: false,
-        received: 0,
-        handed: 0,
+// A request of code 0 is not told.
+fn event_of(event: turn::Event) -> Option<Event> {
+    match event {
+        turn::Event::Ended(status, n) => Some(Event::Ended(status, n)),
+        turn::Event::Handed(code) if code != 0 => Some(Event::Handed(code)),
+        _ => None,
+    }
+}
+
+// A frame that begins, or a service frame that ends.
+fn framed(before: Stage, c: &Controller) -> Option<Framed> {
+    match (before, c.stage) {
+        (Stage::Free, Stage::Sending(f, _, _, _)) => Some(service(&f, &c.ring)),
+        (Stage::Waiting(f), _) => Some(begun(&f)),
+        (Stage::Listening(f, _, r, _), Stage::Resting(_)) => ended(&f, r.status()),
+        _ => None,
     }
 }
 
 // The application's frame begins.
-fn submitted(f: Frame) -> Told {
-    let k = f.command;
-    let mut t = number(0);
-    t.frame = statement::OF_THE_APPLICATION;
-    t.code = k.device as u64;
-    t.command = k.command as u64;
-    t.buffer = k.buffer_length as u64;
-    t.length = f.data_length as u64;
-    t
+fn begun(f: &Frame) -> Framed {
+    Framed::Begun {
+        code: f.command.device,
+        command: f.command.command,
+        buffer: f.command.buffer_length,
+        length: f.data_length,
+    }
 }
 
 // A service frame begins: the entry whose turn it is has moved to the back.
-fn service(after: Stage, ring: Ring) -> Told {
-    let mut t = number(0);
-    let Stage::Sending(f, _, _, _) = after else {
-        return t;
-    };
-    let n = ring.len();
-    let e = ring.entry(if 0 < n { n - 1 } else { 0 });
-    let kind = f.kind;
-    t.code = e.code as u64;
-    t.frame = match kind {
-        Kind::Null => statement::A_NULL,
-        _ => statement::A_POLL,
-    };
-    t
+fn service(f: &Frame, ring: &Ring) -> Framed {
+    let code = ring.entry(ring.len().saturating_sub(1)).code;
+    match f.kind {
+        Kind::Null => Framed::Null(code),
+        _ => Framed::Poll(code),
+    }
 }
 
 // A service frame has ended where the controller listened and now rests.
-fn ended(after: Stage, f: Frame, status: u8) -> Told {
-    let mut t = number(0);
-    let Stage::Resting(_) = after else {
-        return t;
-    };
-    let k = f.command;
-    let kind = f.kind;
-    t.code = k.device as u64;
-    t.status = status as u64;
-    t.frame = match kind {
-        Kind::Submitted => statement::NO_FRAME,
-        Kind::Poll => statement::POLL_ENDED,
-        Kind::Null => statement::NULL_ENDED,
-    };
-    t
+fn ended(f: &Frame, status: u8) -> Option<Framed> {
+    match f.kind {
+        Kind::Submitted => None,
+        Kind::Poll => Some(Framed::PollEnded(f.command.device, status)),
+        Kind::Null => Some(Framed::NullEnded(status)),
+    }
 }

@@ -1,132 +1,170 @@
-// What each host does by itself, and what is counted of its unit's requests and turns: rows by the place of a unit. Behind the units stands
-// the controller; where turns and requests are counted, all codes together that no unit has.
-use crate::{Desk, FOR_EVER};
-use statement::Numbers;
+// What each host does by itself, and what is counted of its unit's requests and turns.
 
-// Every how many rounds it raises a request, 0 for never, and the round in which that is next.
-const EVERY: usize = 32;
-
-const DUE: usize = 48;
-
-// 1 while a request is waited for; in how many service frames since it was raised, and how many units were ahead of it then.
-const WAITS: usize = 64;
-
-pub const WAITED: usize = 81;
-
-pub const AHEAD: usize = 98;
-
-// How many turns of the ring its unit had.
-pub const TURNS: usize = 115;
-
-// For how many rounds more it is busy, FOR_EVER for ever; of how many rounds it is free in the last, 0 for every round, and in how many it
-// was busy since.
-const BUSY: usize = 132;
-
-const FREE: usize = 149;
-
-const SINCE: usize = 166;
-
-// A number of a row.
-pub fn number(rows: &[u64; 256], row: usize, place: u64) -> u64 {
-    rows[row % 128 + (place % 17) as usize]
+// What there is of a host.
+#[derive(Clone, Copy)]
+pub struct Host {
+    // What it does by itself.
+    raises: Option<Raises>,
+    busy: Busy,
+    // Of how many rounds it is free in the last, 0 for every round, and in how many it was busy since.
+    free: u64,
+    since: u64,
+    // Whether a request is waited for; in how many service frames since it was raised, and how many units were ahead of it then.
+    waits: bool,
+    pub waited: u64,
+    pub ahead: usize,
+    // How many turns of the ring its unit had.
+    pub turns: u64,
 }
 
-// The hosts that are busy in a round, a bit for each; then each is busy for one round less.
-pub fn busy_hosts(d: Desk, act: u64, rows: &mut [u64; 256]) -> u32 {
-    let is_round = act == statement::A_ROUND;
-    let mut hosts = 0u32;
-    let mut i = if d.has_busy_hosts & is_round {
-        17usize
-    } else {
-        0
-    };
-    while 0 < i {
-        i = i - 1;
-        hosts = hosts % 65536 * 2 + is_busy(rows, i) as u32 % 2;
-    }
-    hosts
+// It raises a request every so many rounds, and next in this one.
+#[derive(Clone, Copy)]
+struct Raises {
+    every: u64,
+    due: u64,
 }
 
-fn is_busy(rows: &mut [u64; 256], i: usize) -> bool {
-    let place = i % 17;
-    let busy = rows[BUSY + place];
-    let since = rows[SINCE + place] % 1000000000 + 1;
-    let waits = since < rows[FREE + place];
-    rows[SINCE + place] = if waits { since } else { 0 };
-    if (0 < busy) & (busy < FOR_EVER) {
-        rows[BUSY + place] = statement::less(busy);
-    }
-    waits | (0 < busy)
+// It is busy for so many rounds more, or for ever.
+#[derive(Clone, Copy)]
+enum Busy {
+    For(u64),
+    ForEver,
 }
 
-// A host is busy for so many rounds, or free only in every so many.
-pub fn busy(form: u64, n: Numbers, place: u64, rows: &mut [u64; 256]) {
-    let i = (place % 17) as usize;
-    let every = statement::or(n.third, 0);
-    if form == statement::BUSY {
-        rows[BUSY + i] = n.second;
-    } else {
-        rows[BUSY + i] = if every == 0 { FOR_EVER } else { 0 };
-        rows[FREE + i] = every;
-        rows[SINCE + i] = 0;
-    }
+// The hosts by the place of their units. Behind them stands the controller; where turns and requests are counted, all codes together that
+// no unit has.
+#[derive(Clone, Copy)]
+pub struct Hosts {
+    hosts: [Host; 17],
 }
 
-// A host raises a request every so many rounds from this one on.
-pub fn raise(rows: &mut [u64; 256], place: u64, round: u64, every: u64) {
-    let i = (place % 16) as usize;
-    rows[EVERY + i] = every;
-    rows[DUE + i] = round;
-}
+const BEHIND: usize = 16;
 
-// What the bus does now. Before a round it is an act of a unit whose host is due to raise a request by itself, which is then due again so
-// many rounds later.
-pub fn now(d: Desk, rows: &mut [u64; 256]) -> u64 {
-    let is_round = d.act == statement::A_ROUND;
-    let mut i = if d.has_raising_hosts & !d.has_raised & is_round {
-        0u64
-    } else {
-        16
-    };
-    while i < 16 {
-        if is_due(rows, i, d.round) {
-            return i;
+impl Hosts {
+    // All of them do nothing by themselves.
+    pub fn new() -> Hosts {
+        Hosts {
+            hosts: [Host {
+                raises: None,
+                busy: Busy::For(0),
+                free: 0,
+                since: 0,
+                waits: false,
+                waited: 0,
+                ahead: 0,
+                turns: 0,
+            }; 17],
         }
-        i += 1;
     }
-    d.act
-}
 
-fn is_due(rows: &mut [u64; 256], place: u64, round: u64) -> bool {
-    let i = (place % 16) as usize;
-    let every = rows[EVERY + i];
-    let so = (0 < every) & (rows[DUE + i] <= round);
-    if so {
-        rows[DUE + i] = round % FOR_EVER + every % 1000000000;
+    // That of the unit at a place, or the one behind them.
+    pub fn at(&self, place: Option<usize>) -> &Host {
+        match place {
+            Some(i) => self.hosts.get(i).unwrap_or(&self.hosts[BEHIND]),
+            None => &self.hosts[BEHIND],
+        }
     }
-    so
-}
 
-// A service frame begins: the turn of the unit at a place, 16 for a code that no unit has.
-pub fn turned(rows: &mut [u64; 256], place: u64) {
-    let mut i = 0usize;
-    while i < 16 {
-        rows[WAITED + i] = rows[WAITED + i] % 1000000000 + rows[WAITS + i] % 2;
-        i += 1;
+    // Those that are busy in a round, a bit for each; then each is busy for one round less.
+    pub fn busy(&mut self) -> u32 {
+        let mut bits = 0;
+        for host in self.hosts.iter_mut().rev() {
+            bits = bits << 1 | u32::from(host.is_busy());
+        }
+        bits
     }
-    let at = TURNS + (place % 17) as usize;
-    rows[at] = rows[at] % 1000000000 + 1;
+
+    // One is busy for so many rounds.
+    pub fn be_busy(&mut self, place: Option<usize>, rounds: u64) {
+        self.at_mut(place).busy = Busy::For(rounds);
+    }
+
+    // One is free only in every so many rounds, in none where that is 0.
+    pub fn be_free(&mut self, place: Option<usize>, every: u64) {
+        let host = self.at_mut(place);
+        host.busy = if every == 0 {
+            Busy::ForEver
+        } else {
+            Busy::For(0)
+        };
+        host.free = every;
+        host.since = 0;
+    }
+
+    // One raises a request every so many rounds from this one on, never where that is 0.
+    pub fn raise(&mut self, place: usize, round: u64, every: u64) {
+        let raises = if every == 0 {
+            None
+        } else {
+            Some(Raises { every, due: round })
+        };
+        self.at_mut(Some(place)).raises = raises;
+    }
+
+    // The first that is due to raise a request by itself, and then again so many rounds later.
+    pub fn due(&mut self, round: u64) -> Option<usize> {
+        for (i, host) in self.hosts.iter_mut().enumerate() {
+            if host.is_due(round) {
+                return Some(i);
+            }
+        }
+        None
+    }
+
+    // A service frame begins: the turn of the unit at a place, or of a code that no unit has.
+    pub fn turned(&mut self, place: Option<usize>) {
+        for host in self.hosts.iter_mut() {
+            host.waited = host.waited.saturating_add(u64::from(host.waits));
+        }
+        let host = self.at_mut(place);
+        host.turns = host.turns.saturating_add(1);
+    }
+
+    // A request of the unit at a place is waited for from now on, with so many entries of the ring before its unit's.
+    pub fn waiting(&mut self, place: usize, ahead: usize) {
+        let host = self.at_mut(Some(place));
+        host.waits = true;
+        host.waited = 0;
+        host.ahead = ahead;
+    }
+
+    // It is handed over.
+    pub fn handed(&mut self, place: Option<usize>) {
+        self.at_mut(place).waits = false;
+    }
+
+    fn at_mut(&mut self, place: Option<usize>) -> &mut Host {
+        let i = place.unwrap_or(BEHIND).min(BEHIND);
+        &mut self.hosts[i]
+    }
 }
 
-// A request of the unit at a place is waited for from now on, with so many entries of the ring before its unit's.
-pub fn waiting(rows: &mut [u64; 256], place: u64, ahead: u64) {
-    let i = (place % 16) as usize;
-    rows[WAITS + i] = 1;
-    rows[WAITED + i] = 0;
-    rows[AHEAD + i] = ahead;
-}
+impl Host {
+    // Whether it is busy in a round. Then it is for one round less.
+    fn is_busy(&mut self) -> bool {
+        let is_busy = match self.busy {
+            Busy::For(0) => false,
+            Busy::For(n) => {
+                self.busy = Busy::For(n - 1);
+                true
+            }
+            Busy::ForEver => true,
+        };
+        let since = self.since.saturating_add(1);
+        let waits = since < self.free;
+        self.since = if waits { since } else { 0 };
+        waits | is_busy
+    }
 
-// It is handed over.
-pub fn handed(rows: &mut [u64; 256], place: u64) {
-    rows[WAITS + (place % 17) as usize] = 0;
+    // Whether it raises a request in a round.
+    fn is_due(&mut self, round: u64) -> bool {
+        match self.raises {
+            Some(Raises { every, due }) if due <= round => {
+                let due = round.saturating_add(every);
+                self.raises = Some(Raises { every, due });
+                true
+            }
+            _ => false,
+        }
+    }
 }

@@ -1,111 +1,103 @@
 // A script is read as a whole before any of it is played.
-use crate::plan;
-use crate::plan::Plan;
-use page::STDOUT_FILENO;
-use word::Reading;
+use crate::Script;
+use crate::plan::{Plan, Reason};
+use page::STDOUT;
+use script::Misread;
+use statement::{MOST, Statement};
 
 // The longest line.
 const LONGEST: usize = 4096;
 
+// No more lines are read of a script, those of each pass of a repeat counted.
+const LINES: u64 = 1000000000;
+
+// How many lines that cannot be played are said.
+const SAID: u64 = 20;
+
 // The plan at the end of a script: how many of its lines cannot be played. The first twenty are said.
-pub fn read(
-    forms: &[u8],
-    name: &[u8],
-    text: &[u8],
-    rows: &mut [u64; 256],
-    bytes: &mut [u8; 159744],
-) -> Plan {
-    let mut p = plan::start();
-    let mut i = 0u64;
-    while i < 1000000000 {
-        if text.len() <= p.next {
+pub fn read(script: Script<'_>, bytes: &mut [u8; MOST]) -> Plan {
+    let mut plan = Plan::new();
+    for _ in 0..LINES {
+        if script.text.len() <= plan.next {
             break;
         }
-        p = checked(forms, name, text, p, rows, bytes);
-        i += 1;
+        checked(script, &mut plan, bytes);
     }
-    ended(p, name)
+    ended(script, &mut plan);
+    plan
 }
 
 // What can be said of a script only at its end.
-fn ended(p: Plan, name: &[u8]) -> Plan {
-    let mut next = p;
-    if 0 < p.loop_start {
-        next = wrong(next, name, 10);
+fn ended(script: Script<'_>, plan: &mut Plan) {
+    if plan.repeat.is_some() {
+        wrong(script, plan, Reason::NoEnd);
     }
-    if !p.has_statement {
-        next = wrong(next, name, 11);
+    if !plan.has_statement {
+        wrong(script, plan, Reason::Empty);
     }
-    if 20 < next.faults {
-        page::show(STDOUT_FILENO, name);
+    if SAID < plan.faults {
+        page::show(STDOUT, script.name);
         page::tell(
-            STDOUT_FILENO,
-            b": # such lines in all\n",
-            next.faults,
-            0,
-            0,
-            0,
+            STDOUT,
+            format_args!(": {} such lines in all\n", plan.faults),
         );
     }
-    next
 }
 
 // The next line.
-fn checked(
-    forms: &[u8],
-    name: &[u8],
-    text: &[u8],
-    p: Plan,
-    rows: &mut [u64; 256],
-    bytes: &mut [u8; 159744],
-) -> Plan {
-    let mut next = plan::next_line(p, text);
-    let line = word::part(text, next.start, next.end);
-    let read = script::read(forms, line, p.pass, bytes);
-    let r = read.reading;
-    let s = read.statement;
+fn checked(script: Script<'_>, plan: &mut Plan, bytes: &mut [u8; MOST]) {
+    let line = plan.next_line(script.text);
+    let read = script::read(line, plan.pass(), bytes);
     if LONGEST < line.len() {
-        return plan::past_line(wrong(next, name, 9));
+        wrong(script, plan, Reason::LongLine);
+        plan.past_line();
+        return;
     }
-    if r.is_wrong {
-        return plan::past_line(misread(forms, name, line, next, r));
+    match read {
+        Ok(read) => stated(script, plan, &read.statement),
+        Err(m) => {
+            misread(script, plan, line, m);
+            plan.past_line();
+        }
     }
-    let why = plan::against(next, s, rows);
-    next = plan::with(next, s, why, rows);
-    next.has_statement = p.has_statement | (s.form < statement::BLANK);
-    plan::past(wrong(next, name, why), s)
+}
+
+// The statement of a line.
+fn stated(script: Script<'_>, plan: &mut Plan, s: &Statement) {
+    let allowed = plan.allows(s);
+    plan.add(s, allowed.is_ok());
+    plan.has_statement |= s.form.is_some();
+    if let Err(why) = allowed {
+        wrong(script, plan, why);
+    }
+    plan.past(s);
 }
 
 // A line that is no statement.
-fn misread(forms: &[u8], name: &[u8], line: &[u8], p: Plan, r: Reading) -> Plan {
-    let next = counted(p, name);
-    if next.faults <= 20 {
-        fault::misread(STDOUT_FILENO, forms, line, r);
+fn misread(script: Script<'_>, plan: &mut Plan, line: &[u8], m: Misread<'_>) {
+    if counted(script, plan) {
+        fault::misread(STDOUT, line, m);
     }
-    next
 }
 
-// One more line that cannot be played, for a reason; none where that is 0.
-fn wrong(p: Plan, name: &[u8], why: u64) -> Plan {
-    if why == 0 {
-        return p;
+// One more line that cannot be played, for a reason.
+fn wrong(script: Script<'_>, plan: &mut Plan, why: Reason) {
+    if counted(script, plan) {
+        page::tell(STDOUT, format_args!("{why}\n"));
     }
-    let next = counted(p, name);
-    if next.faults <= 20 {
-        plan::reason(STDOUT_FILENO, why);
-    }
-    next
 }
 
-// One more line that cannot be played: the first twenty are said. In a repeat no more passes follow.
-fn counted(p: Plan, name: &[u8]) -> Plan {
-    let mut next = p;
-    next.has_statement = true;
-    next.faults = p.faults % 1000000000 + 1;
-    next.passes = 0;
-    if next.faults <= 20 {
-        page::show(STDOUT_FILENO, name);
-        page::tell(STDOUT_FILENO, b": line #: ", p.line, 0, 0, 0);
+// One more line that cannot be played; whether it is said why. In a repeat no more passes follow.
+fn counted(script: Script<'_>, plan: &mut Plan) -> bool {
+    plan.has_statement = true;
+    plan.faults = plan.faults.saturating_add(1);
+    if let Some(repeat) = &mut plan.repeat {
+        repeat.passes = 0;
     }
-    next
+    let is_said = plan.faults <= SAID;
+    if is_said {
+        page::show(STDOUT, script.name);
+        page::tell(STDOUT, format_args!(": line {}: ", plan.line));
+    }
+    is_said
 }

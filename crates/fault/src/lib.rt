@@ -2,173 +2,133 @@
 
 #![tactic(auto)]
 
-use statement::{BLANK, NONE, Numbers};
-use word::{Reading, Word};
-
-// Where a page and a form go on, and the place of the next value.
-#[derive(Clone, Copy)]
-struct Step {
-    at: usize,
-    from: usize,
-    place: usize,
-}
+use page::{Out, Page};
+use script::{Misread, Wanted};
+use statement::{Form, Value, Values};
+use word::{Kind, Lead, Optional};
 
 // The word of a line that was read, and what was expected.
-pub fn misread(out: i32, forms: &[u8], line: &[u8], r: Reading) {
-    quote(out, word::letters(line, r.word));
-    if r.words < NONE {
-        say(out, 3);
-        next_words(out, forms, line, r.words);
+pub fn misread(out: Out, line: &[u8], m: Misread<'_>) {
+    let mut page = Page::new();
+    quote(&mut page, m.word);
+    match m.wanted {
+        Wanted::Words(words) => next_words(&mut page, line, words),
+        Wanted::Kind(kinds) => expected(&mut page, kinds),
+        Wanted::Optional(form) => {
+            let (_, others) = word::halves(form);
+            page.words(b"one of these: ");
+            page.words(others);
+        }
+        Wanted::End => page.words(b"the end of the line"),
+    }
+    page.words(b"\n");
+    page.write(out);
+}
+
+fn quote(page: &mut Page, word: &[u8]) {
+    if word.is_empty() {
+        page.words(b"the line ends, expected ");
     } else {
-        expected(out, word::letters(forms, r.want));
+        page.words(b"read \"");
+        page.show(word::front(word, 60));
+        page.words(b"\", expected ");
     }
-    say(out, 4);
-}
-
-fn quote(out: i32, w: &[u8]) {
-    if w.len() == 0 {
-        say(out, 0);
-    } else {
-        say(out, 1);
-        page::show(out, word::front(w, 60));
-        say(out, 2);
-    }
-}
-
-// A kind of value in words. Words between which bars stand are their own description, and so are options.
-fn expected(out: i32, kind: &[u8]) {
-    let first = word::letter(kind, 0);
-    let bar = word::find(kind, 0, b'|');
-    let place = description(kind);
-    let own = if first < b'A' {
-        bar
-    } else if 12 < place {
-        kind.len()
-    } else {
-        0
-    };
-    say(out, place);
-    page::say(out, word::front(kind, own));
-    if (bar < kind.len()) & (first < b'a') {
-        say(out, 5);
-        page::say(out, word::part(kind, bar % 65536 + 1, kind.len()));
-    }
-}
-
-// Which of the texts describes a kind.
-fn description(kind: &[u8]) -> u64 {
-    let is_command = word::letter(kind, 2) == b'M';
-    let is_plural = word::letter(kind, 4) == b'S';
-    match word::letter(kind, 0) {
-        0 => 6,
-        b'C' => if is_command { 8 } else { 7 },
-        b'N' => 9,
-        b'B' => if is_plural { 11 } else { 10 },
-        b'E' => 12,
-        b'[' => 13,
-        b'0'..=b'9' => 14,
-        _ => 15,
-    }
-}
-
-// One of the texts.
-fn say(out: i32, place: u64) {
-    page::say(
-        out,
-        word::piece(
-            b"the line ends, expected |read \"|\", expected |one of these words:|
-|, or |the end of the line|a device code, 0-255|a command code in hexadecimal, or open, close, read, write, enable, disable, null or reset|a number, 0-999999999|one or two hexadecimal digits|bytes in hexadecimal, as 41 or 41*300 or 00+300, or text in quotes; at most 65,536|up to sixteen device codes, 0-255, marked ones with a star|one of these: |a number, |",
-            b'|',
-            place,
-        ),
-    );
 }
 
 // The words that may stand where no form goes on as the line does, behind so many that some forms have.
-fn next_words(out: i32, forms: &[u8], line: &[u8], words: u64) {
-    let mut last = Word { start: 0, end: 0 };
-    let mut at = 0;
-    let mut k = 0u64;
-    while k < BLANK {
-        let end = word::find(forms, at, b'\n');
-        let lead = word::lead_of(word::part(forms, 0, end), at, line);
-        let next = word::next(forms, lead.form);
-        let name = word::letters(forms, next);
-        let is_new = !word::is(name, word::letters(forms, last));
-        if (lead.words == words) & is_new {
-            page::say(out, b" ");
-            page::say(out, name);
+fn next_words(page: &mut Page, line: &[u8], words: usize) {
+    page.words(b"one of these words:");
+    let mut last: &[u8] = b"";
+    for form in Form::ALL {
+        let lead = Lead::of(form, line);
+        let next = form.words().split(|b| *b == b' ').nth(lead.words);
+        let name = next.unwrap_or(b"");
+        if (lead.words == words) & (name != last) {
+            page.words(b" ");
+            page.words(name);
         }
-        last = next;
-        at = end % 65536 + 1;
-        k += 1;
+        last = name;
     }
 }
 
-// A form with values in their places, as a statement has them, behind n letters of a page.
-pub fn statement(
-    page: &mut [u8; 8192],
-    n: usize,
-    forms: &[u8],
-    form: u64,
-    values: Numbers,
-) -> usize {
-    let row = word::piece(forms, b'\n', form);
-    let mut s = Step {
-        at: n,
-        from: 0,
-        place: 0,
-    };
-    let mut count = 0u64;
-    while count < 24 {
-        let f = word::bare(row, s.from);
-        if f.end <= f.start {
-            return s.at;
+// Kinds of value in words. Words between which bars stand are their own description.
+fn expected(page: &mut Page, kinds: &[u8]) {
+    let (first, others) = word::cut(kinds, b'|');
+    match Kind::of(first) {
+        Kind::Word(_) => {
+            page.words(kinds);
+            return;
         }
-        let name = word::letters(row, f);
-        let is_option = word::find(row, s.from, b'[') < f.start;
-        let is_fixed = word::is_name(name) & !is_option;
-        let v = if is_fixed { 0 } else { values.at(s.place) };
-        if v != NONE {
-            s.at = put(page, s.at, name, v);
+        Kind::Code => page.words(b"a device code, 0-255"),
+        Kind::Command => page.words(
+            b"a command code in hexadecimal, or open, close, read, write, enable, disable, null or reset",
+        ),
+        Kind::Number => page.words(b"a number, 0-999999999"),
+        Kind::Byte => page.words(b"one or two hexadecimal digits"),
+        Kind::Range(least, most) => page.tell(format_args!("a number, {least}-{most}")),
+        Kind::Bytes => page.words(
+            b"bytes in hexadecimal, as 41 or 41*300 or 00+300, or text in quotes; at most 65,536",
+        ),
+        Kind::Entries => page.words(b"up to sixteen device codes, 0-255, marked ones with a star"),
+        Kind::Words => page.words(b"words"),
+    }
+    if let Some(others) = others {
+        page.words(b", or ");
+        page.words(others);
+    }
+}
+
+// A form with values in their places, as a statement has them, behind what stands on a page.
+pub fn statement(page: &mut Page, form: Form, values: &Values) {
+    let (needed, others) = word::halves(form);
+    let mut place = 0usize;
+    for word in needed.split(|b| *b == b' ').filter(|w| !w.is_empty()) {
+        // Behind a value a name has a place of its own.
+        if word::is_name(word) & (place == 0) {
+            page.words(b" ");
+            page.words(word);
+        } else {
+            put(page, word, values.at(place));
+            place = place.saturating_add(1);
         }
-        s.from = f.end;
-        if is_option {
-            let value = word::bare(row, f.end);
-            if v != NONE {
-                s.at = put(page, s.at, word::letters(row, value), v);
+    }
+    for (i, words) in others.split(|b| *b == b'[').skip(1).enumerate() {
+        let value = values.at(place.saturating_add(i));
+        match Optional::of(words) {
+            Optional::Value(kinds) => put(page, kinds, value),
+            Optional::Name(name) => put_name(page, name, value),
+            Optional::Named(name, kinds) => {
+                put_name(page, name, value);
+                put(page, kinds, value);
             }
-            s.from = word::find(row, f.end, b']') % 65536 + 1;
         }
-        if !is_fixed {
-            s.place = s.place % 16 + 1;
-        }
-        count += 1;
     }
-    s.at
 }
 
-// A value as its kind is written, with a space before it. A name is put as it is.
-fn put(page: &mut [u8; 8192], n: usize, kind: &[u8], v: u64) -> usize {
-    if kind.len() == 0 {
-        return n;
+// The name of a value that is there, with a space before it.
+fn put_name(page: &mut Page, name: &[u8], value: Option<Value>) {
+    if value.is_some() {
+        page.words(b" ");
+        page.words(name);
     }
-    let at = page::letter(page, n, b' ');
-    page::fill(page, at, words_for(b"%#", kind, v), &[v, 0, 0, 0])
 }
 
-// The words for a value: a name, one of the words between which bars stand, or the sign of a byte or of a number.
-fn words_for<'a>(signs: &'a [u8], kind: &'a [u8], v: u64) -> &'a [u8] {
-    if word::is_name(kind) {
-        return kind;
-    }
-    if 256 <= v {
-        if word::find(kind, 0, b'|') < kind.len() {
-            return word::piece(kind, b'|', v - 256);
+// A value as its kind is written, with a space before it: one of the words between which bars stand, a byte, or a number.
+fn put(page: &mut Page, kinds: &[u8], value: Option<Value>) {
+    let (first, _) = word::cut(kinds, b'|');
+    match value {
+        None => {}
+        Some(Value::Word(place)) => {
+            let word = kinds.split(|b| *b == b'|').nth(place as usize);
+            page.words(b" ");
+            page.words(word.unwrap_or(kinds));
         }
+        Some(Value::Number(n)) => match Kind::of(first) {
+            Kind::Byte | Kind::Bytes => {
+                let byte = n % 256;
+                page.tell(format_args!(" {byte:02X}"));
+            }
+            _ => page.tell(format_args!(" {n}")),
+        },
     }
-    if word::letter(kind, 0) == b'B' {
-        return word::part(signs, 0, 1);
-    }
-    word::part(signs, 1, 2)
 }

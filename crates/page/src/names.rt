@@ -1,64 +1,72 @@
-// The numbers that stand among words, and the papers' names of commands (000, 4.3.2) and statuses (000, 4.4.3).
+// The papers' names of commands (000, 4.3.2) and statuses (000, 4.4.3), and the number of a round.
+use std::fmt;
 
-// Whether a letter stands for a number.
-pub fn is_sign(b: u8) -> bool {
-    match b {
-        b'#'..=b'&' => true,
-        b'@' => true,
-        _ => false,
-    }
-}
+// A status with its name, where the papers have one.
+#[derive(Clone, Copy)]
+pub struct Status(pub u8);
 
-// A letter, or the number that it stands for.
-pub fn sign(page: &mut [u8; 8192], n: usize, b: u8, number: u64) -> usize {
-    let byte = (number % 256) as u8;
-    match b {
-        b'#' => crate::decimal(page, n, number),
-        b'%' => crate::hex(page, n, byte),
-        b'$' => named(
-            page,
-            n,
-            byte,
-            b"00 normal operation completion\n01 device/file option error\n02 attribute error\n04 file/device not open error\n05 file/device already open\n08 data/file too long error\n0A not requesting service\n0C buffer size error\n0D unsupported command error\n0E file not opened for write\n0F file not opened for read\n11 file type (relative/sequential) not supported\n13 append mode not supported\n15 input mode not supported\nFF bus time out error\n",
-        ),
-        b'&' => named(
-            page,
-            n,
-            byte,
-            b"00 open\n01 close\n03 read data\n04 write data\n08 service request enable\n09 service request disable\n0A service request poll\nFE null operation\nFF bus reset\n",
-        ),
-        b'@' => {
-            let at = crate::right(page, n, number, 8);
-            crate::words(page, at, b"  ")
+// A command's code with its name.
+#[derive(Clone, Copy)]
+pub struct Command(pub u8);
+
+// A round, to the right in eight letters.
+#[derive(Clone, Copy)]
+pub struct Round(pub u64);
+
+impl Status {
+    fn name(self) -> &'static str {
+        match self.0 {
+            0x00 => " normal operation completion",
+            0x01 => " device/file option error",
+            0x02 => " attribute error",
+            0x04 => " file/device not open error",
+            0x05 => " file/device already open",
+            0x08 => " data/file too long error",
+            0x0A => " not requesting service",
+            0x0C => " buffer size error",
+            0x0D => " unsupported command error",
+            0x0E => " file not opened for write",
+            0x0F => " file not opened for read",
+            0x11 => " file type (relative/sequential) not supported",
+            0x13 => " append mode not supported",
+            0x15 => " input mode not supported",
+            0xFF => " bus time out error",
+            _ => "",
         }
-        _ => crate::letter(page, n, b),
     }
 }
 
-// A byte in hexadecimal, and its name, if a line of the list begins with it.
-fn named(page: &mut [u8; 8192], n: usize, b: u8, list: &[u8]) -> usize {
-    let mut at = crate::hex(page, n, b);
-    let high = crate::digit(b / 16);
-    let low = crate::digit(b);
-    let mut here = false;
-    let mut first = b'\n';
-    let mut second = b'\n';
-    let mut i = 0;
-    while i < list.len() {
-        let next = list[i];
-        let begins = (first == high) & (second == low);
-        here = (here | begins) & (next != b'\n');
-        at = letter_if(page, at, here, next);
-        first = second;
-        second = next;
-        i += 1;
+impl Command {
+    fn name(self) -> &'static str {
+        match self.0 {
+            0x00 => " open",
+            0x01 => " close",
+            0x03 => " read data",
+            0x04 => " write data",
+            0x08 => " service request enable",
+            0x09 => " service request disable",
+            0x0A => " service request poll",
+            0xFE => " null operation",
+            0xFF => " bus reset",
+            _ => "",
+        }
     }
-    at
 }
 
-fn letter_if(page: &mut [u8; 8192], n: usize, so: bool, b: u8) -> usize {
-    if so {
-        return crate::letter(page, n, b);
+impl fmt::Display for Status {
+    fn fmt<W: fmt::Write>(&self, f: &mut fmt::Formatter<W>) -> fmt::Result {
+        write!(f, "{:02X}{}", self.0, self.name())
     }
-    n
+}
+
+impl fmt::Display for Command {
+    fn fmt<W: fmt::Write>(&self, f: &mut fmt::Formatter<W>) -> fmt::Result {
+        write!(f, "{:02X}{}", self.0, self.name())
+    }
+}
+
+impl fmt::Display for Round {
+    fn fmt<W: fmt::Write>(&self, f: &mut fmt::Formatter<W>) -> fmt::Result {
+        write!(f, "{:>8}  ", self.0)
+    }
 }

@@ -7,22 +7,27 @@ pub mod dump;
 pub mod screen;
 pub mod strip;
 
+ghost use Rattle.std.specs.Prelude.{◌≤◌};
+
 use line::Lines;
+
+// The marks of a round.
+pub type Marks = [u8; 22];
 
 pub const CONTROLLER: usize = 16;
 
 pub const ALL: usize = 17;
+
+// The first of the stand-ins.
+pub const STAND_INS: usize = 18;
+
 // Nothing is pulled.
 pub const RELEASED: u8 = 63;
 
-pub fn mark(l: Lines) -> u8 {
-    48 - 32 * (l.bav as u8 % 2) - 16 * (l.hsk as u8 % 2) + l.nibble % 16
-}
-
-// Writes the n letters that stand on a page, if there are more than so many; whether that succeeded.
-fn sent(descriptor: i32, page: &[u8; 8192], least: usize, n: usize) -> bool {
-    if least < n {
-        return page::write(descriptor, page, n);
-    }
-    true
+pub fn mark(l: Lines) -> u8
+    ensures { result ≤ 63 }
+{
+    let bav = if l.bav { 0 } else { 32 };
+    let hsk = if l.hsk { 0 } else { 16 };
+    bav + hsk + l.nibble % 16
 }

@@ -1,133 +1,84 @@
 // A screen of 24 rows and 80 columns as a picture of letters. Bytes that are no letter are shown as dots.
+use page::{Out, Page};
 
 // What its frame marks: the row and column of the cursor, and which lines are protected.
 #[derive(Clone, Copy)]
-pub struct Marks {
-    pub row: u64,
-    pub column: u64,
+pub struct Frame {
+    pub row: Option<u64>,
+    pub column: Option<u64>,
     pub top: bool,
     pub bottom: bool,
 }
 
-// The letters of a line of the frame, its end among them.
-const WIDTH: usize = 93;
+const ROWS: usize = 24;
+
+const COLUMNS: usize = 80;
 
 // Shows the cells in a frame. Rows are numbered, and columns in tens; > and < stand at the cursor's row, v and ^ at its column, = at a
 // protected line.
-pub fn show(out: i32, cells: &[u8], marks: Marks) {
-    let mut page = [b'\n'; 8192];
-    let end = framed(&mut page, cells, marks);
-    crate::sent(out, &page, 0, end);
-}
-
-fn framed(page: &mut [u8; 8192], cells: &[u8], marks: Marks) -> usize {
-    let mut at = 0usize;
-    let mut i = 0usize;
-    while i < 26 * WIDTH {
-        at = page::letter(page, at, letter(cells, marks, i));
-        i += 1;
+pub fn show(out: Out, cells: &[u8], frame: Frame) {
+    let mut page = Page::new();
+    edge(&mut page, frame, b'v');
+    for row in 0..ROWS {
+        page.tell(format_args!("      {row:>2}  "));
+        page.letter(side(frame, row, b'>'));
+        cells_of(&mut page, cells, row);
+        page.letter(side(frame, row, b'<'));
+        page.letter(b'\n');
     }
-    at
+    edge(&mut page, frame, b'^');
+    page.write(out);
 }
 
-// Letter i of the frame: rows 0 to 23, with an edge before them, and one behind that is row 24.
-fn letter(cells: &[u8], marks: Marks, i: usize) -> u8 {
-    let row = (i / WIDTH + 25) % 26;
-    let place = i % WIDTH;
-    let is_row = row < 24;
-    match place {
-        6 => if is_row & (9 < row) {
-            page::digit((row / 10) as u8)
-        } else {
-            b' '
-        },
-        7 => if is_row {
-            page::digit((row % 10) as u8)
-        } else {
-            b' '
-        },
-        10 => side(marks, row, b'>'),
-        11..=90 => if is_row {
-            cell(cells, 80 * row + (place - 11))
-        } else {
-            edge(marks, row, place - 11)
-        },
-        91 => side(marks, row, b'<'),
-        92 => b'\n',
-        _ => b' ',
+// Writes the cells as 24 lines of text; whether that succeeded.
+pub fn write(out: Out, cells: &[u8]) -> bool {
+    let mut page = Page::new();
+    for row in 0..ROWS {
+        cells_of(&mut page, cells, row);
+        page.letter(b'\n');
+    }
+    page.write(out)
+}
+
+// Whether the front of a file is that of such lines, or empty.
+pub fn is_screen(front: &[u8]) -> bool {
+    front.is_empty() || [80, 161, 242].iter().all(|i| front.get(*i) == Some(&b'\n'))
+}
+
+// The cells of a row, blanks where there are none.
+fn cells_of(page: &mut Page, cells: &[u8], row: usize) {
+    let cells = cells.chunks(COLUMNS).nth(row).unwrap_or(&[]);
+    for column in 0..COLUMNS {
+        page.letter(match cells.get(column) {
+            Some(b) if page::is_letter(*b) => *b,
+            Some(_) => b'.',
+            None => b' ',
+        });
     }
 }
 
-fn side(marks: Marks, row: usize, cursor: u8) -> u8 {
-    if 23 < row {
-        return b'+';
-    }
-    if marks.top & (row == 0) | marks.bottom & (row == 23) {
-        return b'=';
-    }
-    if row as u64 == marks.row {
+// What stands beside a row.
+fn side(frame: Frame, row: usize, cursor: u8) -> u8 {
+    if (frame.top & (row == 0)) | (frame.bottom & (row == ROWS - 1)) {
+        b'='
+    } else if frame.row == Some(row as u64) {
         cursor
     } else {
         b'|'
     }
 }
 
-fn edge(marks: Marks, row: usize, column: usize) -> u8 {
-    if column as u64 == marks.column {
-        return if row == 24 { b'^' } else { b'v' };
+// The edge above the rows, or below them.
+fn edge(page: &mut Page, frame: Frame, cursor: u8) {
+    page.words(b"          +");
+    for column in 0..COLUMNS {
+        page.letter(if frame.column == Some(column as u64) {
+            cursor
+        } else if column % 10 == 0 {
+            page::digit((column / 10) as u8)
+        } else {
+            b'-'
+        });
     }
-    if column % 10 == 0 {
-        page::digit((column / 10 % 16) as u8)
-    } else {
-        b'-'
-    }
-}
-
-// Writes the cells as 24 lines of text; whether that succeeded.
-pub fn write(descriptor: i32, cells: &[u8]) -> bool {
-    let mut page = [b'\n'; 8192];
-    let end = lines(&mut page, cells);
-    crate::sent(descriptor, &page, 0, end)
-}
-
-fn lines(page: &mut [u8; 8192], cells: &[u8]) -> usize {
-    let mut at = 0usize;
-    let mut i = 0usize;
-    while i < 1944 {
-        let place = i % 81;
-        at = page::letter(
-            page,
-            at,
-            if place == 80 {
-                b'\n'
-            } else {
-                cell(cells, i / 81 * 80 + place)
-            },
-        );
-        i += 1;
-    }
-    at
-}
-
-fn cell(cells: &[u8], at: usize) -> u8 {
-    if at < cells.len() {
-        let b = cells[at];
-        return if page::is_letter(b) { b } else { b'.' };
-    }
-    b' '
-}
-
-// Whether the front of a file is that of such lines, or empty.
-pub fn is_screen(front: &[u8]) -> bool {
-    let mut i = 80usize;
-    while i < 243 {
-        if front.len() <= i {
-            return front.len() == 0;
-        }
-        if front[i] != b'\n' {
-            return false;
-        }
-        i += 81;
-    }
-    true
+    page.words(b"+\n");
 }

@@ -1,101 +1,79 @@
 // The lines as a picture of letters, one column to a round: - high, _ low, the nibble in hexadecimal, and who holds HSK low or places
 // a nibble. Only rounds in which a line is low are shown, in strips of up to 96 columns.
-use crate::ALL;
+use crate::{ALL, Marks};
+use page::{Out, Page};
 
 pub const WIDTH: usize = 96;
 
-// One column more behind n of a strip that begins at a place, from the marks of a round; how many there are then. The strip keeps the
-// mark of the lines, and who pulls.
-pub fn column(strip: &mut [u8], at: usize, n: usize, marks: &[u8; 22]) -> usize {
-    let place = at % 1048576 + n % 96;
+// A strip: the marks of the lines in its columns, and who pulls in them.
+pub type Strip = [u8; 192];
+
+// One column more behind n of a strip, from the marks of a round; how many there are then.
+pub fn column(strip: &mut Strip, n: usize, marks: &Marks) -> usize {
     if n < WIDTH {
-        if place + WIDTH < strip.len() {
-            strip[place] = marks[ALL];
-            strip[place + WIDTH] = holder(marks);
-            return n + 1;
-        }
+        strip[n] = marks[ALL];
+        strip[n + WIDTH] = holder(marks);
+        n + 1
+    } else {
+        n
     }
-    n
 }
 
 // Who pulls HSK or a data line: C the controller, a to p units by their place, w to z stand-ins, + several, a blank for nobody.
-fn holder(marks: &[u8; 22]) -> u8 {
+fn holder(marks: &Marks) -> u8 {
     let mut who = b' ';
-    let mut i = 0;
-    while i < 22 {
-        if (marks[i] % 32 < 31) & (i != ALL) {
-            who = if who == b' ' { LETTERS[i] } else { b'+' };
+    for (mark, letter) in marks.iter().zip(LETTERS) {
+        if (mark % 32 < 31) & (*letter != b' ') {
+            who = if who == b' ' { *letter } else { b'+' };
         }
-        i += 1;
     }
     who
 }
 
-const LETTERS: [u8; 22] = *b"abcdefghijklmnopC wxyz";
+// A blank for all of them together.
+const LETTERS: &[u8; 22] = b"abcdefghijklmnopC wxyz";
 
 // The picture of the n rounds up to this one.
-pub fn show(out: i32, strip: &[u8], at: usize, n: usize, last: u64) {
-    let mut page = [b'\n'; 8192];
-    let start = named(&mut page, 0, b"          rounds ", first(n, last));
-    let to = named(&mut page, start, b" to ", last);
-    let end = rows(&mut page, to, strip, at, n % 97);
-    crate::sent(out, &page, 0, end % 512 + 1);
+pub fn show(out: Out, strip: &Strip, n: usize, last: u64) {
+    let mut page = Page::new();
+    let first = last.saturating_add(1).saturating_sub(n as u64);
+    page.tell(format_args!("          rounds {first} to {last}"));
+    let (marks, holders) = strip.split_at(WIDTH);
+    let marks = word::front(marks, n);
+    row(&mut page, b"BAV ", marks, bav);
+    row(&mut page, b"HSK ", marks, hsk);
+    row(&mut page, b"D   ", marks, nibble);
+    row(&mut page, b"by  ", word::front(holders, n), |who| who);
+    page.letter(b'\n');
+    page.write(out);
 }
 
-fn first(n: usize, last: u64) -> u64 {
-    let k = n as u64;
-    if k <= last {
-        return (last - k) % 1000000000000 + 1;
+// A row with its name before it: a letter of each column.
+fn row<F: Fn(u8) -> u8>(page: &mut Page, name: &[u8], columns: &[u8], letter: F)
+    requires { F.IsAlwaysCallable letter }
+{
+    page.words(b"\n          ");
+    page.words(name);
+    for column in columns {
+        page.letter(letter(*column));
     }
-    0
 }
 
-// Words, and a number behind them.
-fn named(page: &mut [u8; 8192], n: usize, words: &[u8], number: u64) -> usize {
-    let at = page::words(page, n, words);
-    page::decimal(page, at, number)
+fn bav(mark: u8) -> u8 {
+    level(mark & 32)
 }
 
-fn rows(page: &mut [u8; 8192], n: usize, strip: &[u8], first: usize, columns: usize) -> usize {
-    let end = 4 * (columns % 97 + 15);
-    let mut at = n;
-    let mut i = 0;
-    while i < end {
-        at = page::letter(page, at, cell(strip, first, columns, i));
-        i += 1;
-    }
-    at
+fn hsk(mark: u8) -> u8 {
+    level(mark & 16)
 }
 
-// Letter i of the four rows, each with its name before it.
-fn cell(strip: &[u8], first: usize, columns: usize, i: usize) -> u8 {
-    let width = columns % 97 + 15;
-    let row = i / width % 4;
-    let column = i % width % 111;
-    if column < 15 {
-        return NAMES[15 * row + column];
-    }
-    let at = first % 1048576 + row / 3 * WIDTH + column - 15;
-    if at < strip.len() {
-        return shown(row, strip[at]);
-    }
-    b' '
+fn level(line: u8) -> u8 {
+    if line == 0 { b'_' } else { b'-' }
 }
 
-const NAMES: [u8; 60] = *b"\n          BAV \n          HSK \n          D   \n          by  ";
-
-// A level, the nibble, or who pulls, as a letter.
-fn shown(row: usize, kept: u8) -> u8 {
-    if row == 3 {
-        return kept;
+fn nibble(mark: u8) -> u8 {
+    match mark % 16 {
+        15 => b'.',
+        n => page::digit(n),
     }
-    if row == 2 {
-        return if kept % 16 == 15 {
-            b'.'
-        } else {
-            page::digit(kept)
-        };
-    }
-    let high = if row == 0 { kept / 32 } else { kept / 16 };
-    if high % 2 == 0 { b'_' } else { b'-' }
 }

@@ -1,184 +1,183 @@
-// What an expectation finds: bytes, or numbers in the places of the statement's.
-use desk::{Desk, hosts, judge, plan, tell};
+// What an expectation finds: bytes, or values in the places of the statement's.
+use crate::{Look, Rows};
+use desk::{Desk, Failures, OTHER, Script, judge, plan, tell};
+use page::{Out, Page, Round};
 use picture::screen;
-use picture::screen::Marks;
-use statement::{
-    CELLS, HEARD_BYTES, Numbers, OTHER, RING_BYTES, TAKEN_BYTES, UNIT_CODES, UNIT_MEMORY,
-};
+use picture::screen::Frame;
+use statement::{CELLS, Form, Statement, Store, UNIT_MEMORY, Value, Values};
 
-// An expectation of bytes, or of numbers.
-pub fn expected<'a>(
-    forms: &[u8],
-    name: &[u8],
-    text: &[u8],
-    d: Desk,
-    looks: Numbers,
-    rows: &[u64; 256],
-    bytes: &mut [u8; 159744],
-    response: &'a [u8; 65536],
-    memory: &'a [u8; 38912],
-) -> Desk {
-    let mut page = [0u8; 8192];
-    let end = if is_of_bytes(d.statement.form) {
-        of_bytes(
-            d, forms, name, text, rows, bytes, response, memory, &mut page,
-        )
-    } else {
-        let found = numbers(d, looks, rows);
-        judge::numbers(d, found, forms, name, text, &mut page)
+// How many rounds no script can name.
+const MOST_ROUNDS: u64 = 1000000000;
+
+// An expectation of bytes, or of values.
+pub(crate) fn expected(
+    script: Script<'_>,
+    desk: &mut Desk,
+    look: &Look<'_>,
+    rows: &Rows,
+    store: &Store,
+    failures: &mut Failures,
+) {
+    let s = desk.statement;
+    let verdict = match bytes(desk, look, rows, store) {
+        Some(found) => judge::bytes(desk, script, word::front(&store.statement, s.bytes), found),
+        None => judge::values(desk, script, &values(desk, look, rows)),
     };
-    judge::judged(d, bytes, &mut page, end)
+    judge::judged(desk, verdict, failures);
 }
 
-fn is_of_bytes(form: u64) -> bool {
-    match form {
-        statement::RECEIVED..=statement::RING => true,
-        statement::BUFFER..=statement::SCREEN => true,
-        _ => false,
+// What an expectation of bytes finds, none for one of values: the data received, the response buffer, the command buffer of a unit, the row of
+// a screen, or bytes that are noted: those that were taken, the entries of the ring, those that a stand-in has heard.
+fn bytes<'a>(desk: &Desk, look: &Look<'a>, rows: &Rows, store: &'a Store) -> Option<&'a [u8]> {
+    let s = &desk.statement;
+    Some(match s.form? {
+        Form::ExpectData => word::front(look.response, desk.received),
+        Form::ExpectResponse => look.response,
+        Form::ExpectBuffer => word::front(part(desk, look.memory), 256),
+        Form::ExpectScreen => row(cells(part(desk, look.memory)), s.values.number_or(0, 0)),
+        Form::ExpectTaken => word::front(&store.taken, desk.taken),
+        Form::ExpectRing => word::front(&store.ring, desk.entries),
+        Form::ExpectHeard => heard(desk, rows, store),
+        _ => return None,
+    })
+}
+
+// What a stand-in has heard.
+fn heard<'a>(desk: &Desk, rows: &Rows, store: &'a Store) -> &'a [u8] {
+    let i = desk
+        .plan
+        .find_stand_in(desk.statement.values.at(0))
+        .unwrap_or(0);
+    match (rows.stand_ins.get(i), store.heard.get(i)) {
+        (Some(one), Some(heard)) => word::front(heard, one.heard()),
+        _ => &[],
     }
 }
 
-// The data received, the response buffer, the command buffer of a unit, the row of a screen, or bytes that are noted: those that were taken,
-// the entries of the ring, those that a stand-in has heard.
-fn of_bytes<'a>(
-    d: Desk,
-    forms: &[u8],
-    name: &[u8],
-    text: &[u8],
-    rows: &[u64; 256],
-    bytes: &'a [u8],
-    response: &'a [u8],
-    memory: &'a [u8],
-    page: &mut [u8; 8192],
-) -> usize {
-    let form = d.statement.form;
-    let code = d.statement.numbers.first;
-    let at = UNIT_MEMORY * (plan::subject(d.plan, d.statement, rows) % 16) as usize;
-    let row = at + CELLS + 80 * (code % 24) as usize;
-    let place = plan::find_stand_in(d.plan, rows, code) % 4;
-    let heard = HEARD_BYTES + 1024 * place as usize;
-    let found = match form {
-        statement::RECEIVED => word::front(response, d.received as usize),
-        statement::RESPONSE => response,
-        statement::BUFFER => word::part(memory, at, at + 256),
-        statement::SCREEN => word::part(memory, row, row + 80),
-        statement::TAKEN => word::part(bytes, TAKEN_BYTES, TAKEN_BYTES + (d.taken % 512) as usize),
-        statement::RING => word::part(bytes, RING_BYTES, RING_BYTES + (d.entries % 64) as usize),
-        _ => word::part(bytes, heard, heard + stand_in::heard(rows, place) % 2048),
-    };
-    let wanted = word::front(bytes, d.statement.bytes as usize);
-    judge::bytes(d, forms, name, text, wanted, found, page)
+// The memory of the unit that the statement speaks of.
+fn part<'a>(desk: &Desk, memory: &'a [u8]) -> &'a [u8] {
+    let i = desk.plan.subject(&desk.statement).unwrap_or(0);
+    unit_memory(memory, i)
 }
 
-// The numbers of the desk and of the lines. Those of a unit or of the controller were found by a look at it.
-fn numbers(d: Desk, looks: Numbers, rows: &[u64; 256]) -> Numbers {
-    let form = d.statement.form;
-    let mut n = Numbers::none();
-    match form {
-        statement::QUEUED => return looks,
-        statement::LOOKS..=statement::PULLS => return looks,
-        statement::STANDS => return looks,
-        statement::CURSOR => {
-            n.first = looks.first;
-            n.second = looks.second;
-            n.third = d.statement.numbers.third;
+fn unit_memory(memory: &[u8], i: usize) -> &[u8] {
+    memory.chunks(UNIT_MEMORY).nth(i).unwrap_or(&[])
+}
+
+// The cells of a screen.
+fn cells(memory: &[u8]) -> &[u8] {
+    word::front(word::behind(memory, CELLS), 1920)
+}
+
+fn row(cells: &[u8], number: u64) -> &[u8] {
+    cells
+        .chunks(80)
+        .nth(usize::try_from(number).unwrap_or(0))
+        .unwrap_or(&[])
+}
+
+// The values of the desk and of the lines. Those of a unit or of the controller were found by a look at it.
+fn values(desk: &Desk, look: &Look<'_>, rows: &Rows) -> Values {
+    let named = &desk.statement.values;
+    let mut found = Values::none();
+    match desk.statement.form {
+        Some(
+            Form::ExpectQueued
+            | Form::ExpectUnit
+            | Form::ExpectPhase
+            | Form::ExpectPulls
+            | Form::ExpectController,
+        ) => return look.values,
+        Some(Form::ExpectCursor) => {
+            found.set(0, look.values.at(0));
+            found.set(1, look.values.at(1));
+            found.set(2, named.at(2));
         }
-        statement::LINES => {
-            let l = crate::levels(d, rows);
-            n.first = statement::flag(l.bav);
-            n.second = statement::flag(l.hsk);
-            n.third = l.nibble as u64;
+        Some(Form::ExpectLines) => {
+            let lines = crate::levels(desk, rows);
+            found.set_flag(0, lines.bav);
+            found.set_flag(1, lines.hsk);
+            found.set_number(2, u64::from(lines.nibble));
         }
-        statement::TURNS..=statement::WAITED => {
-            let row = if form == statement::TURNS {
-                hosts::TURNS
-            } else {
-                hosts::WAITED
-            };
-            let code = d.statement.numbers.first;
-            n.first = code;
-            n.second = hosts::number(rows, row, plan::find(d.plan, rows, code));
+        Some(form @ (Form::ExpectTurns | Form::ExpectWaited)) => {
+            let host = rows.hosts.at(desk.plan.find(named.at(0)));
+            found.set(0, named.at(0));
+            found.set_number(
+                1,
+                if form == Form::ExpectTurns {
+                    host.turns
+                } else {
+                    host.waited
+                },
+            );
         }
-        _ => n.first = number(d, form, rows),
+        Some(form) => found.set(0, value(desk, form, rows)),
+        None => {}
     }
-    n
+    found
 }
 
-// The one number that an expectation finds; of what has no number, 1 where it is not so.
-fn number(d: Desk, form: u64, rows: &[u64; 256]) -> u64 {
-    match form {
-        statement::STATUS => d.status,
-        statement::REQUEST => d.request,
-        statement::REQUESTS => d.requests,
+// The one value that an expectation finds; of what has no value, 1 where it is not so.
+fn value(desk: &Desk, form: Form, rows: &Rows) -> Option<Value> {
+    let number = match form {
+        Form::ExpectStatus => return or_none(desk.status),
+        Form::ExpectRequest => return or_none(desk.request),
+        Form::ExpectRefusal => return or_none(desk.refusal),
+        Form::ExpectQuiet => return (!is_quiet(desk, rows)).then_some(Value::Number(1)),
+        Form::ExpectUnreached => return desk.is_reached.then_some(Value::Number(1)),
+        Form::ExpectRequests => desk.requests,
         // No script can name a round behind the last of these.
-        statement::ROUND => if d.round < 1000000000 {
-            d.round
-        } else {
-            1000000000
-        },
-        statement::ROUNDS => d.ran,
-        statement::IS_QUIET => statement::flag(!is_quiet(d, rows)),
-        statement::UNREACHED => statement::flag(d.is_reached),
-        _ => if d.refusal == 0 { OTHER } else { d.refusal },
-    }
+        Form::ExpectRound => desk.round.min(MOST_ROUNDS),
+        _ => desk.ran,
+    };
+    Some(Value::Number(number))
+}
+
+// A number, or the word `none`.
+fn or_none(number: Option<u8>) -> Option<Value> {
+    Some(number.map_or(OTHER, |n| Value::Number(u64::from(n))))
 }
 
 // Whether no party has anything to do: no line is pulled, no frame or rest runs, nothing is submitted, no unit holds a request.
-pub fn is_quiet(d: Desk, rows: &[u64; 256]) -> bool {
-    let l = crate::levels(d, rows);
+pub(crate) fn is_quiet(desk: &Desk, rows: &Rows) -> bool {
+    let l = crate::levels(desk, rows);
     let is_pulled = l.bav | l.hsk | (l.nibble != 15);
-    d.is_free & !is_pulled & (d.requesting == 0)
+    desk.view.is_free & !is_pulled & !desk.view.is_requesting
 }
 
 // The screen of the statement in its frame, and what a look at it has found.
-pub fn show_screen(d: Desk, looks: Numbers, rows: &[u64; 256], memory: &[u8]) {
-    let i = plan::subject(d.plan, d.statement, rows) % 16;
-    let marks = Marks {
-        row: looks.first,
-        column: looks.second,
-        top: looks.fifth == 1,
-        bottom: looks.sixth == 1,
+pub(crate) fn show_screen(desk: &Desk, look: &Look<'_>) {
+    let looks = &look.values;
+    let frame = Frame {
+        row: looks.number(0),
+        column: looks.number(1),
+        top: looks.number(4) == Some(1),
+        bottom: looks.number(5) == Some(1),
     };
-    screen::show(d.out, cells(memory, i), marks);
-    tell::screen(d, looks);
+    screen::show(desk.out, cells(part(desk, look.memory)), frame);
+    tell::screen(desk, looks);
 }
 
 // Writes each screen of the bus to a file, if there is one.
-pub fn write_screens(d: Desk, file: i32, rows: &[u64; 256], memory: &[u8]) -> Desk {
-    let mut next = d;
-    let n = if 0 < file { d.plan.count } else { 0 };
-    let mut i = 0u64;
-    while i < n % 17 {
-        if plan::is_screen(hosts::number(rows, UNIT_CODES, i)) {
-            let ok = screen::write(file, cells(memory, i));
-            next.is_lost = next.is_lost | !ok;
-        }
-        i += 1;
+pub fn write_screens(desk: &mut Desk, file: Out, memory: &[u8]) {
+    if file.is_none() {
+        return;
     }
-    next
-}
-
-// The cells of the screen at a place.
-fn cells(memory: &[u8], i: u64) -> &[u8] {
-    let at = UNIT_MEMORY * (i % 16) as usize + CELLS;
-    word::part(memory, at, at + 1920)
+    for (i, code) in desk.plan.units.all().iter().enumerate() {
+        if plan::is_screen(*code) {
+            let is_written = screen::write(file, cells(unit_memory(memory, i)));
+            desk.is_lost |= !is_written;
+        }
+    }
 }
 
 // The unit at a place in the words in which it is expected, and how many turns it had.
-pub fn show_unit(d: Desk, forms: &[u8], looks: Numbers, i: u64, rows: &[u64; 256]) {
-    let mut page = [0u8; 8192];
-    put_unit(
-        d,
-        forms,
-        looks,
-        hosts::number(rows, hosts::TURNS, i),
-        &mut page,
-    );
-}
-
-fn put_unit(d: Desk, forms: &[u8], looks: Numbers, turns: u64, page: &mut [u8; 8192]) {
-    let n = fault::statement(page, 0, forms, statement::LOOKS, looks);
-    tell::say(d, tell::ROUND, 0, 0, 0);
-    page::say(d.out, word::part(page, 8, n));
-    tell::say(d, tell::TURNS, turns, 0, 0);
+pub fn show_unit(desk: &Desk, looks: &Values, i: usize, rows: &Rows) {
+    let mut page = Page::new();
+    fault::statement(&mut page, Form::ExpectUnit, looks);
+    // Without ` expect ` before them.
+    let words = word::behind(page.letters(), 8);
+    desk.say(Round(desk.round));
+    page::say(desk.out, words);
+    desk.say(format_args!(" turns {}\n", rows.hosts.at(Some(i)).turns));
 }

@@ -3,305 +3,379 @@
 
 #![tactic(auto)]
 
+ghost use Rattle.std.specs.Prelude.{◌<◌, IsTrue};
+
 pub mod found;
 pub mod noted;
 pub mod pictured;
 
-use desk::{Desk, hosts, judge, plan, tell};
+use desk::hosts::Hosts;
+use desk::{Awaited, Desk, Failures, Part, Script, Until, Work, judge, plan, tell};
 use line::Lines;
-use page::STDERR_FILENO;
-use statement::{A_ROUND, Doing, Numbers, OF_CONTROLLER, ONE_MORE, Statement};
+use page::{STDERR, STDOUT};
+use script::Line;
+use stand_in::StandIn;
+use statement::{Act, Doing, Form, Statement, Store, Values};
+
+// What there is of each host and of each stand-in of a bus.
+#[derive(Drop)]
+pub struct Rows {
+    pub hosts: Hosts,
+    pub stand_ins: [StandIn; 4],
+}
+
+// What a look at the bus has found: the values that an expectation finds of a party, the response buffer, and the memory of units.
+#[derive(Clone, Copy)]
+pub struct Look<'a> {
+    pub values: Values,
+    pub response: &'a [u8],
+    pub memory: &'a [u8],
+}
 
 // A run until something has happened is at most so long, where the script sets no limit.
 const LIMIT: u64 = 100000;
 
-// The statement of the next line, said as it was written, and what the bus is to do for it.
-pub fn next(
-    forms: &[u8],
-    name: &[u8],
-    text: &[u8],
-    d: Desk,
-    rows: &mut [u64; 256],
-    bytes: &mut [u8; 159744],
-) -> Desk {
-    let p = plan::next_line(d.plan, text);
-    let line = word::part(text, p.start, p.end);
-    let read = script::read(forms, line, p.pass, bytes);
-    let s = read.statement;
-    let mut next = d;
-    next.plan = p;
-    next.statement = s;
-    next.is_under_way = true;
-    next = judge::settled(next, name, text, s.form, bytes);
-    said(next, line, read.reading.at);
-    planned(next, rows, bytes)
+// How far a long run is, is said every so many rounds.
+const LONG: u64 = 1000000;
+
+impl Rows {
+    // Hosts that do nothing by themselves, and stand-ins that are not there yet.
+    pub fn new() -> Rows {
+        Rows {
+            hosts: Hosts::new(),
+            stand_ins: [StandIn::new(None); 4],
+        }
+    }
+
+    // The stand-ins that there are.
+    fn stand_ins(&self, desk: &Desk) -> &[StandIn] {
+        &self.stand_ins[..desk.plan.stand_ins.len()]
+    }
 }
 
-// A statement is said before what comes of it; of `say` the words alone, from a place of its line on.
-fn said(d: Desk, line: &[u8], at: usize) {
-    if d.statement.form == statement::SAY {
-        let words = word::next(line, at);
-        page::show(d.out, word::part(line, words.start, line.len()));
-        tell::say(d, tell::END, 0, 0, 0);
-    } else if d.statement.form < statement::BLANK {
-        tell::say(d, tell::QUOTE, 0, 0, 0);
-        page::show(d.out, word::front(line, 100));
-        tell::say(d, tell::END, 0, 0, 0);
+// The statement of the next line, said as it was written, and what the bus is to do for it.
+pub fn next(
+    script: Script<'_>,
+    desk: &mut Desk,
+    rows: &mut Rows,
+    store: &mut Store,
+    failures: &mut Failures,
+) {
+    let line = desk.plan.next_line(script.text);
+    let read = script::read(line, desk.plan.pass(), &mut store.statement);
+    // Each line of the script was read before, and is a statement or none.
+    let read = read.unwrap_or(Line {
+        statement: Statement::blank(),
+        rest: b"",
+    });
+    desk.statement = read.statement;
+    desk.is_under_way = true;
+    judge::settled(desk, script, read.statement.form, failures);
+    said(desk, line, read.rest);
+    planned(desk, rows, store);
+}
+
+// A statement is said before what comes of it; of `say` the words alone, which stand in the rest of its line.
+fn said(desk: &Desk, line: &[u8], rest: &[u8]) {
+    match desk.statement.form {
+        Some(Form::Say) => page::show(desk.out, word::past_blanks(rest)),
+        Some(_) => {
+            desk.say("> ");
+            page::show(desk.out, word::front(line, 100));
+        }
+        None => return,
     }
+    desk.say("\n");
 }
 
 // The script has ended.
-pub fn ended(
-    name: &[u8],
-    text: &[u8],
-    d: Desk,
-    rows: &[u64; 256],
-    bytes: &mut [u8; 159744],
-) -> Desk {
-    pictured::end(judge::settled(d, name, text, statement::SAY, bytes), rows)
+pub fn ended(script: Script<'_>, desk: &mut Desk, failures: &mut Failures) {
+    judge::settled(desk, script, Some(Form::Say), failures);
+    pictured::end(desk);
 }
 
-// Who acts for each form, a letter for each: c the controller, p the party of the code, t the party so many times, r all in rounds, d all
-// for a `do`, m a unit more, s nobody, for what is set stands on the desk alone.
-fn actor(form: u64) -> u8 {
-    word::letter(
-        b"cmssccdsscpppsssprrrrt---------------------------------",
-        (form % 64) as usize,
-    )
-}
-
-// What the bus is to do for a statement.
-fn planned(d: Desk, rows: &mut [u64; 256], bytes: &mut [u8; 159744]) -> Desk {
-    let s = d.statement;
-    let mut next = part(d, 0, OF_CONTROLLER, 1, s.form);
-    if s.form <= statement::STEP {
-        next.refusal = 0;
-        next.is_reached = true;
-    }
-    match actor(s.form) {
-        b'c' => {}
-        b'm' => next.act = ONE_MORE,
-        b'p' => next.act = plan::party(d.plan, rows, s.numbers.first),
-        b't' => {
-            next.act = plan::party(d.plan, rows, s.numbers.first);
-            next.most = statement::or(s.numbers.sixth, 1);
+// What the bus is to do for a statement. Of the others what they set stands on the desk alone, or they only look at the bus.
+fn planned(desk: &mut Desk, rows: &mut Rows, store: &mut Store) {
+    let s = desk.statement;
+    let Some(form) = s.form else {
+        desk.work = Work::new(Act::Controller, 0);
+        return;
+    };
+    desk.work = match form {
+        Form::Controller | Form::Submit | Form::Force | Form::Acknowledge => {
+            Work::new(Act::Controller, 1)
         }
-        b'r' => {
-            next.act = A_ROUND;
-            next.most = statement::or(s.numbers.first, LIMIT);
+        Form::Unit => Work::new(Act::OneMore, 1),
+        Form::Feed | Form::Take | Form::Raise | Form::Restart => Work::new(party(desk), 1),
+        Form::Step => Work::new(party(desk), s.values.number_or(5, 1)),
+        Form::RunUntilEnded | Form::RunUntilQuiet | Form::RunUntilFree | Form::Run => {
+            Work::new(Act::Round, s.values.number_or(0, LIMIT)).until(until(form))
         }
-        b'd' => next = part(next, 1, A_ROUND, LIMIT, statement::UNTIL_FREE),
-        b's' => next = set(next, rows, bytes),
-        _ => next.most = 0,
-    }
-    next
+        Form::Do => waits(),
+        Form::StandIn
+        | Form::Answer
+        | Form::AcknowledgeEach
+        | Form::AcknowledgeByHand
+        | Form::Busy
+        | Form::Free
+        | Form::Hold => {
+            set(desk, form, rows, store);
+            Work::new(Act::Controller, 0)
+        }
+        _ => {
+            desk.work = Work::new(Act::Controller, 0);
+            return;
+        }
+    };
+    desk.refusal = None;
+    desk.is_reached = true;
 }
 
-// A part of what the bus is to do: the act, how often at the most, and the form that names when it is over.
-fn part(d: Desk, number: u64, act: u64, most: u64, until: u64) -> Desk {
-    let mut next = d;
-    next.part = number;
-    next.act = act;
-    next.most = most;
-    next.until = until;
-    next.done = 0;
-    next
+// An act of the party whose code is the first value of the statement.
+fn party(desk: &Desk) -> Act {
+    match desk.plan.find(desk.statement.values.at(0)) {
+        Some(i) => Act::Unit(i),
+        None => Act::Controller,
+    }
+}
+
+// What a run waits for.
+fn until(form: Form) -> Option<Until> {
+    match form {
+        Form::RunUntilEnded => Some(Until::Ended),
+        Form::RunUntilQuiet => Some(Until::Quiet),
+        Form::RunUntilFree => Some(Until::Free),
+        _ => None,
+    }
+}
+
+// The three parts of a `do`.
+fn waits() -> Work {
+    Work::new(Act::Round, LIMIT)
+        .until(Some(Until::Free))
+        .part(Part::Waits)
+}
+
+fn submits() -> Work {
+    Work::new(Act::Controller, 1).part(Part::Submits)
+}
+
+fn runs() -> Work {
+    Work::new(Act::Round, LIMIT)
+        .until(Some(Until::Ended))
+        .part(Part::Runs)
 }
 
 // What application, hosts, lines and stand-ins do from now on.
-fn set(d: Desk, rows: &mut [u64; 256], bytes: &mut [u8; 159744]) -> Desk {
-    let form = d.statement.form;
-    let n = d.statement.numbers;
-    let mut next = d;
-    next.most = 0;
+fn set(desk: &mut Desk, form: Form, rows: &mut Rows, store: &mut Store) {
+    let s = desk.statement;
+    let values = &s.values;
+    let place = desk.plan.find(values.at(0));
     match form {
-        statement::STAND_IN => next.plan = plan::stand_in(d.plan, n, rows),
-        statement::ANSWER => answer(
-            plan::find_stand_in(d.plan, rows, n.first) % 4,
-            d.statement,
-            rows,
-            bytes,
-        ),
-        statement::EACH => next.acknowledges = true,
-        statement::BY_HAND => next.acknowledges = false,
-        statement::HOLD => {
-            next.hold = n.first;
-            next.held_low = desk::levels(n);
+        Form::StandIn => {
+            let i = desk.plan.stand_ins.len();
+            desk.plan.add_stand_in(values);
+            if let Some(one) = rows.stand_ins.get_mut(i) {
+                *one = StandIn::new(plan::heard(values.at(0)));
+            }
         }
+        Form::Answer => answer(desk, rows, store),
+        Form::AcknowledgeEach => desk.acknowledges = true,
+        Form::AcknowledgeByHand => desk.acknowledges = false,
+        Form::Busy => rows.hosts.be_busy(place, values.number_or(1, 0)),
+        Form::Free => rows.hosts.be_free(place, values.number_or(2, 0)),
         _ => {
-            next.has_busy_hosts = true;
-            hosts::busy(form, n, plan::party(d.plan, rows, n.first), rows);
+            desk.hold = values.number_or(0, 0);
+            desk.held_low = desk::levels(values);
         }
     }
-    next
 }
 
 // What a stand-in answers.
-fn answer(i: u64, s: Statement, rows: &mut [u64; 256], bytes: &mut [u8; 159744]) {
-    let length = s.bytes % 1025;
-    stand_in::answer(rows, i, s.numbers, length);
-    statement::copy(
-        bytes,
-        statement::ANSWER_BYTES + 1024 * (i % 4) as usize,
-        length as usize,
-    );
+fn answer(desk: &Desk, rows: &mut Rows, store: &mut Store) {
+    let s = &desk.statement;
+    let Some(i) = desk.plan.find_stand_in(s.values.at(0)) else {
+        return;
+    };
+    let bytes = word::front(&store.statement, s.bytes);
+    if let Some(one) = rows.stand_ins.get_mut(i) {
+        one.answer(&s.values, bytes.len());
+    }
+    let kept = store.answers.get_mut(i);
+    if let Some(kept) = kept.and_then(|answer| answer.get_mut(..bytes.len())) {
+        kept.copy_from_slice(bytes);
+    }
 }
 
 // Whether the bus does so once more. How far a long run is, is said.
-pub fn goes_on(d: Desk, rows: &[u64; 256]) -> bool {
-    if (d.done % 1000000 == 0) & (0 < d.done) & (d.act == A_ROUND) {
-        page::tell(
-            STDERR_FILENO,
-            b"hexbus: # of # rounds\n",
-            d.done,
-            d.most,
-            0,
-            0,
-        );
+pub fn goes_on(desk: &Desk, rows: &Rows) -> bool
+    ensures { IsTrue result → desk.now.work.done < desk.now.work.most }
+{
+    let Work {
+        act,
+        done,
+        most,
+        ..
+    } = desk.work;
+    if (done % LONG == 0) & (0 < done) & (act == Act::Round) {
+        page::tell(STDERR, format_args!("hexbus: {done} of {most} rounds\n"));
     }
-    (d.done < d.most) & !is_over(d, rows)
+    (done < most) & !is_over(desk, rows)
 }
 
 // Whether the run has come to the end that it was to come to.
-fn is_over(d: Desk, rows: &[u64; 256]) -> bool {
-    let until = d.until;
-    match until {
-        statement::ENDED => !d.is_submitted,
-        statement::QUIET => found::is_quiet(d, rows),
-        statement::UNTIL_FREE => d.is_free,
-        _ => false,
+fn is_over(desk: &Desk, rows: &Rows) -> bool {
+    match desk.work.until {
+        Some(Until::Ended) => !desk.is_submitted,
+        Some(Until::Quiet) => found::is_quiet(desk, rows),
+        Some(Until::Free) => desk.view.is_free,
+        None => false,
     }
 }
 
 // The levels left by all pulls: those of the parties of the bus, of stand-ins, and of what holds lines low from outside.
-pub fn levels(d: Desk, rows: &[u64; 256]) -> Lines {
-    let l = stand_in::levels(rows, d.plan.stand_ins, d.lines);
-    if 0 < d.hold {
-        return line::wired(l, d.held_low);
+pub(crate) fn levels(desk: &Desk, rows: &Rows) -> Lines {
+    let lines = stand_in::levels(rows.stand_ins(desk), desk.view.lines);
+    if 0 < desk.hold {
+        line::wired(lines, desk.held_low)
+    } else {
+        lines
     }
-    l
 }
 
-// What the bus does now, in a round at these levels, and else at those that the statement names.
-pub fn doing(d: Desk, rows: &mut [u64; 256]) -> Doing {
-    let act = hosts::now(d, rows);
-    let busy = hosts::busy_hosts(d, act, rows);
-    let seen = if act == A_ROUND {
-        levels(d, rows)
+// What the bus does now, in a round at these levels, and else at those that the statement names. Before a round it is an act of a unit whose
+// host is due to raise a request by itself.
+pub fn doing(desk: &Desk, rows: &mut Rows) -> Doing {
+    let is_round = desk.work.act == Act::Round;
+    let due = if is_round & !desk.has_raised {
+        rows.hosts.due(desk.round)
     } else {
-        desk::levels(d.statement.numbers)
+        None
+    };
+    let (act, seen, busy) = match due {
+        Some(i) => (Act::Unit(i), desk::levels(&desk.statement.values), 0),
+        None if is_round => (Act::Round, levels(desk, rows), rows.hosts.busy()),
+        None => (desk.work.act, desk::levels(&desk.statement.values), 0),
     };
     Doing {
         act,
-        bav: seen.bav,
-        hsk: seen.hsk,
-        nibble: seen.nibble,
+        seen,
         busy,
-        length: d.length,
-        lent: d.lent,
+        length: desk.length,
+        lent: desk.lent,
     }
 }
 
-// The bus has done what it was to do for a statement, or for a part of it, which is then numbered. What a look at a party has found.
-pub fn concluded<'a>(
-    forms: &[u8],
-    name: &[u8],
-    text: &[u8],
-    d: Desk,
-    found: Numbers,
-    rows: &[u64; 256],
-    bytes: &mut [u8; 159744],
-    response: &'a [u8; 65536],
-    memory: &'a [u8; 38912],
-) -> Desk {
-    let s = d.statement;
-    let form = s.form;
-    let mut next = d;
-    match form {
-        statement::DO => next = submits(d, rows),
-        statement::CONTROLLER..=statement::STEP => next = acted(d, rows, bytes),
-        statement::SHOW_SCREEN => found::show_screen(d, found, rows, memory),
-        statement::REPEAT..=statement::SHOW_FAILURES => next = shown(d, bytes, response),
-        statement::STATUS..=statement::STANDS => {
-            next = found::expected(forms, name, text, d, found, rows, bytes, response, memory)
+// The bus has done what it was to do for a statement, or for a part of it. What a look at it has found.
+pub fn concluded(
+    script: Script<'_>,
+    desk: &mut Desk,
+    look: &Look<'_>,
+    rows: &Rows,
+    store: &Store,
+    failures: &mut Failures,
+) {
+    let s = desk.statement;
+    if let Some(form) = s.form {
+        match form {
+            Form::RunUntilEnded | Form::RunUntilQuiet | Form::RunUntilFree | Form::Run => {
+                ran(desk, rows)
+            }
+            Form::Do => done(desk, rows),
+            Form::Step => desk.ran = desk.work.done,
+            Form::Take => tell::given(desk, word::front(&store.taken, desk.taken)),
+            Form::Controller
+            | Form::Unit
+            | Form::Submit
+            | Form::Force
+            | Form::Acknowledge
+            | Form::Feed
+            | Form::Raise
+            | Form::Restart => tell::refusal(desk, form),
+            _ if is_of_desk(form) => shown(desk, form, look, store),
+            _ => found::expected(script, desk, look, rows, store, failures),
         }
-        _ => {}
     }
-    if next.part == 0 {
-        next.is_under_way = false;
-        next.plan = plan::past(next.plan, s);
+    if desk.work.part.is_none() {
+        desk.is_under_way = false;
+        desk.plan.past(&s);
     }
-    next
 }
 
 // A `do` waits until the bus is free, submits, and runs until the command has ended.
-fn submits(d: Desk, rows: &[u64; 256]) -> Desk {
-    let mut next = d;
-    next.part = 0;
-    if d.part == 3 {
-        return ran(next, rows);
-    }
-    if d.part == 2 {
-        tell::refusal(d, statement::DO);
-        if d.refusal == 0 {
-            return part(d, 3, A_ROUND, LIMIT, statement::ENDED);
+fn done(desk: &mut Desk, rows: &Rows) {
+    match desk.work.part {
+        Some(Part::Waits) => {
+            desk.ran = desk.work.done;
+            if is_over(desk, rows) {
+                desk.work = submits();
+            } else {
+                desk.work.part = None;
+                unreached(desk);
+            }
         }
-        return next;
+        Some(Part::Submits) => {
+            tell::refusal(desk, Form::Do);
+            if desk.refusal.is_none() {
+                desk.work = runs();
+            } else {
+                desk.work.part = None;
+            }
+        }
+        Some(Part::Runs) | None => {
+            desk.work.part = None;
+            ran(desk, rows);
+        }
     }
-    next.ran = d.done;
-    if is_over(d, rows) {
-        return part(next, 2, OF_CONTROLLER, 1, statement::RUN);
-    }
-    unreached(next)
-}
-
-// Calls and rounds.
-fn acted(d: Desk, rows: &[u64; 256], bytes: &[u8]) -> Desk {
-    let s = d.statement;
-    let mut next = d;
-    if s.form == statement::STEP {
-        next.ran = d.done;
-        return next;
-    }
-    if d.act == A_ROUND {
-        return ran(d, rows);
-    }
-    if s.form == statement::TAKE {
-        tell::given(d, s.numbers.first, bytes);
-    }
-    tell::refusal(d, s.form);
-    next
 }
 
 // A run, and how long it was.
-fn ran(d: Desk, rows: &[u64; 256]) -> Desk {
-    let mut next = d;
-    if (d.until != statement::RUN) & !is_over(d, rows) {
-        next = unreached(d);
+fn ran(desk: &mut Desk, rows: &Rows) {
+    if desk.work.until.is_some() & !is_over(desk, rows) {
+        unreached(desk);
     }
-    next.ran = d.done;
-    tell::say(d, tell::ROUNDS, d.done, 0, 0);
-    next
+    desk.ran = desk.work.done;
+    desk.note(format_args!("{} rounds\n", desk.ran));
 }
 
-fn unreached(d: Desk) -> Desk {
-    let mut next = desk::awaited(d, desk::UNREACHED);
-    next.ran = d.done;
-    next.is_reached = false;
-    tell::say(d, tell::NOT_REACHED, 0, 0, 0);
-    next
+fn unreached(desk: &mut Desk) {
+    desk.awaits(Awaited::Unreached);
+    desk.ran = desk.work.done;
+    desk.is_reached = false;
+    desk.say("          not reached\n");
 }
 
-fn shown(d: Desk, bytes: &[u8], response: &[u8]) -> Desk {
-    let form = d.statement.form;
-    let mut next = d;
+// Whether a statement shows something, or what it sets stands on the desk alone.
+fn is_of_desk(form: Form) -> bool {
+    matches!(
+        form,
+        Form::StandIn
+            | Form::Answer
+            | Form::AcknowledgeEach
+            | Form::AcknowledgeByHand
+            | Form::Busy
+            | Form::Free
+            | Form::Hold
+            | Form::Repeat
+            | Form::End
+            | Form::ShowUnits
+            | Form::ShowRing
+            | Form::ShowData
+            | Form::ShowScreen
+            | Form::ShowLines
+            | Form::ShowFailures
+            | Form::Say
+    )
+}
+
+fn shown(desk: &mut Desk, form: Form, look: &Look<'_>, store: &Store) {
     match form {
-        statement::SHOW_RING => tell::ring(d, bytes),
-        statement::SHOW_DATA => tell::received(d, word::front(response, d.received as usize)),
-        statement::SHOW_LINES => next.is_pictured = !d.is_pictured,
-        statement::SHOW_FAILURES => next.out = if d.out == 0 { 1 } else { 0 },
-        statement::END => tell::say(d, tell::PASS, d.plan.pass, 0, 0),
+        Form::End => desk.say(format_args!("          pass {}\n", desk.plan.pass().unwrap_or(0))),
+        Form::ShowRing => tell::ring(desk, word::front(&store.ring, desk.entries)),
+        Form::ShowData => tell::received(desk, word::front(look.response, desk.received)),
+        Form::ShowScreen => found::show_screen(desk, look),
+        Form::ShowLines => desk.is_pictured = !desk.is_pictured,
+        Form::ShowFailures => desk.out = if desk.out.is_none() { STDOUT } else { None },
         _ => {}
     }
-    next
 }

@@ -1,246 +1,232 @@
 // What is noted and said of what the bus did.
-use desk::{Desk, hosts, plan, tell};
+use crate::Rows;
+use desk::{Desk, View, tell};
 use line::Lines;
-use statement::{A_ROUND, Doing, NEW, NONE, OF_CONTROLLER, ONE_MORE, OTHER, Told};
+use page::{Command, Status};
+use statement::{Act, Doing, Event, Form, Framed, Refusal, Stepped, Store, Told};
 
 // What an act of the bus came to.
 pub fn acted(
-    d: Desk,
-    w: Doing,
-    t: Told,
-    rows: &mut [u64; 256],
-    bytes: &mut [u8; 159744],
+    desk: &mut Desk,
+    doing: &Doing,
+    told: Told,
+    rows: &mut Rows,
+    store: &mut Store,
     response: &[u8],
-) -> Desk {
-    let act = w.act;
-    if (act < 16) & (d.act == A_ROUND) {
-        return by_itself(d, act, t.number, rows, bytes);
+) {
+    if let (Act::Unit(i), Act::Round) = (doing.act, desk.work.act) {
+        by_itself(desk, i, told, rows, store);
+        return;
     }
-    let mut next = d;
-    next.done = d.done % desk::FOR_EVER + 1;
-    match act {
-        A_ROUND => round(next, w, t, rows, bytes, response),
-        OF_CONTROLLER => of_controller(next, t, rows, response),
-        ONE_MORE => one_more(next, t.number, rows),
-        _ => of_unit(next, act, t.number, rows, bytes),
+    desk.work.done = desk.work.done.saturating_add(1);
+    match doing.act {
+        Act::Round => round(desk, doing.seen, told, rows, store, response),
+        Act::Controller => of_controller(desk, told, rows, response),
+        Act::OneMore => one_more(desk, told),
+        Act::Unit(i) => of_unit(desk, i, told, rows, store),
+    }
+}
+
+// Whether a call was refused.
+fn outcome(told: Told) -> Result<(), Refusal> {
+    match told {
+        Told::Called(outcome) => outcome,
+        _ => Ok(()),
     }
 }
 
 // One unit more, if its settings are in range.
-fn one_more(d: Desk, refusal: u64, rows: &mut [u64; 256]) -> Desk {
-    let mut next = desk::refused(d, refusal);
-    next.plan = plan::unit(d.plan, d.statement.numbers, rows);
-    next
+fn one_more(desk: &mut Desk, told: Told) {
+    desk.called(outcome(told));
+    let values = desk.statement.values;
+    desk.plan.add_unit(&values);
 }
 
-// The unit at a place has acted for the statement: the number that this came to.
-fn of_unit(d: Desk, i: u64, number: u64, rows: &mut [u64; 256], bytes: &[u8; 159744]) -> Desk {
-    let form = d.statement.form;
-    let every = d.statement.numbers.second;
-    let mut next = d;
-    match form {
-        statement::FEED => return desk::refused(d, number),
-        statement::TAKE => next.taken = number,
-        statement::RAISE => {
-            if every == NONE {
-                return raised(d, i, number, rows, bytes);
-            }
-            hosts::raise(rows, i, d.round, every);
-            next.has_raising_hosts = true;
+// The unit at a place has acted for the statement.
+fn of_unit(desk: &mut Desk, i: usize, told: Told, rows: &mut Rows, store: &Store) {
+    match desk.statement.form {
+        Some(Form::Feed) => desk.called(outcome(told)),
+        Some(Form::Take) => {
+            desk.taken = match told {
+                Told::Taken(n) => n,
+                _ => 0,
+            };
         }
-        statement::STEP => return stepped(d, number),
+        Some(Form::Raise) => match desk.statement.values.number(1) {
+            Some(every) => rows.hosts.raise(i, desk.round, every),
+            None => raised(desk, i, told, rows, store),
+        },
+        Some(Form::Step) => stepped(desk, told),
         _ => {}
     }
-    next
 }
 
 // A request is new, was held already, or is refused.
-fn raised(d: Desk, i: u64, number: u64, rows: &mut [u64; 256], bytes: &[u8; 159744]) -> Desk {
-    if number == NEW {
-        let code = hosts::number(rows, statement::UNIT_CODES, i);
-        hosts::waiting(rows, i, tell::ahead(bytes, code));
-        tell::say(d, tell::REQUEST, code, 0, 0);
-        return d;
-    }
-    desk::refused(d, number)
+fn raised(desk: &mut Desk, i: usize, told: Told, rows: &mut Rows, store: &Store) {
+    let Told::Raised = told else {
+        desk.called(outcome(told));
+        return;
+    };
+    let code = desk.plan.units.all().get(i).copied().unwrap_or(0);
+    rows.hosts.waiting(i, tell::ahead(&store.ring, code));
+    desk.note(format_args!("{code} holds a request\n"));
 }
 
 // A request of a host that raises by itself. A refusal before it in the same run stands.
-fn by_itself(d: Desk, i: u64, number: u64, rows: &mut [u64; 256], bytes: &[u8; 159744]) -> Desk {
-    let mut next = raised(d, i, number, rows, bytes);
-    next.has_raised = true;
-    if (number == NEW) | (number == 0) {
-        next.refusal = d.refusal;
-        return next;
+fn by_itself(desk: &mut Desk, i: usize, told: Told, rows: &mut Rows, store: &Store) {
+    let before = desk.refusal;
+    raised(desk, i, told, rows, store);
+    desk.has_raised = true;
+    if outcome(told).is_ok() {
+        desk.refusal = before;
+    } else {
+        tell::refusal(desk, Form::Raise);
     }
-    tell::refusal(next, statement::RAISE);
-    next
 }
 
 // A step by hand counts as a round.
-fn stepped(d: Desk, refusal: u64) -> Desk {
-    let mut next = desk::refused(d, refusal);
-    next.round = d.round % desk::FOR_EVER + 1;
-    tell::refusal(next, statement::STEP);
-    next
+fn stepped(desk: &mut Desk, told: Told) {
+    desk.called(outcome(told));
+    desk.round = desk.round.saturating_add(1);
+    tell::refusal(desk, Form::Step);
 }
 
 // The controller has acted for the statement.
-fn of_controller(d: Desk, t: Told, rows: &mut [u64; 256], response: &[u8]) -> Desk {
-    let s = d.statement;
-    let n = s.numbers;
-    let mut next = d;
-    if s.form == statement::STEP {
-        next.round = d.round % desk::FOR_EVER + 1;
-        next.refusal = 0;
-        return told(next, t, rows, response);
+fn of_controller(desk: &mut Desk, told: Told, rows: &mut Rows, response: &[u8]) {
+    if let Told::Stepped(step) = told {
+        desk.round = desk.round.saturating_add(1);
+        desk.refusal = None;
+        came_to(desk, step, rows, response);
+        return;
     }
-    if 0 < t.number {
-        return desk::refused(d, t.number);
+    let outcome = outcome(told);
+    if outcome.is_err() {
+        desk.called(outcome);
+        return;
     }
-    if s.form == statement::RESTART {
-        next.is_submitted = false;
+    let s = desk.statement;
+    match s.form {
+        Some(Form::Restart) => desk.is_submitted = false,
+        Some(Form::Submit | Form::Force | Form::Do) => {
+            // What came of the last command is forgotten.
+            desk.is_submitted = true;
+            desk.length = s.bytes.saturating_add(s.values.front());
+            desk.lent = usize::try_from(s.values.number_or(5, 65535)).unwrap_or(65535);
+            desk.status = None;
+            desk.request = None;
+            desk.received = 0;
+        }
+        _ => {}
     }
-    if (statement::SUBMIT <= s.form) & (s.form <= statement::DO) {
-        // What came of the last command is forgotten.
-        next.is_submitted = true;
-        next.length = s.bytes % 65537 + statement::front(n) % 4;
-        next.lent = statement::or(n.sixth, 65535) % 65536;
-        next.status = OTHER;
-        next.request = OTHER;
-        next.received = 0;
-    }
-    next
 }
 
 // A round: one less is left in which lines are held, and stand-ins step.
 fn round(
-    d: Desk,
-    w: Doing,
-    t: Told,
-    rows: &mut [u64; 256],
-    bytes: &mut [u8; 159744],
+    desk: &mut Desk,
+    seen: Lines,
+    told: Told,
+    rows: &mut Rows,
+    store: &mut Store,
     response: &[u8],
-) -> Desk {
-    let mut next = d;
-    next.has_raised = false;
-    next.round = d.round % desk::FOR_EVER + 1;
-    next.hold = statement::less(d.hold);
-    if 0 < d.plan.stand_ins {
-        let seen = Lines {
-            bav: w.bav,
-            hsk: w.hsk,
-            nibble: w.nibble,
-        };
-        stand_in::steps(rows, d.plan.stand_ins, seen, bytes);
+) {
+    desk.has_raised = false;
+    desk.round = desk.round.saturating_add(1);
+    desk.hold = desk.hold.saturating_sub(1);
+    let there = rows.stand_ins.iter_mut().take(desk.plan.stand_ins.len());
+    for ((one, answer), heard) in there.zip(&store.answers).zip(&mut store.heard) {
+        one.step(seen, answer, heard);
     }
-    if t.is_told {
-        return told(next, t, rows, response);
+    if let Told::Stepped(step) = told {
+        came_to(desk, step, rows, response);
     }
-    next
 }
 
 // What a step of the controller has come to.
-fn told(d: Desk, t: Told, rows: &mut [u64; 256], response: &[u8]) -> Desk {
-    framed(d, t, rows);
-    if t.is_ended {
-        return finished(d, t, response);
+fn came_to(desk: &mut Desk, step: Stepped, rows: &mut Rows, response: &[u8]) {
+    if let Some(frame) = step.frame {
+        framed(desk, frame, rows);
     }
-    if 0 < t.handed {
-        return handed(d, t.handed, rows);
+    match step.event {
+        Ok(Some(Event::Ended(status, received))) => finished(desk, status, received, response),
+        Ok(Some(Event::Handed(code))) => handed(desk, code, rows),
+        Ok(None) => {}
+        Err(number) => {
+            desk.called(Err(number));
+            tell::refusal(desk, Form::Run);
+        }
     }
-    if 0 < t.number {
-        let next = desk::refused(d, t.number);
-        tell::refusal(next, statement::RUN);
-        return next;
-    }
-    d
 }
 
 // A frame begins, or a service frame has ended.
-fn framed(d: Desk, t: Told, rows: &mut [u64; 256]) {
-    let frame = t.frame;
+fn framed(desk: &Desk, frame: Framed, rows: &mut Rows) {
     match frame {
-        statement::NO_FRAME => {}
-        statement::OF_THE_APPLICATION => {
-            tell::say(d, tell::FRAME, t.command, t.code, 0);
-            tell::say(d, tell::LENGTHS, t.buffer, t.length, 0);
+        Framed::Begun {
+            code,
+            command,
+            buffer,
+            length,
+        } => desk.note(format_args!(
+            "frame of the application: {} to {code}, buffer {buffer}, data bytes {length}\n",
+            Command(command)
+        )),
+        Framed::Poll(code) => {
+            let turns = turn(desk, code, rows);
+            desk.note(format_args!("turn {turns} of {code}: it is polled, 0A\n"));
         }
-        statement::A_POLL => turn(d, tell::POLLED, t.code, rows),
-        statement::A_NULL => turn(d, tell::NULLED, t.code, rows),
-        statement::POLL_ENDED => tell::say(d, tell::POLL_ENDED, t.code, t.status, 0),
-        _ => tell::say(d, tell::NULL_ENDED, t.status, 0, 0),
+        Framed::Null(code) => {
+            let turns = turn(desk, code, rows);
+            desk.note(format_args!(
+                "turn {turns} of {code}: null message FE, for its last request is not acknowledged\n"
+            ));
+        }
+        Framed::PollEnded(code, status) => {
+            desk.note(format_args!("the poll of {code} ended: {}\n", Status(status)))
+        }
+        Framed::NullEnded(status) => {
+            desk.note(format_args!("the null message ended: {}\n", Status(status)))
+        }
     }
 }
 
-// The turn of a code.
-fn turn(d: Desk, words: u64, code: u64, rows: &mut [u64; 256]) {
-    let at = plan::find(d.plan, rows, code);
-    hosts::turned(rows, at);
-    tell::say(d, words, hosts::number(rows, hosts::TURNS, at), code, 0);
+// The turn of a code: how many it had, this one among them.
+fn turn(desk: &Desk, code: u8, rows: &mut Rows) -> u64 {
+    let place = desk.plan.units.place_of(code);
+    rows.hosts.turned(place);
+    rows.hosts.at(place).turns
 }
 
 // The submitted command has ended.
-fn finished(d: Desk, t: Told, response: &[u8]) -> Desk {
-    let mut next = d;
-    next.is_submitted = false;
-    next.status = t.status;
-    next.received = t.received;
-    tell::say(d, tell::ENDED, t.status, t.received, 0);
-    if 0 < t.received {
-        tell::received(d, word::front(response, t.received as usize));
+fn finished(desk: &mut Desk, status: u8, received: u16, response: &[u8]) {
+    desk.is_submitted = false;
+    desk.status = Some(status);
+    desk.received = usize::from(received);
+    desk.note(format_args!("ended: {}, data bytes {received}\n", Status(status)));
+    if 0 < received {
+        tell::received(desk, word::front(response, desk.received));
     }
-    next
 }
 
 // A request is handed over.
-fn handed(d: Desk, code: u64, rows: &mut [u64; 256]) -> Desk {
-    let at = plan::find(d.plan, rows, code);
-    let mut next = d;
-    next.request = code;
-    next.requests = d.requests % 1000000000 + 1;
-    hosts::handed(rows, at);
-    tell::say(
-        d,
-        tell::HANDED,
-        code,
-        hosts::number(rows, hosts::WAITED, at),
-        hosts::number(rows, hosts::AHEAD, at),
-    );
-    next
+fn handed(desk: &mut Desk, code: u8, rows: &mut Rows) {
+    let place = desk.plan.units.place_of(code);
+    desk.request = Some(code);
+    desk.requests = desk.requests.saturating_add(1);
+    rows.hosts.handed(place);
+    let host = rows.hosts.at(place);
+    desk.note(format_args!(
+        "the request of {code} is handed over: service frame {} since it was raised, units ahead of it then {}\n",
+        host.waited, host.ahead
+    ));
 }
 
 // What is seen of the bus after an act. Units that begin to pull BAV are named.
-pub fn seen(
-    d: Desk,
-    lines: Lines,
-    is_free: bool,
-    asking: u64,
-    requesting: u64,
-    rows: &[u64; 256],
-) -> Desk {
-    let mut next = d;
-    next.lines = lines;
-    next.is_free = is_free;
-    next.asking = asking;
-    next.requesting = requesting;
-    if d.asking != asking {
-        asks(next, d.asking, rows);
-    }
-    next
-}
-
-fn asks(d: Desk, before: u64, rows: &[u64; 256]) {
-    let mut now = d.asking;
-    let mut old = before;
-    let mut i = 0u64;
-    while i < 16 {
-        if old % 2 < now % 2 {
-            let code = hosts::number(rows, statement::UNIT_CODES, i);
-            tell::say(d, tell::PULLS, code, 0, 0);
+pub fn seen(desk: &mut Desk, view: View) {
+    let before = desk.view.asking;
+    desk.view = view;
+    let codes = desk.plan.units.all();
+    for ((code, now), before) in codes.iter().zip(&view.asking).zip(&before) {
+        if *now & !before {
+            desk.note(format_args!("{code} pulls BAV for its request\n"));
         }
-        now = now / 2;
-        old = old / 2;
-        i += 1;
     }
 }

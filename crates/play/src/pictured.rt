@@ -1,129 +1,85 @@
 // The lines of a round, dumped and pictured.
+use crate::Rows;
 use desk::Desk;
-use picture::{ALL, RELEASED};
-use statement::{MARK_BYTES, STAND_IN_CODES, STRIP_BYTES, UNIT_CODES};
+use picture::dump::Parties;
+use picture::{ALL, Marks, RELEASED, STAND_INS, dump, strip};
+use statement::{Act, Form, Store};
+
+// No party pulls a line.
+const QUIET: Marks = [RELEASED; 22];
 
 // Whether an act is dumped or pictured: a round, or a step by hand.
-pub fn is_wanted(d: Desk, act: u64) -> bool {
-    let is_stepped = (act == statement::A_ROUND) | (d.statement.form == statement::STEP);
-    is_stepped & ((0 < d.dump) | d.is_pictured)
+pub fn is_wanted(desk: &Desk, act: Act) -> bool {
+    let is_stepped = (act == Act::Round) | desk.statement.is(Form::Step);
+    is_stepped & (desk.dump.is_some() | desk.is_pictured)
 }
 
 // Behind a round, or a step by hand: what each party leaves on the lines, units by their place, then the controller. All together and
 // stand-ins are added here.
-pub fn round(d: Desk, marks: [u8; 22], rows: &[u64; 256], bytes: &mut [u8; 159744]) -> Desk {
-    let after = with_stand_ins(d, marks, rows);
-    let mut next = d;
-    if 0 < d.dump {
-        next = dumped(d, rows, bytes, &after);
+pub fn round(desk: &mut Desk, marks: Marks, rows: &Rows, store: &mut Store) {
+    let after = with_stand_ins(desk, marks, rows);
+    if desk.dump.is_some() {
+        dumped(desk, store, &after);
     }
-    if d.is_pictured {
-        return strip(next, bytes, &after);
+    if desk.is_pictured {
+        pictured(desk, store, &after);
     }
-    next
 }
 
-fn with_stand_ins(d: Desk, marks: [u8; 22], rows: &[u64; 256]) -> [u8; 22] {
+fn with_stand_ins(desk: &Desk, marks: Marks, rows: &Rows) -> Marks {
     let mut after = marks;
-    after[ALL] = picture::mark(crate::levels(d, rows));
-    let mut i = 0u64;
-    while i < 4 {
-        after[18 + i as usize] = picture::mark(stand_in::pulls(rows, i));
-        i += 1;
+    after[ALL] = picture::mark(crate::levels(desk, rows));
+    for (mark, one) in after.iter_mut().skip(STAND_INS).zip(&rows.stand_ins) {
+        *mark = picture::mark(one.pulls());
     }
     after
 }
 
 // The dump of a round; before the first its head, and the lines of a quiet start.
-fn dumped(d: Desk, rows: &[u64; 256], bytes: &mut [u8; 159744], after: &[u8; 22]) -> Desk {
-    let mut before = [RELEASED; 22];
-    let mut next = d;
-    if d.round == 1 {
-        next = head(d, rows, &before);
+fn dumped(desk: &mut Desk, store: &mut Store, after: &Marks) {
+    let before = if desk.round == 1 {
+        head(desk);
+        QUIET
     } else {
-        before = last(bytes);
-    }
-    note(bytes, after);
-    let ok = picture::dump::round(
-        d.dump,
-        d.round,
-        &before,
-        after,
-        (d.plan.count % 17) as usize,
-        (d.plan.stand_ins % 5) as usize,
-    );
-    next.is_lost = next.is_lost | !ok;
-    next
+        store.marks
+    };
+    store.marks = *after;
+    let is_written = dump::round(desk.dump, desk.round, &before, after, parties(desk));
+    desk.is_lost |= !is_written;
 }
 
-// The marks of the last round.
-fn last(bytes: &[u8; 159744]) -> [u8; 22] {
-    let mut marks = [RELEASED; 22];
-    let mut i = 0usize;
-    while i < 22 {
-        marks[i] = bytes[MARK_BYTES + i];
-        i += 1;
-    }
-    marks
-}
-
-fn note(bytes: &mut [u8; 159744], marks: &[u8; 22]) {
-    let mut i = 0usize;
-    while i < 22 {
-        bytes[MARK_BYTES + i] = marks[i];
-        i += 1;
+fn parties(desk: &Desk) -> Parties<'_> {
+    Parties {
+        units: desk.plan.units.all(),
+        stand_ins: desk.plan.stand_ins.all(),
     }
 }
 
-fn head(d: Desk, rows: &[u64; 256], marks: &[u8; 22]) -> Desk {
-    let mut codes = [0u8; 22];
-    let mut i = 0usize;
-    while i < 16 {
-        codes[i] = (rows[UNIT_CODES + i] % 256) as u8;
-        codes[18 + i % 4] = (rows[STAND_IN_CODES + i % 4] % 256) as u8;
-        i += 1;
-    }
-    let ok = picture::dump::head(
-        d.dump,
-        &codes,
-        (d.plan.count % 17) as usize,
-        (d.plan.stand_ins % 5) as usize,
-        marks,
-    );
-    let mut next = d;
-    next.is_lost = d.is_lost | !ok;
-    next
+fn head(desk: &mut Desk) {
+    let is_written = dump::head(desk.dump, &QUIET, parties(desk));
+    desk.is_lost |= !is_written;
 }
 
 // The end of a dump: its head, where no round was run, and the time after its last round.
-pub fn end(d: Desk, rows: &[u64; 256]) -> Desk {
-    let mut next = d;
-    if d.dump == 0 {
-        return next;
+pub(crate) fn end(desk: &mut Desk) {
+    if desk.dump.is_none() {
+        return;
     }
-    if d.round == 0 {
-        let marks = [RELEASED; 22];
-        next = head(d, rows, &marks);
+    if desk.round == 0 {
+        head(desk);
     }
-    let ok = picture::dump::end(d.dump, d.round % desk::FOR_EVER + 1);
-    next.is_lost = next.is_lost | !ok;
-    next
+    let is_written = dump::end(desk.dump, desk.round.saturating_add(1));
+    desk.is_lost |= !is_written;
 }
 
 // A column more on the strip. It is shown when it is full, and in the first round with no line low.
-fn strip(d: Desk, bytes: &mut [u8; 159744], after: &[u8; 22]) -> Desk {
-    let n = picture::strip::column(bytes, STRIP_BYTES, d.columns % 128, after);
+fn pictured(desk: &mut Desk, store: &mut Store, after: &Marks) {
+    let n = strip::column(&mut store.strip, desk.columns, after);
     let is_released = after[ALL] == RELEASED;
-    let least = if is_released {
-        2
-    } else {
-        picture::strip::WIDTH
-    };
+    let least = if is_released { 2 } else { strip::WIDTH };
     let is_shown = least <= n;
     if is_shown {
-        picture::strip::show(d.out, bytes, STRIP_BYTES, n, d.round);
+        strip::show(desk.out, &store.strip, n, desk.round);
     }
-    let mut next = d;
-    next.columns = if is_released | is_shown { 0 } else { n };
-    next
+    desk.columns = if is_released | is_shown { 0 } else { n };
 }

@@ -1,68 +1,129 @@
-// The messages that are run, each by a number: a command of the papers by its code, a response by 16 more than its status.
-use crate::words;
+// The messages that are run, and what they come to when they are written and read.
+use command::Reading;
 use header::Command;
+use response::Reading as Answer;
+use std::fmt;
+use writer::Written;
 
-// The open of source document 000, 7.1, and that of M1 are command 0: they differ in their data alone. This is the read of 7.2.
-const READ_COMMAND: u8 = 0x03;
-// A command whose header shows by its bytes which field each is of.
-const WRITE_COMMAND: u8 = 0x04;
+// A command of the papers, or a response with a status.
+#[derive(Clone, Copy)]
+pub enum Message {
+    Command(Command),
+    Response(u8),
+}
 
-pub const RESPONSE: u8 = 0x10;
-// No message: the classes of the device codes.
-const CLASSES: u8 = 0xFF;
+// The number of a refusal.
+#[derive(Clone, Copy)]
+pub struct Refusal(pub u8);
 
-pub fn fields_of(m: u8) -> Command {
-    let mut c = Command {
+impl Message {
+    // The open of source document 000, 7.1, and that of M1: they differ in their data alone.
+    pub const OPEN: Message = Message::Command(Command {
         device: 20,
-        command: m,
+        command: 0x00,
         logical_unit: 1,
         record_number: 0,
         buffer_length: 4,
-    };
-    if m == READ_COMMAND {
-        c.buffer_length = 80;
-    }
-    if m == WRITE_COMMAND {
-        c.logical_unit = 7;
-        c.record_number = 0x0201;
-        c.buffer_length = 0x0403;
-    }
-    c
-}
+    });
 
-// Says what reading a slice as such a message comes to, and hands back its data field.
-pub fn read(m: u8, s: &[u8]) -> &[u8] {
-    if m < RESPONSE {
-        match command::read(s) {
-            command::Reading::Fields(c) => {
-                words::say(words::DEVICE, c.device as usize, c.command as usize);
-                words::say(
-                    words::UNIT,
-                    c.logical_unit as usize,
-                    c.record_number as usize,
-                );
-                words::say(words::BUFFER, c.buffer_length as usize, 0);
-            }
-            command::Reading::Short => words::say(words::REFUSAL, 9, 0),
-            command::Reading::Disagrees => words::say(words::REFUSAL, 10, 0),
+    // The read of 7.2.
+    pub const READ: Message = Message::Command(Command {
+        device: 20,
+        command: 0x03,
+        logical_unit: 1,
+        record_number: 0,
+        buffer_length: 80,
+    });
+
+    // A command whose header shows by its bytes which field each is of.
+    pub const WRITE: Message = Message::Command(Command {
+        device: 20,
+        command: 0x04,
+        logical_unit: 7,
+        record_number: 0x0201,
+        buffer_length: 0x0403,
+    });
+
+    pub const DONE: Message = Message::Response(0x00);
+
+    pub const UNSUPPORTED: Message = Message::Response(0x0D);
+
+    // How many bytes stand before its data, and how many it has without any.
+    pub fn head(self) -> usize {
+        match self {
+            Message::Command(_) => 9,
+            Message::Response(_) => 2,
         }
-        return command::data_of(s);
     }
-    match response::read(s) {
-        response::Reading::Status(status) => words::say(words::STATUS, status as usize, 0),
-        response::Reading::Short => words::say(words::REFUSAL, 9, 0),
-        response::Reading::Disagrees => words::say(words::REFUSAL, 10, 0),
+
+    pub fn least(self) -> usize {
+        match self {
+            Message::Command(_) => 9,
+            Message::Response(_) => 3,
+        }
     }
-    response::data_of(s)
+
+    // Writes it with data into a buffer; how long it is.
+    pub fn write(self, data: &[u8], out: &mut [u8]) -> Result<usize, Refusal> {
+        let written = match self {
+            Message::Command(c) => command::write(c, data, out),
+            Message::Response(status) => response::write(data, status, out),
+        };
+        match written {
+            Written::Length(n) => Ok(n),
+            Written::TooLong => Err(Refusal(2)),
+            Written::NoRoom => Err(Refusal(11)),
+        }
+    }
+
+    // What a slice is read as that should hold such a message.
+    pub fn read(self, s: &[u8]) -> Result<Message, Refusal> {
+        match self {
+            Message::Command(_) => match command::read(s) {
+                Reading::Fields(c) => Ok(Message::Command(c)),
+                Reading::Short => Err(Refusal(9)),
+                Reading::Disagrees => Err(Refusal(10)),
+            },
+            Message::Response(_) => match response::read(s) {
+                Answer::Status(status) => Ok(Message::Response(status)),
+                Answer::Short => Err(Refusal(9)),
+                Answer::Disagrees => Err(Refusal(10)),
+            },
+        }
+    }
+
+    // The data field of such a message in a slice.
+    pub fn data_of(self, s: &[u8]) -> &[u8] {
+        match self {
+            Message::Command(_) => command::data_of(s),
+            Message::Response(_) => response::data_of(s),
+        }
+    }
+
+    // Nibble i of it with its data.
+    pub fn nibble(self, data: &[u8], i: usize) -> u8 {
+        match self {
+            Message::Command(c) => command::nibble(c, data, i),
+            Message::Response(status) => response::nibble(data, status, i),
+        }
+    }
 }
 
-// Nibble i of a message, or the class of device code i.
-pub fn number(m: u8, data: &[u8], i: usize) -> u8 {
-    if m == CLASSES {
-        return device::class_of((i % 256) as u8);
+impl fmt::Display for Message {
+    fn fmt<W: fmt::Write>(&self, f: &mut fmt::Formatter<W>) -> fmt::Result {
+        match self {
+            Message::Command(c) => write!(
+                f,
+                "device {}, command {:02X}, logical unit {}, record number {}, buffer length {}",
+                c.device, c.command, c.logical_unit, c.record_number, c.buffer_length
+            ),
+            Message::Response(status) => write!(f, "status {status:02X}"),
+        }
     }
-    if m < RESPONSE {
-        return command::nibble(fields_of(m), data, i);
+}
+
+impl fmt::Display for Refusal {
+    fn fmt<W: fmt::Write>(&self, f: &mut fmt::Formatter<W>) -> fmt::Result {
+        write!(f, "refusal {}", self.0)
     }
-    response::nibble(data, m % 16, i)
 }

@@ -1,26 +1,33 @@
 // Every cut of a message, and of two messages one behind the other, read as one.
-use crate::{messages, words};
-use page::STDOUT_FILENO;
+use crate::messages::Message;
+use page::STDOUT;
 
-pub fn cuts(m: u8, s: &[u8]) {
-    page::bytes(STDOUT_FILENO, s);
-    words::say(words::END, 0, 0);
-    let mut k = 0;
-    while k <= s.len() {
-        words::say(words::FIRST, k, 0);
-        reading(m, word::front(s, k), words::COMMA);
-        k += 1;
+pub fn cuts(m: Message, s: &[u8]) {
+    page::bytes(STDOUT, s);
+    page::say(STDOUT, b"\n");
+    for n in 0..=s.len() {
+        page::tell(STDOUT, format_args!("  first {n}: "));
+        reading(m, word::front(s, n), ", ");
     }
 }
 
 // What a slice is read as and, behind what stands between them, its data.
-pub fn reading(m: u8, s: &[u8], between: u64) {
-    let data = messages::read(m, s);
-    words::say(between, 0, 0);
-    if data.len() == 0 {
-        words::say(words::NO, 0, 0);
+pub fn reading(m: Message, s: &[u8], between: &str) {
+    let data = found(m, s);
+    page::tell(STDOUT, between);
+    if data.is_empty() {
+        page::say(STDOUT, b"no ");
     }
-    words::say(words::DATA, 0, 0);
-    page::bytes(STDOUT_FILENO, data);
-    words::say(words::END, 0, 0);
+    page::say(STDOUT, b"data");
+    page::bytes(STDOUT, data);
+    page::say(STDOUT, b"\n");
+}
+
+// Says what a slice is read as, and hands back its data field.
+pub fn found(m: Message, s: &[u8]) -> &[u8] {
+    match m.read(s) {
+        Ok(read) => page::tell(STDOUT, read),
+        Err(refusal) => page::tell(STDOUT, refusal),
+    }
+    m.data_of(s)
 }

@@ -1,9 +1,0 @@
--- What is left to go through grows less.
-use Prim.Native.Nat.{◌-◌}
-use Rattle.bench.proofs.marks.Given as goal
-
-abbrev pub invariant-loop-i : goal.invariant-loop-i
-invariant-loop-i l = Unit {0}
-
-abbrev pub decreases-loop-i : goal.decreases-loop-i
-decreases-loop-i l = 17 - l.i

@@ -1,9 +1,0 @@
--- Lent memory keeps its length; what is left to go through grows less.
-use Prim.Native.Nat.{◌-◌}
-use Rattle.picture.proofs.dump.is_dump.Given as goal
-
-abbrev pub invariant-loop-i : goal.invariant-loop-i
-invariant-loop-i l = Unit {0}
-
-abbrev pub decreases-loop-i : goal.decreases-loop-i
-decreases-loop-i l = 42 - l.i

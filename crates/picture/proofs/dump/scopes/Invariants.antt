@@ -1,9 +1,0 @@
--- What is left to go through grows less.
-use Prim.Native.Nat.{◌-◌}
-use Rattle.picture.proofs.dump.scopes.Given as goal
-
-abbrev pub invariant-loop-k : goal.invariant-loop-k
-invariant-loop-k l = Unit {0}
-
-abbrev pub decreases-loop-k : goal.decreases-loop-k
-decreases-loop-k l = l.end - l.k

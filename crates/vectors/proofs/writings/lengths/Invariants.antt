@@ -1,9 +1,0 @@
--- The lengths that are left grow fewer.
-use Prim.Native.Nat.{◌-◌}
-use Rattle.vectors.proofs.writings.lengths.Given as goal
-
-abbrev pub invariant-loop-i : goal.invariant-loop-i
-invariant-loop-i l = Unit {0}
-
-abbrev pub decreases-loop-i : goal.decreases-loop-i
-decreases-loop-i l = 6 - l.i
