@@ -7,7 +7,7 @@ ghost use Rattle.message.specs.Format.{response_format, start};
 ghost use Rattle.answer.specs.Answer.{partial, nothing_taken, length_taken, body_taken, byte_taken, body_buffer, byte_buffer, taken_with, buffer_with, is_over, status_of, count_of};
 
 // A response that is being taken: its data length so far, the byte that is next, and whether that byte's low nibble is there.
-#[derive(Clone, Copy)]
+#[derive(Clone, Copy, Debug, PartialEq, Eq)]
 pub struct Partial {
     pub length: u16,
     pub place: u32,
@@ -15,7 +15,7 @@ pub struct Partial {
     pub low: u8,
 }
 
-#[derive(Clone, Copy)]
+#[derive(Clone, Copy, Debug, PartialEq, Eq)]
 pub enum Response {
     Taking(Partial),
     // Its status, and how many bytes of data it had.
@@ -38,8 +38,7 @@ impl Response {
     {
         match self {
             Response::Taking(p) => taking(p, nibble, limit, stores, buffer),
-            Response::Complete(status, count) => Response::Complete(status, count),
-            Response::TooLarge => Response::TooLarge,
+            _ => self,
         }
     }
 
@@ -47,11 +46,7 @@ impl Response {
     pub fn is_over(self) -> bool
         ensures { result ≡ is_over self }
     {
-        match self {
-            Response::Taking(_) => false,
-            Response::Complete(_, _) => true,
-            Response::TooLarge => true,
-        }
+        matches!(self, Response::Complete(_, _) | Response::TooLarge)
     }
 
     // The status that ends its operation: without a complete response FF.
@@ -94,17 +89,17 @@ fn taking(p: Partial, nibble: u8, limit: u16, stores: bool, buffer: &mut [u8]) -
     if p.half {
         return take_byte(p, field::byte_of(p.low, nibble), limit, stores, buffer);
     }
-    let mut next = p;
-    next.half = true;
-    next.low = nibble;
-    Response::Taking(next)
+    Response::Taking(Partial {
+        half: true,
+        low: nibble,
+        ..p
+    })
 }
 
 fn take_byte(p: Partial, b: u8, limit: u16, stores: bool, buffer: &mut [u8]) -> Response
     ensures { (result ≡ byte_taken p b limit) × (buffer.new ≡ byte_buffer p b stores buffer.old) }
 {
-    let in_length = p.place < 2;
-    if in_length {
+    if p.place < 2 {
         return take_length(p, b, limit);
     }
     put(p, b, stores, buffer);
@@ -116,12 +111,10 @@ fn take_length(p: Partial, b: u8, limit: u16) -> Response
     ensures { result ≡ length_taken p b limit }
 {
     let length = field::with_byte(p.length, p.place as usize, b);
-    let is_low = p.place == 0;
-    if is_low {
+    if p.place == 0 {
         return Response::Taking(whole_bytes(length, 1));
     }
-    let too_large = limit < length;
-    if too_large {
+    if limit < length {
         return Response::TooLarge;
     }
     Response::Taking(whole_bytes(length, 2))
@@ -138,17 +131,13 @@ fn take_body(p: Partial, b: u8) -> Response
     Response::Complete(b, p.length)
 }
 
-// Stores a byte of the data at its place of the lent buffer.
+// Stores a byte of the data at its place of the lent buffer. By an index: after `get_mut` nothing is known of the bytes.
 fn put(p: Partial, b: u8, stores: bool, buffer: &mut [u8])
     ensures { buffer.new ≡ body_buffer p b stores buffer.old }
 {
-    if stores {
-        let i = data_place(p.place) as usize;
-        if i < p.length as usize {
-            if i < buffer.len() {
-                buffer[i] = b;
-            }
-        }
+    let i = data_place(p.place) as usize;
+    if stores && i < p.length as usize && i < buffer.len() {
+        buffer[i] = b;
     }
 }
 
@@ -156,12 +145,11 @@ fn put(p: Partial, b: u8, stores: bool, buffer: &mut [u8])
 fn data_place(place: u32) -> u32
     ensures { result ≡ place - start response_format }
 {
-    if place < 2 { 0 } else { place - 2 }
+    place.saturating_sub(2)
 }
 
 fn whole_data(place: u32, length: u16) -> u16
     ensures { result ≡ min (place - start response_format) length }
 {
-    let i = data_place(place);
-    if i < length as u32 { i as u16 } else { length }
+    data_place(place).min(length as u32) as u16
 }

@@ -1,34 +1,37 @@
 -- Document 01, "Refusal numbers" (1, 2, 3, 4, 5, 8, 11): the calls of the application, each with its number or its values, and what may be
 -- looked at.
-use Rattle.std.specs.Prelude.{ℕ, Bool, true, false, cond, ◌||◌, ltb, leb, eqb}
+use Rattle.std.specs.Prelude.{ℕ, Bool, true, false, cond, ◌||◌, ltb, leb, eqb, Result}
 use Rattle.frame.specs.Frame.{submitted_frame}
 use Rattle.frame.specs.declared.Stage.{Stage}
 use Rattle.frame.specs.declared.Stage.TheVariants.{Free, Resting, Waiting, Sending, Listening}
 use Rattle.header.specs.declared.Command.{Command}
-use Rattle.message.specs.Answer.{Answer, gives, refused, kept}
+use Rattle.message.specs.Answer.{Answer, gives, refused, answered, kept}
 use Rattle.ring.specs.Ring.{counted, live, ring_of, is_in, is_marked, with_mark}
 use Rattle.ring.specs.declared.Ring.{Ring}
 use Rattle.controller.specs.Controller.{new_controller, with_stage, with_ring, is_idle}
 use Rattle.controller.specs.declared.Controller.{Controller}
-use Rattle.application.specs.declared.Making.{Making}
-use Rattle.application.specs.declared.Making.TheVariants.{New, Setting}
-use Rattle.application.specs.declared.Submitting.{Submitting}
-use Rattle.application.specs.declared.Submitting.TheVariants.{Accepted, Running, TooLong, PollCommand, FullRing, ShortResponse}
-use Rattle.application.specs.declared.Acknowledging.{Acknowledging}
-use Rattle.application.specs.declared.Acknowledging.TheVariants.{Cleared, NotMarked}
+use Rattle.application.specs.declared.MakeError.{MakeError}
+use Rattle.application.specs.declared.SubmitError.{SubmitError}
+use Rattle.application.specs.declared.SubmitError.TheVariants.{Running, TooLong, PollCommand, FullRing, ShortResponse}
+use Rattle.application.specs.declared.NotMarked.{NotMarked}
 use Rattle.application.specs.declared.Looks.{Looks}
 
 -- A call that gives no value but the state.
-pub data Done : Type 0 where
-  done : Done
+abbrev pub Done : Type 0
+Done = Unit {0}
+
+abbrev pub done : Done
+done = tt
 
 -- Making: 5 for a time-out not 8 to 65,535; beside the refusal stands a controller with the default time-out, 200.
 abbrev pub making : ℕ → Answer Done
 making timeout = cond (ltb timeout 8) (refused 5) (cond (ltb 65535 timeout) (refused 5) (gives done))
 
-abbrev pub made : Making → Answer Done
-made New = gives done
-made Setting = refused 5
+abbrev pub make_number : MakeError → ℕ
+make_number e = 5
+
+abbrev pub made : Result Done MakeError → Answer Done
+made r = answered make_number r
 
 abbrev pub controller_made : ℕ → Controller
 controller_made timeout = kept (making timeout) (new_controller timeout) (new_controller 200)
@@ -47,13 +50,15 @@ submitting c k n room =
     (cond (is_shut_out k c.ring) (refused 4) (cond (ltb room k.buffer_length) (refused 11) (gives done)))))
     (refused 1)
 
-abbrev pub submitted : Submitting → Answer Done
-submitted Accepted = gives done
-submitted Running = refused 1
-submitted TooLong = refused 2
-submitted PollCommand = refused 3
-submitted FullRing = refused 4
-submitted ShortResponse = refused 11
+abbrev pub submit_number : SubmitError → ℕ
+submit_number Running = 1
+submit_number TooLong = 2
+submit_number PollCommand = 3
+submit_number FullRing = 4
+submit_number ShortResponse = 11
+
+abbrev pub submitted : Result Done SubmitError → Answer Done
+submitted r = answered submit_number r
 
 -- Its frame begins in the next step.
 abbrev pub with_command : Controller → Command → ℕ → Controller
@@ -66,9 +71,11 @@ controller_submitted c k n room = kept (submitting c k n room) (with_command c k
 abbrev pub acknowledging : Controller → ℕ → Answer Done
 acknowledging c code = cond (is_marked code (live c.ring)) (gives done) (refused 8)
 
-abbrev pub acknowledged : Acknowledging → Answer Done
-acknowledged Cleared = gives done
-acknowledged NotMarked = refused 8
+abbrev pub acknowledge_number : NotMarked → ℕ
+acknowledge_number e = 8
+
+abbrev pub acknowledged : Result Done NotMarked → Answer Done
+acknowledged r = answered acknowledge_number r
 
 abbrev pub without_mark : Controller → ℕ → Controller
 without_mark c code = with_ring c (ring_of (with_mark false code (live c.ring)))

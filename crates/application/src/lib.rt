@@ -4,7 +4,7 @@
 
 ghost use Rattle.std.specs.Prelude.{◌≡◌, length};
 ghost use Rattle.controller.specs.Controller.{new_controller};
-ghost use Rattle.application.specs.Calls.{making, made, controller_made, is_shut_out, submitting, submitted, with_command, controller_submitted, acknowledging, acknowledged, without_mark, controller_acknowledged, is_submitted, may_start, looks_of};
+ghost use Rattle.application.specs.Calls.{make_number, submit_number, acknowledge_number, making, made, controller_made, is_shut_out, submitting, submitted, with_command, controller_submitted, acknowledging, acknowledged, without_mark, controller_acknowledged, is_submitted, may_start, looks_of};
 
 use controller::Controller;
 use frame::Stage;
@@ -14,30 +14,20 @@ use ring::Ring;
 // The time-out count of a controller where nobody asks for another.
 pub const TIMEOUT: u32 = 200;
 
-// What making a controller comes to. Beside a refusal stands one with the default time-out.
+// What making a controller comes to. A refusal has a controller beside it too, with the default time-out, so that this is no `Result`.
 #[derive(Clone, Copy)]
 pub struct Made {
     pub controller: Controller,
-    pub outcome: Making,
+    pub outcome: Result<(), MakeError>,
 }
 
-#[derive(Clone, Copy)]
-pub enum Making {
-    New,
-    // Refusal 5: time-out not 8 to 65,535.
-    Setting,
-}
+// Refusal 5: time-out not 8 to 65,535.
+#[derive(Clone, Copy, Debug, PartialEq, Eq)]
+pub struct MakeError;
 
-// What submitting a command comes to.
-#[derive(Clone, Copy)]
-pub struct Submitted {
-    pub controller: Controller,
-    pub outcome: Submitting,
-}
-
-#[derive(Clone, Copy)]
-pub enum Submitting {
-    Accepted,
+// Why a command is not accepted.
+#[derive(Clone, Copy, Debug, PartialEq, Eq)]
+pub enum SubmitError {
     // Refusal 1: one is submitted, or a frame or its rest runs.
     Running,
     // Refusal 2: data over 65,535.
@@ -50,18 +40,38 @@ pub enum Submitting {
     ShortResponse,
 }
 
-// What an acknowledgement comes to.
-#[derive(Clone, Copy)]
-pub struct Acknowledged {
-    pub controller: Controller,
-    pub outcome: Acknowledging,
+// Refusal 8: the code is not in the ring or not marked.
+#[derive(Clone, Copy, Debug, PartialEq, Eq)]
+pub struct NotMarked;
+
+impl From<MakeError> for u32 {
+    ghost from_gives = { λ e n. n ≡ make_number e };
+
+    fn from(_e: MakeError) -> u32 {
+        5
+    }
 }
 
-#[derive(Clone, Copy)]
-pub enum Acknowledging {
-    Cleared,
-    // Refusal 8: the code is not in the ring or not marked.
-    NotMarked,
+impl From<SubmitError> for u32 {
+    ghost from_gives = { λ e n. n ≡ submit_number e };
+
+    fn from(e: SubmitError) -> u32 {
+        match e {
+            SubmitError::Running => 1,
+            SubmitError::TooLong => 2,
+            SubmitError::PollCommand => 3,
+            SubmitError::FullRing => 4,
+            SubmitError::ShortResponse => 11,
+        }
+    }
+}
+
+impl From<NotMarked> for u32 {
+    ghost from_gives = { λ e n. n ≡ acknowledge_number e };
+
+    fn from(_e: NotMarked) -> u32 {
+        8
+    }
 }
 
 // What an application may look at: the ring in order with its marks; whether no frame and no rest runs; whether a command is
@@ -75,99 +85,71 @@ pub struct Looks {
 
 // A new controller with its time-out count.
 pub fn make(timeout: u32) -> Made
-    ensures { (made result.outcome ≡ making timeout) × (result.controller ≡ controller_made timeout) }
+    ensures outcome { made result.outcome ≡ making timeout }
+    ensures controller { result.controller ≡ controller_made timeout }
 {
-    if timeout < 8 {
+    if timeout < 8 || 65535 < timeout {
         return Made {
             controller: new(200),
-            outcome: Making::Setting,
-        };
-    }
-    if 65535 < timeout {
-        return Made {
-            controller: new(200),
-            outcome: Making::Setting,
+            outcome: Err(MakeError),
         };
     }
     Made {
         controller: new(timeout as u16),
-        outcome: Making::New,
+        outcome: Ok(()),
     }
 }
 
-// A command for the next frame. Each step of that frame is lent data of this length, and a response buffer that is long enough.
-pub fn submit(c: Controller, k: Command, data: &[u8], response: &[u8]) -> Submitted
-    ensures { (submitted result.outcome ≡ submitting c k (length «data».now) (length response.now)) × (result.controller ≡ controller_submitted c k (length «data».now) (length response.now)) }
+// A command for the next frame. Each step of that frame is lent data of this length, and a response buffer that is long enough. A
+// refusal leaves the controller as it was.
+pub fn submit(
+    c: &mut Controller,
+    k: Command,
+    data: &[u8],
+    response: &[u8],
+) -> Result<(), SubmitError>
+    ensures outcome { submitted result ≡ submitting c.old k (length «data».now) (length response.now) }
+    ensures state { c.new ≡ controller_submitted c.old k (length «data».now) (length response.now) }
 {
-    let stage = c.stage;
-    let ring = c.ring;
-    if controller::is_idle(stage) {
-        if 65535 < data.len() {
-            return Submitted {
-                controller: c,
-                outcome: Submitting::TooLong,
-            };
-        }
-        let is_poll = k.command == 0x0A;
-        if is_poll {
-            return Submitted {
-                controller: c,
-                outcome: Submitting::PollCommand,
-            };
-        }
-        if is_shut_out(k, ring) {
-            return Submitted {
-                controller: c,
-                outcome: Submitting::FullRing,
-            };
-        }
-        let is_short = response.len() < k.buffer_length as usize;
-        if is_short {
-            return Submitted {
-                controller: c,
-                outcome: Submitting::ShortResponse,
-            };
-        }
-        let next = with_command(c, k, data.len() as u16);
-        return Submitted {
-            controller: next,
-            outcome: Submitting::Accepted,
-        };
+    if !controller::is_idle(c.stage) {
+        return Err(SubmitError::Running);
     }
-    Submitted {
-        controller: c,
-        outcome: Submitting::Running,
+    if 65535 < data.len() {
+        return Err(SubmitError::TooLong);
     }
+    if k.command == 0x0A {
+        return Err(SubmitError::PollCommand);
+    }
+    if is_shut_out(k, c.ring) {
+        return Err(SubmitError::FullRing);
+    }
+    if response.len() < k.buffer_length as usize {
+        return Err(SubmitError::ShortResponse);
+    }
+    *c = with_command(*c, k, data.len() as u16);
+    Ok(())
 }
 
-// The application has dealt with the request of a code that was handed to it.
-pub fn acknowledge(c: Controller, code: u8) -> Acknowledged
-    ensures { (acknowledged result.outcome ≡ acknowledging c code) × (result.controller ≡ controller_acknowledged c code) }
+// The application has dealt with the request of a code that was handed to it. A refusal leaves the controller as it was.
+pub fn acknowledge(c: &mut Controller, code: u8) -> Result<(), NotMarked>
+    ensures outcome { acknowledged result ≡ acknowledging c.old code }
+    ensures state { c.new ≡ controller_acknowledged c.old code }
 {
-    let ring = c.ring;
-    if ring.is_marked(code) {
-        let next = without_mark(c, code);
-        return Acknowledged {
-            controller: next,
-            outcome: Acknowledging::Cleared,
-        };
+    if !c.ring.is_marked(code) {
+        return Err(NotMarked);
     }
-    Acknowledged {
-        controller: c,
-        outcome: Acknowledging::NotMarked,
-    }
+    *c = without_mark(*c, code);
+    Ok(())
 }
 
 // What an application may look at.
 pub fn look(c: Controller) -> Looks
     ensures { result ≡ looks_of c }
 {
-    let stage = c.stage;
-    let ring = c.ring;
     Looks {
-        ring,
-        may_start: may_start(stage),
-        submitted: is_submitted(stage),
+        ring: c.ring,
+        may_start: may_start(c.stage),
+        submitted: is_submitted(c.stage),
     }
 }
 
@@ -185,14 +167,7 @@ fn new(timeout: u16) -> Controller
 fn is_shut_out(k: Command, ring: Ring) -> bool
     ensures { result ≡ is_shut_out k ring }
 {
-    let would_join = k.command == 0x08;
-    if would_join {
-        if ring.has(k.device) {
-            return false;
-        }
-        return 16 <= ring.len();
-    }
-    false
+    k.command == 0x08 && !ring.has(k.device) && 16 <= ring.len()
 }
 
 // The frame of a command, of which so many bytes are data, begins in the next step.
@@ -205,27 +180,17 @@ fn with_command(c: Controller, k: Command, length: u16) -> Controller
 fn without_mark(c: Controller, code: u8) -> Controller
     ensures { result ≡ without_mark c code }
 {
-    let ring = c.ring;
-    controller::with_ring(c, ring.with_mark(code, false))
+    controller::with_ring(c, c.ring.with_mark(code, false))
 }
 
 fn may_start(stage: Stage) -> bool
     ensures { result ≡ may_start stage }
 {
-    if controller::is_idle(stage) {
-        return true;
-    }
-    is_submitted(stage)
+    matches!(stage, Stage::Free | Stage::Waiting(_))
 }
 
 fn is_submitted(stage: Stage) -> bool
     ensures { result ≡ is_submitted stage }
 {
-    match stage {
-        Stage::Free => false,
-        Stage::Resting(_) => false,
-        Stage::Waiting(_) => true,
-        Stage::Sending(_, _, _, _) => false,
-        Stage::Listening(_, _, _, _) => false,
-    }
+    matches!(stage, Stage::Waiting(_))
 }

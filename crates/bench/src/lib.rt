@@ -127,7 +127,6 @@ fn round(
 ) -> Stepped {
     let before = bus.controller.stage;
     let n = doing.lent.min(response.len());
-    let r = bus.round(doing.seen, doing.busy, data, &mut response[..n], memory);
-    *bus = r.bus;
-    controllercalls::stepped(before, &bus.controller, r.outcome)
+    let outcome = bus.round(doing.seen, doing.busy, data, &mut response[..n], memory);
+    controllercalls::stepped(before, &bus.controller, outcome)
 }

@@ -1,27 +1,17 @@
 -- The units of a bus, one after the other: what their pulls leave, and their round in their memory.
 use Prim.Native.Nat.{ℕ, suc, ◌+◌, ◌-◌, ◌*◌, ◌/◌, ◌≤◌, ◌<◌}
-use native.Mathlib.Nat.{sub-zero}
 use native.Mathlib.Omega.{arith}
 use mathlib.Core.Path.{◌≡◌, sym, ◌∙◌, ap, ap₂}
 use mathlib.Core.Bool.{Bool}
 use mathlib.Core.List.{List, [], ◌∷◌, ◌++◌, append_assoc, append-nil}
 use borrow.Rule.Slice.PartMut.{mid_of, put_mid, drop_put, mid_len}
-use lib.ListN.{length, take, drop, get_or, set, take-append-drop, length-append, length-drop, drop_of_length-le}
+use lib.ListN.{length, take, drop, get_or, set, length-append, length-drop, drop_of_length-le}
 use lib.Seq.{drop-cons, drop-drop, drop_at, drop-set-lt, take-add, take_at, take-length, take-take, take-suc-set, length-take-le, append_snoc}
-use Rattle.line.specs.Line.{wired}
 use Rattle.line.specs.declared.Lines.{Lines}
-use Rattle.message.specs.Answer.{Answer}
-use Rattle.unit.specs.Calls.{stepping, stepped, buffer_after, output_after}
-use Rattle.unit.specs.Unit.{pulls_of}
-use Rattle.unit.specs.declared.Stepped.{Stepped}
+use Rattle.unit.specs.Calls.{stepping, buffer_after, output_after}
 use Rattle.unit.specs.declared.Unit.{Unit}
-use Rattle.bus.specs.Bus.{unit_after, station_step, station_at, stations_of, units_in, bytes_of, memory_of, is_odd, levels_left, units_after}
+use Rattle.bus.specs.Bus.{unit_after, station_step, station_at, stations_of, units_in, bytes_of, memory_of, is_odd, units_after}
 use Rattle.bus.specs.declared.Station.{Station}
-
--- One more unit's pulls.
-pub levels-next : (l : Lines) (us : List Unit) (i : ℕ) (d : Unit) → i < length us
-    → levels_left l (drop i us) ≡ levels_left (wired l (pulls_of (get_or us i d))) (drop (suc i) us)
-levels-next l us i d h = ap (levels_left l) (drop-cons us i d h)
 
 -- A unit's part of the memory is all that it sees of it.
 drop-take : (n k : ℕ) (l : List ℕ) → n ≤ length l → drop n (take (n + k) l) ≡ take k (drop n l)
@@ -105,20 +95,6 @@ module _ (seen : Lines) (busy n i at : ℕ) (us : List Unit) (m : List ℕ) (d :
         ∙ sym (append_assoc (take at m) ys (more ++ rest))
         ∙ sym (λ k. front k ++ (memory_of (same-steps k) ++ behind (2432 * n) (omega arith) k))
 
--- Before the first has stepped, and when all have.
-module _ (seen : Lines) (busy n : ℕ) (us : List Unit) (m : List ℕ) where
-  pub units-start : whole_units seen busy n 0 0 us m ≡ units_in (units_after seen busy (stations_of (take n us) m)) ++ drop n us
-  units-start = ap (λ (k : ℕ). units_in (units_after seen busy (stations_of (take k us) m)) ++ drop n us) (sub-zero n)
-
-  pub memory_start : whole_memory seen busy n 0 0 us m ≡ memory_of (units_after seen busy (stations_of (take n us) m)) ++ drop (2432 * n) m
-  memory_start = ap (λ (k : ℕ). memory_of (units_after seen busy (stations_of (take k us) m)) ++ drop (2432 * n) m) (sub-zero n)
-
-  pub units-end : (i at : ℕ) → i ≡ n → us ≡ whole_units seen busy n i at us m
-  units-end i at h = let none : n - i ≡ 0 = omega arith in sym (rw (none, h) (take-append-drop n us))
-
-  pub memory-end : (i at : ℕ) → i ≡ n → at ≡ 2432 * n → m ≡ whole_memory seen busy n i at us m
-  memory-end i at h e = let none : n - i ≡ 0 = omega arith in sym (rw (none, e) (take-append-drop (2432 * n) m))
-
 -- A unit's memory with what was lent of it put back, and then its command buffer.
 put_back : (m b o p q : List ℕ) → length m ≡ 2432 → p ≡ put_mid 512 (length m - 512) m o → q ≡ b ++ drop 256 p
     → q ≡ b ++ (take 256 (drop 256 m) ++ o)
@@ -149,10 +125,6 @@ round_in_parts u seen busy m b i b' o' p q hm eb ei er eb' eo' ep eq =
       er ∙ ap (λ (s : Station). (station_step s seen busy).unit) its,
       put_back m b' o' p q hm ep eq ∙ (λ k. b-is k ++ (take 256 (drop 256 m) ++ o_is k)),
     )
-
--- The unit of an answer, or the one before a refusal.
-pub unit_after_lem : (u : Unit) (r x : Stepped) (a : Answer Unit) → stepped r ≡ a → r ≡ x → unit_after (stepped x) u ≡ unit_after a u
-unit_after_lem u r x a p q = ap (λ (y : Stepped). unit_after (stepped y) u) (sym q) ∙ ap (λ (b : Answer Unit). unit_after b u) p
 
 -- 256 bytes of a slice, copied over an array of as many.
 pub copied_whole : (s z out : List ℕ) (from : ℕ) → from + 256 ≤ length s → length z ≡ 256

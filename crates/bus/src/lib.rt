@@ -9,11 +9,12 @@ ghost use Rattle.unit.specs.Calls.{stepping, buffer_after, output_after};
 ghost use Rattle.unit.specs.Unit.{new_unit};
 ghost use Rattle.bus.specs.Bus.{unit_after, station_step, station_at, stations_of, units_in, bytes_of, memory_of, new_bus, with_unit, levels_of, units_after, round_of, outcome_of, response_of, memory_after};
 
-use controller::{Controller, Stepping};
+use controller::{Controller, StepError};
 use line::Lines;
 use phase::Phase;
 use serial::Serial;
-use unit::{Stepped, Unit};
+use turn::Event;
+use unit::Unit;
 
 // The memory of each unit: command buffer 256, input queue 256, and 1,920 bytes for what is written to it; and that of all sixteen.
 pub const EACH: usize = 2432;
@@ -37,13 +38,6 @@ pub struct Bus {
     pub count: u8,
 }
 
-// What a round comes to: the bus after it, and what the controller's step came to.
-#[derive(Clone, Copy)]
-pub struct Rounded {
-    pub bus: Bus,
-    pub outcome: Stepping,
-}
-
 impl Station {
     // A round of it.
     pub fn step(self, seen: Lines, busy: bool) -> Station
@@ -52,8 +46,7 @@ impl Station {
         let mut buffer = self.buffer;
         let input = self.input;
         let mut output = self.output;
-        let u = self.unit;
-        let unit = unit_after(u, seen, busy, &mut buffer, &input, &mut output);
+        let unit = unit_after(self.unit, seen, busy, &mut buffer, &input, &mut output);
         Station {
             unit,
             buffer,
@@ -68,24 +61,20 @@ impl Bus {
     pub fn new(c: Controller) -> Bus
         ensures { result ≡ new_bus c }
     {
-        let blank = blank();
         Bus {
             controller: c,
-            units: [blank; 16],
+            units: [blank(); 16],
             count: 0,
         }
     }
 
     // With one unit more. A bus of sixteen stays as it is.
-    pub fn with(self, u: Unit) -> Bus
+    pub fn with(mut self, u: Unit) -> Bus
         ensures { result ≡ with_unit self u }
     {
-        let at = self.count;
-        if at < 16 {
-            let mut b = self;
-            b.units[at as usize] = u;
-            b.count = at + 1;
-            return b;
+        if self.count < 16 {
+            self.units[self.count as usize] = u;
+            self.count += 1;
         }
         self
     }
@@ -94,68 +83,58 @@ impl Bus {
     pub fn levels(self) -> Lines
         ensures { result ≡ levels_of self }
     {
-        let n = up_to_16(self.count);
         let mut l = controller::pulls(self.controller);
-        let mut i = 0;
-        while i < n {
-            let u = self.units[i];
-            l = line::wired(l, unit::pulls(u));
-            i += 1;
+        for u in &self.units[..up_to_16(self.count)] {
+            l = line::wired(l, unit::pulls(*u));
         }
         l
     }
 
     // A round of every party at the levels `seen`: those of `levels` on a bus without faults. Bit i of busy says whether the host of
     // unit i is busy, bit 16 whether the controller's is. The command's data and the response buffer are lent to the controller, and
-    // its part of the memory to each unit, in the units' order.
+    // its part of the memory to each unit, in the units' order. What the controller's step comes to is what the round comes to: where
+    // it is refused, the units step nevertheless.
     pub fn round(
-        self,
+        &mut self,
         seen: Lines,
         busy: u32,
         data: &[u8],
         response: &mut [u8],
         memory: &mut [u8; MEMORY],
-    ) -> Rounded
-        ensures bus_value { result.bus ≡ round_of self seen busy «data».now response.old memory.old }
-        ensures outcome_value { stepped result.outcome ≡ outcome_of self seen busy «data».now response.old }
-        ensures response_after { response.new ≡ response_of self seen busy «data».now response.old }
-        ensures memory_after { memory.new ≡ memory_after self seen busy memory.old }
+    ) -> Result<Event, StepError>
+        ensures bus_value { self.new ≡ round_of self.old seen busy «data».now response.old memory.old }
+        ensures outcome_value { stepped result ≡ outcome_of self.old seen busy «data».now response.old }
+        ensures response_after { response.new ≡ response_of self.old seen busy «data».now response.old }
+        ensures memory_after { memory.new ≡ memory_after self.old seen busy memory.old }
     {
-        let c = self.controller;
-        let s = controller::step(c, seen, busy / 65536 % 2 == 1, data, response);
-        let outcome = s.outcome;
-        let next = s.controller;
-        let before = self.units;
-        let units = units_after(before, up_to_16(self.count), seen, busy, memory);
-        let bus = Bus {
-            controller: next,
-            units,
-            count: self.count,
-        };
-        Rounded { bus, outcome }
+        let n = up_to_16(self.count);
+        units_after(&mut self.units[0..n], seen, busy, memory);
+        controller::step(
+            &mut self.controller,
+            seen,
+            busy / 65536 % 2 == 1,
+            data,
+            response,
+        )
     }
 }
 
-// A round of the first n units, each in its own part of the memory.
-fn units_after(units: [Unit; 16], n: usize, seen: Lines, busy: u32, memory: &mut [u8]) -> [Unit; 16]
-    requires n_bound { n ≤ 16 }
+// A round of units, each in its own part of the memory. The parts are taken by their places: after `chunks_exact_mut` nothing is known
+// of the bytes.
+fn units_after(units: &mut [Unit], seen: Lines, busy: u32, memory: &mut [u8])
+    requires units_len { length units.old ≤ 16 }
     requires memory_len { length memory.old ≡ 38912 }
-    ensures value { result ≡ units_in (units_after seen busy (stations_of (take n units) memory.old)) ++ drop n units }
-    ensures memory_after { memory.new ≡ memory_of (units_after seen busy (stations_of (take n units) memory.old)) ++ drop (2432 * n) memory.old }
+    ensures units_after { units.new ≡ units_in (units_after seen busy (stations_of units.old memory.old)) }
+    ensures memory_after { memory.new ≡ memory_of (units_after seen busy (stations_of units.old memory.old)) ++ drop (2432 * length units.old) memory.old }
 {
-    let mut after = units;
     let mut hosts = busy;
     let mut at = 0;
-    let mut i = 0;
-    while i < n {
-        let u = after[i];
+    for u in units.iter_mut() {
         let end = at + EACH;
-        after[i] = unit_round(u, seen, hosts % 2 == 1, &mut memory[at..end]);
-        hosts = hosts / 2;
+        *u = unit_round(*u, seen, hosts % 2 == 1, &mut memory[at..end]);
+        hosts /= 2;
         at = end;
-        i += 1;
     }
-    after
 }
 
 // A round of a unit in its part of the memory.
@@ -184,11 +163,7 @@ fn unit_after(
     ensures buffer_after { buffer.new ≡ buffer_after u seen busy buffer.old input.now output.old }
     ensures output_after { output.new ≡ output_after u seen busy buffer.old input.now output.old }
 {
-    match unit::step(u, seen, busy, buffer, input, output) {
-        Stepped::On(v) => v,
-        Stepped::Level => u,
-        Stepped::Buffer => u,
-    }
+    unit::step(u, seen, busy, buffer, input, output).unwrap_or(u)
 }
 
 // 256 bytes of a slice, from a place on.
@@ -215,20 +190,19 @@ fn put(part: &[u8; 256], s: &mut [u8], from: usize)
 fn up_to_16(count: u8) -> usize
     ensures { result ≡ min count 16 }
 {
-    if count < 16 { count as usize } else { 16 }
+    count.min(16) as usize
 }
 
 // What stands where no unit is.
 fn blank() -> Unit
     ensures { result ≡ new_unit 1 20 }
 {
-    let serial = Serial::new();
     Unit {
         own: 1,
         retry: 20,
         quiet: 0,
         asking: false,
         phase: Phase::Idle,
-        serial,
+        serial: Serial::new(),
     }
 }

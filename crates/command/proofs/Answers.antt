@@ -1,26 +1,18 @@
--- The number and values of a reader's answer say which it is.
-use mathlib.Core.Path.{◌≡◌, refl}
-use mathlib.Core.Bool.{cond}
+-- The number and values of a reader's answer say which it is: a message has its command's fields.
+use mathlib.Core.Path.{ap}
 use mathlib.Core.List.{List}
 use Prim.Native.Nat.{ℕ}
-use lib.Dec.{eqb}
-use Rattle.message.specs.Answer.{Answer, gives, refused, OneAnswer}
+use Rattle.message.specs.Answer.{OneAnswer}
 use Rattle.message.specs.Format.{Message}
-use Rattle.message.proofs.Answers.{by-inverse}
+use Rattle.message.proofs.Answers.{one-answered-as}
 use Rattle.header.specs.Header.{command_from}
-use Rattle.command.specs.Command.{numbered}
-use Rattle.command.specs.declared.Reading.{Reading}
-use Rattle.command.specs.declared.Reading.TheVariants.{Fields, Short, Disagrees}
+use Rattle.header.specs.declared.Command.{Command}
+use Rattle.reader.specs.Numbers.{number}
+use Rattle.reader.proofs.Answers.{one-number}
+use Rattle.command.specs.Command.{message_of, numbered}
 
-answered : Answer Message → Reading
-answered (gives m) = Fields (command_from m.before)
-answered (refused k) = cond (eqb k 9) Short Disagrees
-
-answered-back : (d : List ℕ) (r : Reading) → answered (numbered d r) ≡ r
-unfolding answered
-answered-back d (Fields c) = refl
-answered-back d Short = refl
-answered-back d Disagrees = refl
+one-message : (d : List ℕ) → OneAnswer (λ (c : Command). message_of c d)
+one-message d c k e = ap (λ (m : Message). command_from m.before) e
 
 pub one-reading : (d : List ℕ) → OneAnswer (numbered d)
-one-reading d = by-inverse (numbered d) answered (answered-back d)
+one-reading d = one-answered-as (λ (c : Command). message_of c d) number (one-message d) one-number

@@ -1,5 +1,6 @@
 // The command message: device code 1, command code 1, logical unit 1, record number 2, buffer length 2, data length 2,
-// then the data.
+// then the data. A trait of command and response is no plainer: what is the same stands in `reader`, `writer` and `place`, and what is
+// left are calls of those, a line or two each, with other fields.
 
 #![tactic(auto)]
 
@@ -15,33 +16,15 @@ ghost use Rattle.command.specs.Command.{message_of, numbered};
 
 use header::{Command, Header};
 use place::Place;
-use reader::Checked;
-use writer::Written;
+use reader::Misread;
+use writer::WriteError;
 
-// What reading a slice that must hold exactly one command comes to.
-#[derive(Clone, Copy)]
-pub enum Reading {
-    // Its fields. `data_of` hands back the data.
-    Fields(Command),
-    // Refusal 9: under 9 bytes.
-    Short,
-    // Refusal 10: the length field disagrees with the slice.
-    Disagrees,
-}
-
-// Reads a slice that must hold exactly one command.
-pub fn read(s: &[u8]) -> Reading
+// Reads a slice that must hold exactly one command: its fields. `data_of` hands back the data.
+pub fn read(s: &[u8]) -> Result<Command, Misread>
     ensures { numbered (data_in command_format s.now) result ≡ reading command_format s.now }
 {
-    match reader::check(s, 7, 0) {
-        Checked::Whole(_) => {
-            let h = header_in(s);
-            let c = h.command;
-            Reading::Fields(c)
-        }
-        Checked::Short => Reading::Short,
-        Checked::Disagrees => Reading::Disagrees,
-    }
+    reader::check(s, 7, 0)?;
+    Ok(header_in(s).command)
 }
 
 // The data field of the command that a slice holds, as that part of the slice; nothing where `read` refuses.
@@ -52,7 +35,7 @@ pub fn data_of(s: &[u8]) -> &[u8]
 }
 
 // Writes a command with its data to the front of a lent buffer. Bytes past it keep their values, and all do where it refuses.
-pub fn write(c: Command, data: &[u8], out: &mut [u8]) -> Written
+pub fn write(c: Command, data: &[u8], out: &mut [u8]) -> Result<usize, WriteError>
     ensures { (writer·numbered result ≡ writing (least command_format) (length «data».now) (length out.old)) × (out.new ≡ written_as command_format (message_of c «data».now) out.old) }
 {
     let head = header::bytes_of(c, data.len());
@@ -79,11 +62,14 @@ fn header_in(s: &[u8]) -> Header
     requires { 9 ≤ length s.now }
     ensures { result ≡ header_in s.now }
 {
-    let mut h = Header::new();
-    let mut i = 0;
-    while i < 9 {
-        h = h.with(i, s[i]);
-        i += 1;
+    Header {
+        command: Command {
+            device: s[0],
+            command: s[1],
+            logical_unit: s[2],
+            record_number: field::value_of(s[3], s[4]),
+            buffer_length: field::value_of(s[5], s[6]),
+        },
+        data_length: field::value_of(s[7], s[8]),
     }
-    h
 }

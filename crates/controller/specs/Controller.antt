@@ -1,8 +1,7 @@
 -- Document 01, "The controller and its ring": the controller's round.
-use Rattle.std.specs.Prelude.{ℕ, Bool, true, false, cond, List, [], eqb, get_or}
+use Rattle.std.specs.Prelude.{ℕ, Bool, true, false, cond, List, [], eqb, get_or, Option, Some, None}
 use Rattle.frame.specs.Frame.{begun, frame_step}
 use Rattle.frame.specs.declared.End.{End}
-use Rattle.frame.specs.declared.End.TheVariants.{NotYet, Over}
 use Rattle.frame.specs.declared.Moved.{Moved}
 use Rattle.frame.specs.declared.Stage.{Stage}
 use Rattle.frame.specs.declared.Stage.TheVariants.{Free, Resting, Waiting, Sending, Listening}
@@ -44,13 +43,13 @@ abbrev pub idle_step : Controller → Bool → Controller
 idle_step c bav = cond bav (cond (eqb (counted c.ring) 0) c (service c)) c
 
 -- The ring after a round, and what the application is told of it.
-abbrev pub ring_after : Ring → End → Ring
-ring_after ring NotYet = ring
-ring_after ring (Over f status count) = ring_ended ring f status
+abbrev pub ring_after : Ring → Option End → Ring
+ring_after ring None = ring
+ring_after ring (Some end) = ring_ended ring end.frame end.status
 
-abbrev pub event_after : End → Event
-event_after NotYet = Nothing
-event_after (Over f status count) = event_of f status count
+abbrev pub event_after : Option End → Event
+event_after None = Nothing
+event_after (Some end) = event_of end.frame end.status end.count
 
 -- The controller after a round of a frame or of its rest.
 abbrev pub controller_moved : Controller → Moved → Controller

@@ -4,10 +4,10 @@
 
 ghost use Rattle.std.specs.Prelude.{◌≡◌};
 ghost use Rattle.controller.specs.Controller.{with_stage, with_ring, is_idle, service, idle_step, ring_after, event_after, controller_step, event_in};
-ghost use Rattle.controller.specs.Calls.{stepping, stepped, controller_stepped, buffer_after, went_on, going};
+ghost use Rattle.controller.specs.Calls.{number, of_lent, stepping, stepped, controller_stepped, buffer_after};
 ghost use Rattle.frame.specs.Frame.{pulls_of, frame_buffer};
 
-use frame::{End, Frame, Lent, Moved, Stage};
+use frame::{End, LentError, Stage};
 use line::Lines;
 use ring::Ring;
 use turn::Event;
@@ -22,16 +22,9 @@ pub struct Controller {
     pub ring: Ring,
 }
 
-// What a step comes to.
-#[derive(Clone, Copy)]
-pub struct Stepped {
-    pub controller: Controller,
-    pub outcome: Stepping,
-}
-
-#[derive(Clone, Copy)]
-pub enum Stepping {
-    On(Event),
+// Why a step is refused.
+#[derive(Clone, Copy, Debug, PartialEq, Eq)]
+pub enum StepError {
     // Refusal 5: nibble level over 15.
     Level,
     // Refusal 10: the data differs in length from the submitted.
@@ -40,104 +33,91 @@ pub enum Stepping {
     Buffer,
 }
 
+impl From<LentError> for StepError {
+    ghost from_gives = { λ e s. s ≡ of_lent e };
+
+    fn from(e: LentError) -> StepError {
+        match e {
+            LentError::Data => StepError::Data,
+            LentError::Buffer => StepError::Buffer,
+        }
+    }
+}
+
+impl From<StepError> for u32 {
+    ghost from_gives = { λ e n. n ≡ number e };
+
+    fn from(e: StepError) -> u32 {
+        match e {
+            StepError::Level => 5,
+            StepError::Data => 10,
+            StepError::Buffer => 11,
+        }
+    }
+}
+
 // A round: the levels that it sees, whether its host is busy, and, looked at only in a submitted frame, the command's data and the
-// response buffer.
-pub fn step(c: Controller, seen: Lines, busy: bool, data: &[u8], response: &mut [u8]) -> Stepped
-    ensures { (stepped result.outcome ≡ stepping c seen busy «data».now response.old) × ((result.controller ≡ controller_stepped c seen busy «data».now response.old) × (response.new ≡ buffer_after c seen busy «data».now response.old)) }
+// response buffer. A refused one changes neither state nor buffer.
+pub fn step(
+    c: &mut Controller,
+    seen: Lines,
+    busy: bool,
+    data: &[u8],
+    response: &mut [u8],
+) -> Result<Event, StepError>
+    ensures outcome { stepped result ≡ stepping c.old seen busy «data».now response.old }
+    ensures state { c.new ≡ controller_stepped c.old seen busy «data».now response.old }
+    ensures buffer { response.new ≡ buffer_after c.old seen busy «data».now response.old }
 {
     if 15 < seen.nibble {
-        return Stepped {
-            controller: c,
-            outcome: Stepping::Level,
-        };
+        return Err(StepError::Level);
     }
-    let stage = c.stage;
-    match frame::check(stage, data.len(), response.len()) {
-        Lent::Fits => round(c, seen, busy, data, response),
-        Lent::Data => Stepped {
-            controller: c,
-            outcome: Stepping::Data,
-        },
-        Lent::Buffer => Stepped {
-            controller: c,
-            outcome: Stepping::Buffer,
-        },
-    }
+    frame::check(c.stage, data.len(), response.len())?;
+    Ok(round(c, seen, busy, data, response))
 }
 
 // What it pulls after its last step.
 pub fn pulls(c: Controller) -> Lines
     ensures { result ≡ pulls_of c.stage }
 {
-    let stage = c.stage;
-    frame::pulls(stage)
+    frame::pulls(c.stage)
 }
 
 // Whether it may start and has nothing submitted.
 pub fn is_idle(stage: Stage) -> bool
     ensures { result ≡ is_idle stage }
 {
-    match stage {
-        Stage::Free => true,
-        Stage::Resting(_) => false,
-        Stage::Waiting(_) => false,
-        Stage::Sending(_, _, _, _) => false,
-        Stage::Listening(_, _, _, _) => false,
-    }
+    matches!(stage, Stage::Free)
 }
 
 // With another stage; nothing else of it changes.
 pub fn with_stage(c: Controller, stage: Stage) -> Controller
     ensures { result ≡ with_stage c stage }
 {
-    let ring = c.ring;
-    Controller {
-        timeout: c.timeout,
-        stage,
-        ring,
-    }
+    Controller { stage, ..c }
 }
 
 // With another ring; nothing else of it changes.
 pub fn with_ring(c: Controller, ring: Ring) -> Controller
     ensures { result ≡ with_ring c ring }
 {
-    let stage = c.stage;
-    Controller {
-        timeout: c.timeout,
-        stage,
-        ring,
-    }
+    Controller { ring, ..c }
 }
 
-fn round(c: Controller, seen: Lines, busy: bool, data: &[u8], buffer: &mut [u8]) -> Stepped
-    ensures { (result ≡ went_on (controller_step c seen busy «data».now) (event_in c seen busy «data».now)) × (buffer.new ≡ frame_buffer c.stage seen buffer.old) }
+fn round(c: &mut Controller, seen: Lines, busy: bool, data: &[u8], buffer: &mut [u8]) -> Event
+    ensures event { result ≡ event_in c.old seen busy «data».now }
+    ensures state { c.new ≡ controller_step c.old seen busy «data».now }
+    ensures buffer { buffer.new ≡ frame_buffer c.old.stage seen buffer.old }
 {
-    let stage = c.stage;
-    if is_idle(stage) {
-        return went_on(idle(c, seen.bav), Event::Nothing);
+    if is_idle(c.stage) {
+        *c = idle(*c, seen.bav);
+        return Event::Nothing;
     }
-    going(c, frame::step(stage, c.timeout, seen, busy, data, buffer))
-}
-
-// A round of a frame or of its rest.
-fn going(c: Controller, m: Moved) -> Stepped
-    ensures { result ≡ going c m }
-{
-    let stage = m.stage;
-    let end = m.end;
-    match end {
-        End::NotYet => went_on(with_stage(c, stage), Event::Nothing),
-        End::Over(f, status, count) => concluded(with_stage(c, stage), f, status, count),
-    }
-}
-
-fn went_on(c: Controller, event: Event) -> Stepped
-    ensures { result ≡ went_on c event }
-{
-    Stepped {
-        controller: c,
-        outcome: Stepping::On(event),
+    let m = frame::step(c.stage, c.timeout, seen, busy, data, buffer);
+    c.stage = m.stage;
+    match m.end {
+        None => Event::Nothing,
+        Some(end) => conclude(c, end),
     }
 }
 
@@ -145,32 +125,25 @@ fn went_on(c: Controller, event: Event) -> Stepped
 fn idle(c: Controller, bav: bool) -> Controller
     ensures { result ≡ idle_step c bav }
 {
-    if bav {
-        let ring = c.ring;
-        let is_empty = ring.len() == 0;
-        if is_empty {
-            return c;
-        }
-        return service(c);
+    if bav && c.ring.len() != 0 {
+        service(c)
+    } else {
+        c
     }
-    c
 }
 
 fn service(c: Controller) -> Controller
     ensures { result ≡ service c }
 {
-    let ring = c.ring;
-    let stage = frame::begin(turn::frame_of(ring.entry(0)));
-    with_ring(with_stage(c, stage), ring.turned())
+    let stage = frame::begin(turn::frame_of(c.ring.entry(0)));
+    with_ring(with_stage(c, stage), c.ring.turned())
 }
 
 // A frame has ended.
-fn concluded(c: Controller, f: Frame, status: u8, count: u16) -> Stepped
-    ensures { result ≡ went_on (with_ring c (ring_after c.ring (End.Over f status count))) (event_after (End.Over f status count)) }
+fn conclude(c: &mut Controller, end: End) -> Event
+    ensures event { result ≡ event_after (Some end) }
+    ensures state { c.new ≡ with_ring c.old (ring_after c.old.ring (Some end)) }
 {
-    let ring = c.ring;
-    went_on(
-        with_ring(c, turn::ring_after(ring, f, status)),
-        turn::event_of(f, status, count),
-    )
+    c.ring = turn::ring_after(c.ring, end.frame, end.status);
+    turn::event_of(end.frame, end.status, end.count)
 }

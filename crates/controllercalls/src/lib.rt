@@ -6,7 +6,6 @@ mod told;
 
 ghost use Rattle.std.specs.Prelude.{◌≡◌, ◌≤◌, IfErr, take};
 
-use application::{Acknowledging, Making, Submitting};
 use controller::Controller;
 use frame::Stage;
 use header::Command;
@@ -34,12 +33,7 @@ pub fn act(
 pub fn acknowledge(c: &mut Controller, code: u8) -> Result<(), Refusal>
     ensures { IfErr result (λ e. (e ≡ 8) × (c.new ≡ c.old)) }
 {
-    let acknowledged = application::acknowledge(*c, code);
-    match acknowledged.outcome {
-        Acknowledging::Cleared => *c = acknowledged.controller,
-        Acknowledging::NotMarked => return Err(8),
-    }
-    Ok(())
+    Ok(application::acknowledge(c, code)?)
 }
 
 // A step by hand, with the data of the statement, or of the command if it has none; what this comes to.
@@ -59,9 +53,8 @@ pub fn step(
     let lent = s.values.number_or(6, doing.lent as u64) as usize;
     let n = lent.min(response.len());
     let before = c.stage;
-    let by_hand = controller::step(*c, doing.seen, s.values.has(4), data, &mut response[..n]);
-    *c = by_hand.controller;
-    stepped(before, c, by_hand.outcome)
+    let outcome = controller::step(c, doing.seen, s.values.has(4), data, &mut response[..n]);
+    stepped(before, c, outcome)
 }
 
 // The data of the command that was submitted last, so many bytes.
@@ -102,10 +95,8 @@ pub fn entries(ring: &Ring, noted: &mut [u8; 32]) -> usize
 // A new controller with a time-out, or the one that there was.
 fn make(c: &mut Controller, timeout: u64) -> Result<(), Refusal> {
     let made = application::make((timeout % 4294967296) as u32);
-    match made.outcome {
-        Making::New => *c = made.controller,
-        Making::Setting => return Err(5),
-    }
+    made.outcome?;
+    *c = made.controller;
     Ok(())
 }
 
@@ -136,20 +127,14 @@ fn check(c: &Controller, s: &Statement, store: &Store, response: &[u8]) -> Resul
         };
     }
     let lent = s.values.number_or(5, 65535) as usize;
-    let submitted = application::submit(
-        *c,
+    let mut submitted = *c;
+    application::submit(
+        &mut submitted,
         command_of(&s.values),
         word::front(&store.statement, length_of(s)),
         word::front(response, lent),
-    );
-    match submitted.outcome {
-        Submitting::Accepted => Ok(()),
-        Submitting::Running => Err(1),
-        Submitting::TooLong => Err(2),
-        Submitting::PollCommand => Err(3),
-        Submitting::FullRing => Err(4),
-        Submitting::ShortResponse => Err(11),
-    }
+    )?;
+    Ok(())
 }
 
 // The command of a statement. Where it gives no buffer length, this is 4 for an open in words.

@@ -1,20 +1,14 @@
 // What a step of the controller has come to.
-use controller::{Controller, Stepping};
+use controller::{Controller, StepError};
 use frame::{Frame, Kind, Stage};
 use ring::Ring;
 use statement::{Event, Framed, Stepped};
 
 // From the stage before it.
-pub fn stepped(before: Stage, c: &Controller, outcome: Stepping) -> Stepped {
-    let event = match outcome {
-        Stepping::On(event) => Ok(event_of(event)),
-        Stepping::Level => Err(5),
-        Stepping::Data => Err(10),
-        Stepping::Buffer => Err(11),
-    };
+pub fn stepped(before: Stage, c: &Controller, outcome: Result<turn::Event, StepError>) -> Stepped {
     Stepped {
         frame: framed(before, c),
-        event,
+        event: outcome.map(event_of).map_err(u32::from),
     }
 }
 

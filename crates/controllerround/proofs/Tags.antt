@@ -11,7 +11,7 @@ use Rattle.controllerwords.specs.Controller.{loaded_frame, stage_by, loaded_stag
 use Rattle.controllerwords.specs.Layout.{STAGE, FIRST}
 use Rattle.controllerwords.proofs.Laws.{stage_meant}
 use Rattle.frame.specs.Frame.{null_frame, lent_to, lent_at, pulls_of}
-use Rattle.frame.specs.declared.Lent.TheVariants.{Fits}
+use Rattle.std.specs.Prelude.{Ok}
 use Rattle.frame.specs.declared.Stage.{Stage}
 use Rattle.frame.specs.declared.Stage.TheVariants.{Free, Resting, Waiting, Sending, Listening}
 use Rattle.line.specs.declared.Listener.TheVariants as Ear
@@ -25,12 +25,12 @@ is_free ws d c b a = rw (a, b, c, d)
 
 -- Only a frame looks at what it is lent.
 module _ (ws : List ℕ) (n room : ℕ) where
-  pub low_fits : (tag : ℕ) → tag < 2 → Fits ≡ lent_at (stage_by tag ws) n room
+  pub low_fits : (tag : ℕ) → tag < 2 → Ok tt ≡ lent_at (stage_by tag ws) n room
   low_fits zero h = refl
   low_fits (suc zero) h = refl
   low_fits (suc (suc k)) h = absurd (omega arith)
 
-  pub high_fits : (tag : ℕ) → 4 < tag → Fits ≡ lent_at (stage_by tag ws) n room
+  pub high_fits : (tag : ℕ) → 4 < tag → Ok tt ≡ lent_at (stage_by tag ws) n room
   high_fits tag h =
       let other : stage_by tag ws ≡ Free = stage_meant ws tag ∙ rw (le-ltb tag 5 h) in
       ap (λ (s : Stage). lent_at s n room) (sym other)

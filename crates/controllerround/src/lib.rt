@@ -15,20 +15,17 @@ use controllerwords::{
     BUFFER_LENGTH, DATA_LENGTH, EAR, FIRST, KIND, NIBBLE, QUIET, RESPONSE, SENDER, STAGE, TIMEOUT,
     Words,
 };
-use frame::{Lent, Stage};
+use frame::{LentError, Stage};
 use line::Lines;
 use turn::Event;
 
 // Whether n bytes of data and a response buffer of so many bytes are what a step is to be lent. Only a submitted frame looks at them.
-pub fn check(words: &Words, n: usize, room: usize) -> Lent
+pub fn check(words: &Words, n: usize, room: usize) -> Result<(), LentError>
     ensures { result ≡ lent_at (loaded_stage words.now) n room }
 {
     let tag = words[STAGE];
-    if tag < 2 {
-        return Lent::Fits;
-    }
-    if 4 < tag {
-        return Lent::Fits;
+    if tag < 2 || 4 < tag {
+        return Ok(());
     }
     frame::lent_with(
         controllerwords::submits(words[KIND]),
@@ -51,6 +48,7 @@ pub fn round(
     ensures { (words.new ≡ round_in words.old seen busy «data».now) × ((response.new ≡ frame_buffer (loaded_stage words.old) seen response.old) × (event.new ≡ round_event words.old seen busy «data».now)) }
 {
     *event = [0, 0, 0];
+    // One test after the other, the most frequent first: as a `match` a sending or listening step takes 2 instructions more.
     let tag = words[STAGE];
     let listens = tag == 4;
     if listens {
@@ -104,8 +102,7 @@ fn service(words: &mut Words)
     ensures { words.new ≡ saved_in words.old (idle_step (loaded words.old) true) }
 {
     let ring = controllerwords::load_ring(words);
-    let is_empty = ring.len() == 0;
-    if is_empty {
+    if ring.len() == 0 {
         return;
     }
     controllerwords::save_stage(words, frame::begin(turn::frame_of(ring.entry(0))));
@@ -116,37 +113,27 @@ fn service(words: &mut Words)
 pub fn pulls(words: &Words) -> u32
     ensures { result ≡ lines_number (pulls_of (loaded_stage words.now)) }
 {
-    let tag = words[STAGE];
-    let sends = tag == 3;
-    if sends {
-        return sender_pulls(words[SENDER], words[NIBBLE]);
+    match words[STAGE] {
+        3 => sender_pulls(words[SENDER], words[NIBBLE]),
+        4 => listener_pulls(words[EAR]),
+        _ => 15,
     }
-    let listens = tag == 4;
-    if listens {
-        return listener_pulls(words[EAR]);
-    }
-    15
 }
 
 fn sender_pulls(tag: u32, word: u32) -> u32
     ensures { result ≡ lines_number (pulls_of (Stage.Sending null_frame 0 (sender_of tag word) false)) }
 {
-    let placed = tag == 1;
-    if placed {
-        return word % 16 + 48;
+    match tag {
+        1 => word % 16 + 48,
+        2 => word % 16 + 32,
+        _ => 47,
     }
-    let kept = tag == 2;
-    if kept {
-        return word % 16 + 32;
-    }
-    47
 }
 
 fn listener_pulls(tag: u32) -> u32
     ensures { result ≡ lines_number (pulls_of (Stage.Listening null_frame (listener_of tag) Response.TooLarge 0)) }
 {
-    let holds = tag == 1;
-    if holds { 63 } else { 47 }
+    if tag == 1 { 63 } else { 47 }
 }
 
 // A round of listening.

@@ -32,25 +32,19 @@ pub fn round(words: &mut Words, hsk: bool, data: &[u8])
         words[WAIT] = words::with_flag(words[WAIT], false);
         return;
     }
-    let tag = words[SENDER];
-    let placed = tag == 1;
-    if placed {
-        words[SENDER] = 2;
-        return;
-    }
-    let kept = tag == 2;
-    if kept {
-        if hsk {
-            return;
+    match words[SENDER] {
+        1 => words[SENDER] = 2,
+        2 => if !hsk {
+            sent(words);
+        },
+        _ => {
+            let f = controllerwords::load_frame(words);
+            let n = frame::nibble(f, words[NEXT], data);
+            let nibble = words::with8(words[NIBBLE], n);
+            words[SENDER] = 1;
+            words[NIBBLE] = nibble;
         }
-        sent(words);
-        return;
     }
-    let f = controllerwords::load_frame(words);
-    let n = frame::nibble(f, words[NEXT], data);
-    let nibble = words::with8(words[NIBBLE], n);
-    words[SENDER] = 1;
-    words[NIBBLE] = nibble;
 }
 
 // The nibble is sent: on to the next, and after the last it listens.

@@ -2,12 +2,12 @@
 use Prim.Native.Nat.{ℕ, zero, suc, ◌+◌, ◌-◌, ◌/◌, ◌%◌, ◌≤◌, ◌<◌}
 use native.Mathlib.Nat.{add-zero, zero-add}
 use native.Mathlib.Omega.{arith}
-use mathlib.Core.Path.{◌≡◌, refl, sym, ◌∙◌, ap}
+use mathlib.Core.Path.{◌≡◌, refl, sym, ◌∙◌, ap, ap₂}
 use mathlib.Core.Bool.{Bool, true, false, ◌&&◌, true≢false}
 use mathlib.Core.List.{List, ◌∷◌}
 use borrow.Author.Tests.{lt-ltb, le-leb, ne_eqb}
 use lib.Dec.{ltb, leb}
-use lib.ListN.{get_or, set}
+use lib.ListN.{length, get_or, set}
 use Rattle.answer.specs.declared.Response.{Response}
 use Rattle.answer.specs.declared.Response.TheVariants.{Taking, Complete, TooLarge}
 use Rattle.controller.specs.Controller.{with_stage, with_ring}
@@ -19,7 +19,7 @@ use Rattle.ring.specs.Ring.{none}
 use Rattle.ring.specs.declared.Entry.{Entry}
 use Rattle.ring.specs.declared.Ring.{Ring}
 use Rattle.words.specs.Words.{at, number_in, flag_of, tag_of, tag_in, listener_of, listener_in, sender_of}
-use Rattle.words.proofs.Laws.{past, put_back, again, odd, tag_again, tag_below, tag_meant, tag_is, none_of, unchanged}
+use Rattle.words.proofs.Laws.{past, put_back, again, elements_from, one_by_one, odd, tag_again, tag_below, tag_meant, tag_is, none_of, unchanged}
 use Rattle.controllerwords.specs.Layout.{TIMEOUT, STAGE, WAIT, SENDER, NIBBLE, NEXT, EAR, RESPONSE, QUIET, ENTRIES, ENTRY}
 use Rattle.controllerwords.specs.Controller.{kind_of, kind_tag, kind_in, loaded_frame, frame_in, response_by, loaded_response, response_in, stage_by, loaded_stage, tagged, sending, listening, stage_in, entry_of, entry_number, slots_from, loaded_ring, slots_in, ring_in, loaded, saved_in}
 use Rattle.controllerwords.specs.RoundTrip.{SavedLoaded}
@@ -112,6 +112,17 @@ slot_at : (n i j : ℕ) (ws : List ℕ) → j < n → get_or (slots_from n i ws)
 slot_at zero i j ws h = absurd (omega arith)
 slot_at (suc n) i zero ws h = rw (add-zero i)
 slot_at (suc n) i (suc j) ws h = let e : i + suc j ≡ suc i + j = omega arith in rw e (slot_at n (suc i) j ws (omega arith))
+
+-- The ring of entries that are those of the words, one by one.
+slots-are : (n i : ℕ) (es : List Entry) (ws : List ℕ) → ((j : ℕ) → j < i + n → get_or es j none ≡ entry_of (at ws (ENTRY + j))) → elements_from none n i es ≡ slots_from n i ws
+slots-are zero i es ws h = refl
+slots-are (suc n) i es ws h =
+    ap₂ (λ (e : Entry) (r : List Entry). e ∷ r) (h i (omega arith)) (slots-are n (suc i) es ws (λ j p. h j (omega arith)))
+
+pub ring_of_words : (es : List Entry) (count : ℕ) (ws : List ℕ) → length es ≡ 16 → ((j : ℕ) → j < 16 → get_or es j none ≡ entry_of (at ws (ENTRY + j)))
+    → count ≡ at ws ENTRIES % 256 → record { entries = es; count = count } ≡ loaded_ring ws
+ring_of_words es count ws full h p =
+    λ i. record { entries = (one_by_one none 16 es full ∙ slots-are 16 0 es ws (λ j q. h j (omega arith))) i; count = p i }
 
 ring_again : (ws : List ℕ) → ring_in ws (loaded_ring ws) ≡ ws
 ring_again ws =

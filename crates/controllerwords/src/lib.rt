@@ -78,12 +78,10 @@ pub const ENTRY: usize = 17;
 pub fn load(words: &Words) -> Controller
     ensures { result ≡ loaded words.now }
 {
-    let stage = load_stage(words);
-    let ring = load_ring(words);
     Controller {
         timeout: words::number16(words[TIMEOUT]),
-        stage,
-        ring,
+        stage: load_stage(words),
+        ring: load_ring(words),
     }
 }
 
@@ -91,11 +89,9 @@ pub fn load(words: &Words) -> Controller
 pub fn save(words: &mut Words, c: Controller)
     ensures { words.new ≡ saved_in words.old c }
 {
-    let stage = c.stage;
-    let ring = c.ring;
     words[TIMEOUT] = words::with16(words[TIMEOUT], c.timeout);
-    save_stage(words, stage);
-    save_ring(words, ring);
+    save_stage(words, c.stage);
+    save_ring(words, c.ring);
 }
 
 // The controller in cleared words.
@@ -109,34 +105,23 @@ pub fn save_new(words: &mut Words, c: Controller)
 fn load_stage(words: &Words) -> Stage
     ensures { result ≡ loaded_stage words.now }
 {
-    let tag = words[STAGE];
-    let rests = tag == 1;
-    if rests {
-        return Stage::Resting(words::flag(words[FIRST]));
-    }
-    let waits = tag == 2;
-    if waits {
-        return Stage::Waiting(load_frame(words));
-    }
-    let sends = tag == 3;
-    if sends {
-        return Stage::Sending(
+    match words[STAGE] {
+        1 => Stage::Resting(words::flag(words[FIRST])),
+        2 => Stage::Waiting(load_frame(words)),
+        3 => Stage::Sending(
             load_frame(words),
             words[NEXT],
             words::sender(words[SENDER], words[NIBBLE]),
             words::flag(words[WAIT]),
-        );
-    }
-    let listens = tag == 4;
-    if listens {
-        return Stage::Listening(
+        ),
+        4 => Stage::Listening(
             load_frame(words),
             words::listener(words[EAR]),
             load_response(words),
             words::number16(words[QUIET]),
-        );
+        ),
+        _ => Stage::Free,
     }
-    Stage::Free
 }
 
 // Its stage.
@@ -186,24 +171,11 @@ fn save_sending(words: &mut Words, i: u32, s: Sender, wait: bool)
 pub fn load_ring(words: &Words) -> Ring
     ensures { result ≡ loaded_ring words.now }
 {
-    let entries = [
-        slot(words, 0),
-        slot(words, 1),
-        slot(words, 2),
-        slot(words, 3),
-        slot(words, 4),
-        slot(words, 5),
-        slot(words, 6),
-        slot(words, 7),
-        slot(words, 8),
-        slot(words, 9),
-        slot(words, 10),
-        slot(words, 11),
-        slot(words, 12),
-        slot(words, 13),
-        slot(words, 14),
-        slot(words, 15),
-    ];
+    // By an index: of `array::from_fn` with the words in its closure the proof did not close.
+    let mut entries = Ring::new().entries;
+    for i in 0..16 {
+        entries[i] = slot(words, i);
+    }
     Ring {
         entries,
         count: words::number8(words[ENTRIES]),
@@ -215,12 +187,9 @@ pub fn save_ring(words: &mut Words, r: Ring)
     ensures { words.new ≡ ring_in words.old r }
 {
     words[ENTRIES] = words::with8(words[ENTRIES], r.count);
-    let mut i = 0;
-    while i < 16 {
+    for i in 0..16 {
         let place = ENTRY + i;
-        let e = r.entries[i];
-        words[place] = with_entry(words[place], e);
-        i += 1;
+        words[place] = with_entry(words[place], r.entries[i]);
     }
 }
 
@@ -228,15 +197,7 @@ pub fn save_ring(words: &mut Words, r: Ring)
 pub fn submits(tag: u32) -> bool
     ensures { result ≡ is_submitted (kind_of tag) }
 {
-    let polls = tag == 1;
-    if polls {
-        return false;
-    }
-    let is_null = tag == 2;
-    if is_null {
-        return false;
-    }
-    true
+    !matches!(tag, 1 | 2)
 }
 
 // An entry in nine bits: its code, and 256 while it is marked.
@@ -250,8 +211,7 @@ fn slot(words: &Words, i: usize) -> Entry
     requires { i < 16 }
     ensures { result ≡ entry_of (at words.now (ENTRY + i)) }
 {
-    let place = ENTRY + i;
-    let word = words[place];
+    let word = words[ENTRY + i];
     Entry {
         code: words::number8(word),
         marked: words::flag(word / 256),
@@ -267,15 +227,11 @@ fn with_entry(word: u32, e: Entry) -> u32
 fn kind(tag: u32) -> Kind
     ensures { result ≡ kind_of tag }
 {
-    let polls = tag == 1;
-    if polls {
-        return Kind::Poll;
+    match tag {
+        1 => Kind::Poll,
+        2 => Kind::Null,
+        _ => Kind::Submitted,
     }
-    let is_null = tag == 2;
-    if is_null {
-        return Kind::Null;
-    }
-    Kind::Submitted
 }
 
 fn with_kind(word: u32, k: Kind) -> u32
@@ -337,36 +293,26 @@ fn save_frame(words: &mut Words, f: Frame)
 pub fn load_response(words: &Words) -> Response
     ensures { result ≡ loaded_response words.now }
 {
-    let tag = words[RESPONSE];
-    let is_complete = tag == 1;
-    if is_complete {
-        return Response::Complete(
+    match words[RESPONSE] {
+        1 => Response::Complete(
             words::number8(words[STATUS]),
             words::number16(words[LENGTH]),
-        );
+        ),
+        2 => Response::TooLarge,
+        _ => Response::Taking(Partial {
+            length: words::number16(words[LENGTH]),
+            place: words[PLACE],
+            half: words::flag(words[HALF]),
+            low: words::number8(words[LOW]),
+        }),
     }
-    let is_too_large = tag == 2;
-    if is_too_large {
-        return Response::TooLarge;
-    }
-    let p = Partial {
-        length: words::number16(words[LENGTH]),
-        place: words[PLACE],
-        half: words::flag(words[HALF]),
-        low: words::number8(words[LOW]),
-    };
-    Response::Taking(p)
 }
 
 // Whether no more of the response with this tag is to be taken.
 pub fn is_over(tag: u32) -> bool
     ensures { result ≡ (eqb tag 1 || eqb tag 2) }
 {
-    let is_complete = tag == 1;
-    if is_complete {
-        return true;
-    }
-    tag == 2
+    matches!(tag, 1 | 2)
 }
 
 // The word of the listener's tag, and the count of quiet rounds.

@@ -30,8 +30,9 @@ use Rattle.delivery.proofs.Rest.{released, rest-hsk}
 use Rattle.delivery.proofs.Run.{frame_runs}
 use Rattle.frame.specs.Frame.{begun, stays, rest_step, lent_to}
 use Rattle.frame.specs.declared.Frame.{Frame}
-use Rattle.frame.specs.declared.Lent.{Lent}
-use Rattle.frame.specs.declared.Lent.TheVariants.{Fits as AsLent, Data as OtherData, Buffer as ShortBuffer}
+use Rattle.frame.specs.declared.LentError.{LentError}
+use Rattle.frame.specs.declared.LentError.TheVariants.{Data as OtherData, Buffer as ShortBuffer}
+use Rattle.std.specs.Prelude.{Result, Ok, Err}
 use Rattle.ring.specs.declared.Ring.{Ring}
 
 same_either : {A : Type 0} (t : Bool) (a : A) → cond t a a ≡ a
@@ -95,14 +96,14 @@ module _ (timeout : ℕ) (ring : Ring) (seen : Lines) (host : Bool) (lent respon
   rests-on false true e = false≢true e
   rests-on false false e = false≢true e
 
-  abbrev waits_by : Frame → Bool → Lent → Stage
+  abbrev waits_by : Frame → Bool → Result (Unit {0}) LentError → Stage
   waits_by f bad fits = (kept (cond bad (refused 5) (if_lent fits (event_in (at (Waiting f)) seen host lent))) (controller_moved (at (Waiting f)) (stays (begun f))) (at (Waiting f))).stage
 
-  waiting-begins : (f : Frame) (bad : Bool) (fits : Lent) → in_frame (waits_by f bad fits) ≡ true → is_begun (waits_by f bad fits) ≡ true
+  waiting-begins : (f : Frame) (bad : Bool) (fits : Result (Unit {0}) LentError) → in_frame (waits_by f bad fits) ≡ true → is_begun (waits_by f bad fits) ≡ true
   waiting-begins f true fits e = absurd (false≢true e)
-  waiting-begins f false AsLent e = refl
-  waiting-begins f false OtherData e = absurd (false≢true e)
-  waiting-begins f false ShortBuffer e = absurd (false≢true e)
+  waiting-begins f false (Ok u) e = refl
+  waiting-begins f false (Err OtherData) e = absurd (false≢true e)
+  waiting-begins f false (Err ShortBuffer) e = absurd (false≢true e)
 
   pub begins-by : (stage : Stage) → in_frame stage ≡ false → in_frame (next stage) ≡ true → is_begun (next stage) ≡ true
   begins-by Free e q = free-begins (ltb 15 seen.nibble) seen.bav (eqb (counted ring) 0) q

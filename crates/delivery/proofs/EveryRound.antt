@@ -47,7 +47,7 @@ use Rattle.delivery.proofs.Stages.{is_answered, Noted, Hushed, not_its_own, by_t
 use Rattle.delivery.specs.World.{World, Busy, levels, round, outcome, Different, another}
 use Rattle.delivery.specs.Run.{New, QuietStart, Run, start, a_round, a_call, Steps}
 use borrow.Author.Tests.{le-ltb}
-use Rattle.frame.specs.declared.Lent.TheVariants.{Fits as AsLent}
+use Rattle.std.specs.Prelude.{Ok}
 use Rattle.line.specs.declared.Listener.TheVariants.{Ready}
 use Rattle.line.specs.declared.Sender.TheVariants.{Next}
 use Rattle.unit.specs.Calls.{stepping}
@@ -127,7 +127,7 @@ in_frame_nibble {T} {f} {found} (hears ear taken quiet {timeout = timeout} {unit
     heard-nibble T f (data_of f lent) found timeout framed.eight framed.room false 0 ear taken quiet response units o
 in_frame_nibble (waits quiet {units = units} framed d a why) = subst (λ (x : ℕ). x < 16) (sym (still-nibble Ready 0 units a)) (lit< tt)
 
-in_frame_lent : {T : Moment} {f : Frame} {found : List ℕ} {w : World} → InFrame T f found w → lent_at w.controller.stage (length w.lent) (length w.response) ≡ AsLent
+in_frame_lent : {T : Moment} {f : Frame} {found : List ℕ} {w : World} → InFrame T f found w → lent_at w.controller.stage (length w.lent) (length w.response) ≡ Ok tt
 in_frame_lent (begins framed d a) = framed.fits
 in_frame_lent (sends i sender framed d s l a) = framed.fits
 in_frame_lent {T} {f} (hears ear taken quiet {lent = lent} framed d l o) = ap (lent_to f (length lent)) l ∙ framed.fits
@@ -143,7 +143,7 @@ pub rest_pulls : {stage : Stage} → AtRest stage → pulls_of stage ≡ release
 rest_pulls is_free = refl
 rest_pulls is_resting = refl
 
-rest_lent : {stage : Stage} (n room : ℕ) → AtRest stage → lent_at stage n room ≡ AsLent
+rest_lent : {stage : Stage} (n room : ℕ) → AtRest stage → lent_at stage n room ≡ Ok tt
 rest_lent n room is_free = refl
 rest_lent n room is_resting = refl
 
@@ -153,7 +153,7 @@ on_nibble (submitted f {units = units} framed codes d a) = rest-nibble units a
 on_nibble (ended eight codes d a) = subst (λ (x : ℕ). x < 16) (sym (nibble-kept released (lit< tt) (all_map (λ st p. ap pulls_nibble p.0.0) a))) (lit< tt)
 on_nibble (runs f found x codes) = in_frame_nibble x
 
-on_lent : {T : Moment} {v : World} → On T v → lent_at v.controller.stage (length v.lent) (length v.response) ≡ AsLent
+on_lent : {T : Moment} {v : World} → On T v → lent_at v.controller.stage (length v.lent) (length v.response) ≡ Ok tt
 on_lent (rests {lent = lent} {response = response} r eight codes d a) = rest_lent (length lent) (length response) r
 on_lent (submitted f framed codes d a) = framed.fits
 on_lent (ended eight codes d a) = refl

@@ -20,7 +20,7 @@ use Rattle.controller.specs.declared.Controller.{Controller}
 use Rattle.field.specs.Field.{byte_from}
 use Rattle.frame.specs.Frame.{begun, data_of, last_nibble, frame_buffer, listening_buffer, is_submitted, stays, over, lent_at, lent_to, next_nibble}
 use Rattle.frame.specs.declared.Frame.{Frame}
-use Rattle.frame.specs.declared.Lent.TheVariants.{Fits as AsLent}
+use Rattle.std.specs.Prelude.{Ok}
 use Rattle.frame.specs.declared.Moved.{Moved}
 use Rattle.frame.specs.declared.Stage.{Stage}
 use Rattle.frame.specs.declared.Stage.TheVariants.{Sending, Listening}
@@ -85,11 +85,11 @@ pub begin_high : {units : List Station} → All (λ (st : Station). Fresh st × 
 begin_high a = hsk_high_lem (sending Next) refl (all_map (λ st p. fresh_hsk p.0) a)
 
 -- A step of the controller in a frame that is not refused.
-pub control : (c : Controller) (seen : Lines) (host : Bool) (lent response : List ℕ) → seen.nibble < 16 → lent_at c.stage (length lent) (length response) ≡ AsLent → is_idle c.stage ≡ false
+pub control : (c : Controller) (seen : Lines) (host : Bool) (lent response : List ℕ) → seen.nibble < 16 → lent_at c.stage (length lent) (length response) ≡ Ok tt → is_idle c.stage ≡ false
     → controller_stepped c seen host lent response ≡ controller_of c.timeout (frame_of c seen host lent).stage (ring_after c.ring (frame_of c seen host lent).end)
 control c seen host lent response n e i = let a : ltb 15 seen.nibble ≡ false = le-ltb 15 seen.nibble (omega arith) in rw (a, e, i)
 
-control_buffer : (c : Controller) (seen : Lines) (host : Bool) (lent response : List ℕ) → seen.nibble < 16 → lent_at c.stage (length lent) (length response) ≡ AsLent
+control_buffer : (c : Controller) (seen : Lines) (host : Bool) (lent response : List ℕ) → seen.nibble < 16 → lent_at c.stage (length lent) (length response) ≡ Ok tt
     → buffer_after c seen host lent response ≡ frame_buffer c.stage seen response
 control_buffer c seen host lent response n e = let a : ltb 15 seen.nibble ≡ false = le-ltb 15 seen.nibble (omega arith) in rw (a, e)
 
@@ -243,7 +243,7 @@ module _ (T : Moment) (f : Frame) (found : List ℕ) (timeout : ℕ) (ring : Rin
   total = 2 * length (bytes_for c d)
 
   -- The world after a round, from what the controller's step comes to.
-  after : (stage stage' : Stage) (response response' : List ℕ) → let w = world timeout stage ring units lent response in (levels w).nibble < 16 → lent_at stage (length lent) (length response) ≡ AsLent → is_idle stage ≡ false
+  after : (stage stage' : Stage) (response response' : List ℕ) → let w = world timeout stage ring units lent response in (levels w).nibble < 16 → lent_at stage (length lent) (length response) ≡ Ok tt → is_idle stage ≡ false
       → moved_in w busy ≡ stays stage' → frame_buffer stage (levels w) response ≡ response'
       → round w busy ≡ world timeout stage' ring (units_after (levels w) busy.there units) lent response'
   after stage stage' response response' n l i m b =
@@ -363,7 +363,7 @@ module _ (T : Moment) (f : Frame) (found : List ℕ) (timeout : ℕ) (ring : Rin
       abbrev v : World
       v = world timeout (Listening f ear taken quiet) ring units lent response
 
-      as_lent : lent_to f (length lent) (length response) ≡ AsLent
+      as_lent : lent_to f (length lent) (length response) ≡ Ok tt
       as_lent = ap (λ (x : ℕ). lent_to f (length lent) x) long ∙ framed.fits
 
       heard-small : (levels v).nibble < 16

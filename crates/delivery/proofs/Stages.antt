@@ -13,7 +13,7 @@ use Rattle.bus.specs.declared.Station.{Station}
 use Rattle.controller.specs.Controller.{controller_of, controller_moved, frame_of}
 use Rattle.frame.specs.Frame.{begun, data_of, is_submitted, lent_to, over}
 use Rattle.frame.specs.declared.Frame.{Frame}
-use Rattle.frame.specs.declared.Lent.TheVariants.{Fits as AsLent}
+use Rattle.std.specs.Prelude.{Ok}
 use Rattle.frame.specs.declared.Moved.{Moved}
 use Rattle.frame.specs.declared.Stage.{Stage}
 use Rattle.frame.specs.declared.Stage.TheVariants.{Free, Resting, Waiting, Sending, Listening}
@@ -124,7 +124,7 @@ pub record Framed (f : Frame) (lent found : List ℕ) (timeout : ℕ) : Type 0 w
   pub announced : f.data_length ≡ length (data_of f lent)
   pub room : f.command.buffer_length ≤ length found
   pub service : is_submitted f.kind ≡ false → f.command.buffer_length ≡ 0
-  pub fits : lent_to f (length lent) (length found) ≡ AsLent
+  pub fits : lent_to f (length lent) (length found) ≡ Ok tt
   pub eight : 8 ≤ timeout
 
 abbrev pub world : ℕ → Stage → Ring → List Station → List ℕ → List ℕ → World

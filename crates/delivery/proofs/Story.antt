@@ -17,7 +17,7 @@ use Rattle.controller.specs.Controller.{event_in}
 use Rattle.controller.specs.declared.Controller.{Controller}
 use Rattle.frame.specs.Frame.{data_of, next_nibble, stays, over, last_nibble}
 use Rattle.frame.specs.declared.End.{End}
-use Rattle.frame.specs.declared.End.TheVariants.{NotYet, Over}
+use Rattle.std.specs.Prelude.{Option, Some, None}
 use Rattle.frame.specs.declared.Frame.{Frame}
 use Rattle.frame.specs.declared.Moved.{Moved}
 use Rattle.frame.specs.declared.Stage.{Stage}
@@ -149,9 +149,9 @@ is_sending (Waiting f) = false
 is_sending (Sending f i sender wait) = true
 is_sending (Listening f ear taken quiet) = false
 
-abbrev is_end : End → Bool
-is_end NotYet = false
-is_end (Over f status count) = true
+abbrev is_end : Option End → Bool
+is_end None = false
+is_end (Some end) = true
 
 pub not-over : {stage : Stage} {f : Frame} (r : Response) → stays stage ≡ over f r → ⊥
 not-over r e = false≢true (ap (λ (m : Moved). is_end m.end) e)

@@ -128,9 +128,8 @@ pub struct Desk {
     pub out: Out,
     pub dump: Out,
     pub is_lost: bool,
-    // Whether frames are pictured, and how many columns stand on the strip.
+    // Whether frames are pictured.
     pub is_pictured: bool,
-    pub columns: usize,
 }
 
 // No line is pulled.
@@ -209,7 +208,6 @@ impl Desk {
             dump: None,
             is_lost: false,
             is_pictured: false,
-            columns: 0,
         }
     }
 

@@ -1,15 +1,12 @@
 -- Laws of digits, over any base and any number of them: a byte's nibbles and a field's bytes are instances.
-use Prim.Native.Nat.{ℕ, zero, suc, ◌+◌, ◌*◌, ◌/◌, ◌%◌, ◌^◌, ◌<◌, ◌≤◌}
-use native.Mathlib.Nat.{mod-lt, mod-add-div, mod-eq_of_lt, add-mul-mod_self_left, add-mul-div_left, div-eq_of_lt, div-lt_iff_lt-mul, zero-add, add_comm, mul_comm, not-suc-le-zero, pow-zero, pow-suc}
+use Prim.Native.Nat.{ℕ, zero, suc, ◌+◌, ◌*◌, ◌/◌, ◌%◌, ◌^◌, ◌<◌}
+use native.Mathlib.Nat.{mod-lt, mod-add-div, mod-eq_of_lt, add-mul-mod_self_left, add-mul-div_left, div-eq_of_lt, div-lt_iff_lt-mul, zero-add, add_comm, mul_comm, pow-zero, pow-suc}
 use native.Mathlib.Omega.{arith}
-use mathlib.Core.Path.{◌≡◌, refl, sym, ◌∙◌, ap, ap₂, subst}
-use mathlib.Core.List.{List, [], ◌∷◌, ◌++◌}
+use mathlib.Core.Path.{◌≡◌, refl, sym, ◌∙◌, ap}
+use mathlib.Core.List.{List, [], ◌∷◌}
 use lib.Arith.{lt-one, digits_lt}
-use lib.ListN.{length, get_or, take, drop}
+use lib.ListN.{length, get_or}
 use Rattle.field.specs.Field.{digits, number, nibbles, nibble_of, Below}
-
-pub odd : (i : ℕ) → (i % 2 ≡ 0 → ⊥) → i % 2 ≡ 1
-odd i h = omega arith
 
 pub length_digits : (b k n : ℕ) → length (digits b k n) ≡ k
 length_digits b zero n = refl

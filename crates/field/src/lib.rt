@@ -9,18 +9,15 @@ ghost use Rattle.field.specs.Field.{field, value_of, nibble_of, byte_from};
 pub fn byte(n: u16, i: usize) -> u8
     ensures { result ≡ get_or (field 2 n) (i % 2) 0 }
 {
-    if i % 2 == 0 {
-        (n % 256) as u8
-    } else {
-        (n / 256 % 256) as u8
-    }
+    let [low, high] = n.to_le_bytes();
+    if i % 2 == 0 { low } else { high }
 }
 
 // The two-byte field of two bytes.
 pub fn value_of(low: u8, high: u8) -> u16
     ensures { result ≡ value_of (low ∷ high ∷ []) }
 {
-    low as u16 + 256 * (high as u16)
+    u16::from_le_bytes([low, high])
 }
 
 // A two-byte field with b as its byte i.

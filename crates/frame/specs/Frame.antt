@@ -1,5 +1,5 @@
 -- Document 01, "Lines and rounds" (controller) and "The controller and its ring": a frame of the controller, round by round.
-use Rattle.std.specs.Prelude.{ℕ, ◌+◌, ◌-◌, ◌*◌, Bool, true, false, cond, ◌||◌, ◌&&◌, List, [], ltb, leb, eqb}
+use Rattle.std.specs.Prelude.{ℕ, ◌+◌, ◌-◌, ◌*◌, Bool, true, false, cond, ◌||◌, ◌&&◌, List, [], ltb, leb, eqb, Some, None, Result, Ok, Err}
 use Rattle.answer.specs.Answer.{nothing_taken, taken_with, buffer_with, is_over, status_of, count_of}
 use Rattle.answer.specs.declared.Response.{Response}
 use Rattle.command.specs.Command.{message_of}
@@ -17,10 +17,10 @@ use Rattle.frame.specs.declared.Kind.TheVariants.{Submitted, Poll, Null}
 use Rattle.frame.specs.declared.Frame.{Frame}
 use Rattle.frame.specs.declared.Stage.{Stage}
 use Rattle.frame.specs.declared.Stage.TheVariants.{Free, Resting, Waiting, Sending, Listening}
-use Rattle.frame.specs.declared.End.TheVariants.{NotYet, Over}
+use Rattle.frame.specs.declared.End.{End}
 use Rattle.frame.specs.declared.Moved.{Moved}
-use Rattle.frame.specs.declared.Lent.{Lent}
-use Rattle.frame.specs.declared.Lent.TheVariants.{Fits, Data, Buffer}
+use Rattle.frame.specs.declared.LentError.{LentError}
+use Rattle.frame.specs.declared.LentError.TheVariants.{Data, Buffer}
 
 -- The three frames: a submitted command with its data's length; a poll of a code, all other fields zero; a null message (FE) to code 0.
 abbrev pub bare : ℕ → ℕ → Command
@@ -68,11 +68,14 @@ sending_step f i sender wait hsk d =
     (cond (sent_of sender hsk) (next_nibble f i) (Sending f i (send_of sender hsk (nibble_of f d i)) false))
 
 abbrev pub stays : Stage → Moved
-stays stage = record { stage = stage; end = NotYet }
+stays stage = record { stage = stage; end = None }
+
+abbrev pub end_of : Frame → ℕ → ℕ → End
+end_of f status count = record { frame = f; status = status; count = count }
 
 -- The frame ends: BAV is released in this round, and it starts nothing for two rounds after that.
 abbrev pub over : Frame → Response → Moved
-over f response = record { stage = Resting true; end = Over f (status_of response) (count_of response) }
+over f response = record { stage = Resting true; end = Some (end_of f (status_of response) (count_of response)) }
 
 -- Rounds in a row with HSK seen high, this one included.
 abbrev pub quiet_after : ℕ → Bool → ℕ
@@ -121,16 +124,20 @@ frame_buffer (Listening f ear response quiet) seen buffer = listening_buffer f e
 
 -- Whether what a step is lent fits: 10 for data that differs in length from the submitted, 11 for a response buffer under the buffer
 -- length field; only in the steps of a submitted frame.
-abbrev pub lent_with : Bool → ℕ → ℕ → ℕ → ℕ → Lent
-lent_with submitted data-length buffer_length n room =
-    cond submitted (cond (eqb n data-length) (cond (ltb room buffer_length) Buffer Fits) Data) Fits
+abbrev pub number : LentError → ℕ
+number Data = 10
+number Buffer = 11
 
-abbrev pub lent_to : Frame → ℕ → ℕ → Lent
+abbrev pub lent_with : Bool → ℕ → ℕ → ℕ → ℕ → Result (Unit {0}) LentError
+lent_with submitted data-length buffer_length n room =
+    cond submitted (cond (eqb n data-length) (cond (ltb room buffer_length) (Err Buffer) (Ok tt)) (Err Data)) (Ok tt)
+
+abbrev pub lent_to : Frame → ℕ → ℕ → Result (Unit {0}) LentError
 lent_to f n room = lent_with (is_submitted f.kind) f.data_length f.command.buffer_length n room
 
-abbrev pub lent_at : Stage → ℕ → ℕ → Lent
-lent_at Free n room = Fits
-lent_at (Resting first) n room = Fits
+abbrev pub lent_at : Stage → ℕ → ℕ → Result (Unit {0}) LentError
+lent_at Free n room = Ok tt
+lent_at (Resting first) n room = Ok tt
 lent_at (Waiting f) n room = lent_to f n room
 lent_at (Sending f i sender wait) n room = lent_to f n room
 lent_at (Listening f ear response quiet) n room = lent_to f n room

@@ -3,7 +3,7 @@
 #![tactic(auto)]
 
 ghost use Rattle.std.specs.Prelude.{◌≡◌, ◌&&◌};
-ghost use Rattle.frame.specs.Frame.{bare, submitted_frame, poll_of, null_frame, is_submitted, begun, data_of, nibble_of, last_of, next_nibble, sending_step, stays, over, ends_by, waited, listening_step, listening_buffer, rest_step, frame_step, frame_buffer, lent_with, lent_to, lent_at, pulls_of};
+ghost use Rattle.frame.specs.Frame.{bare, submitted_frame, poll_of, null_frame, is_submitted, begun, data_of, nibble_of, last_of, next_nibble, sending_step, stays, over, ends_by, waited, listening_step, listening_buffer, rest_step, frame_step, frame_buffer, number, lent_with, lent_to, lent_at, pulls_of};
 ghost use Rattle.answer.specs.Answer.{is_over};
 ghost use Rattle.line.specs.Line.{send_of, is_ready};
 
@@ -11,7 +11,7 @@ use answer::Response;
 use header::Command;
 use line::{Lines, Listener, Sender};
 
-#[derive(Clone, Copy)]
+#[derive(Clone, Copy, Debug, PartialEq, Eq)]
 pub enum Kind {
     Submitted,
     Poll,
@@ -41,27 +41,38 @@ pub enum Stage {
     Listening(Frame, Listener, Response, u16),
 }
 
-// Whether a frame ended: the frame, its status, and how many data bytes stand in the response buffer.
+// How a frame ended: the frame, its status, and how many data bytes stand in the response buffer.
 #[derive(Clone, Copy)]
-pub enum End {
-    NotYet,
-    Over(Frame, u8, u16),
+pub struct End {
+    pub frame: Frame,
+    pub status: u8,
+    pub count: u16,
 }
 
 #[derive(Clone, Copy)]
 pub struct Moved {
     pub stage: Stage,
-    pub end: End,
+    pub end: Option<End>,
 }
 
-// Whether what a step is lent fits its frame.
-#[derive(Clone, Copy)]
-pub enum Lent {
-    Fits,
+// Why what a step is lent does not fit its frame.
+#[derive(Clone, Copy, Debug, PartialEq, Eq)]
+pub enum LentError {
     // Refusal 10: data that differs in length from the submitted.
     Data,
     // Refusal 11: a response buffer under the buffer length field.
     Buffer,
+}
+
+impl From<LentError> for u32 {
+    ghost from_gives = { λ e n. n ≡ number e };
+
+    fn from(e: LentError) -> u32 {
+        match e {
+            LentError::Data => 10,
+            LentError::Buffer => 11,
+        }
+    }
 }
 
 // A submitted command with n bytes of data.
@@ -131,24 +142,21 @@ pub fn pulls(stage: Stage) -> Lines
     ensures { result ≡ pulls_of stage }
 {
     match stage {
-        Stage::Free => lines(false, false, 15),
-        Stage::Resting(_) => lines(false, false, 15),
-        Stage::Waiting(_) => lines(false, false, 15),
+        Stage::Free | Stage::Resting(_) | Stage::Waiting(_) => lines(false, false, 15),
         Stage::Sending(_, _, sender, _) => lines(true, sender.hsk(), sender.nibble()),
         Stage::Listening(_, ear, _, _) => lines(true, ear.hsk(), 15),
     }
 }
 
 // Whether n bytes of data and a response buffer of so many bytes are what a step is to be lent. Only a submitted frame looks at them.
-pub fn check(stage: Stage, n: usize, room: usize) -> Lent
+pub fn check(stage: Stage, n: usize, room: usize) -> Result<(), LentError>
     ensures { result ≡ lent_at stage n room }
 {
     match stage {
-        Stage::Free => Lent::Fits,
-        Stage::Resting(_) => Lent::Fits,
-        Stage::Waiting(f) => check_frame(f, n, room),
-        Stage::Sending(f, _, _, _) => check_frame(f, n, room),
-        Stage::Listening(f, _, _, _) => check_frame(f, n, room),
+        Stage::Free | Stage::Resting(_) => Ok(()),
+        Stage::Waiting(f) | Stage::Sending(f, _, _, _) | Stage::Listening(f, _, _, _) => {
+            check_frame(f, n, room)
+        }
     }
 }
 
@@ -167,10 +175,7 @@ fn bare(device: u8, command: u8) -> Command
 fn stays(stage: Stage) -> Moved
     ensures { result ≡ stays stage }
 {
-    Moved {
-        stage,
-        end: End::NotYet,
-    }
+    Moved { stage, end: None }
 }
 
 fn rest(first: bool) -> Stage
@@ -217,8 +222,7 @@ fn place_nibble(f: Frame, i: u32, sender: Sender, hsk: bool, data: &[u8]) -> Sen
 {
     match sender {
         Sender::Next => sender.step(hsk, nibble(f, i, data)),
-        Sender::Placed(_) => sender.step(hsk, 15),
-        Sender::Kept(_) => sender.step(hsk, 15),
+        Sender::Placed(_) | Sender::Kept(_) => sender.step(hsk, 15),
     }
 }
 
@@ -227,8 +231,7 @@ pub fn nibble(f: Frame, i: u32, data: &[u8]) -> u8
     ensures { result ≡ nibble_of f «data».now i }
 {
     let i = i as usize;
-    let kind = f.kind;
-    if is_submitted(kind) {
+    if is_submitted(f.kind) {
         return command::nibble(f.command, data, i);
     }
     command::nibble(f.command, &[], i)
@@ -237,11 +240,7 @@ pub fn nibble(f: Frame, i: u32, data: &[u8]) -> u8
 fn is_submitted(kind: Kind) -> bool
     ensures { result ≡ is_submitted kind }
 {
-    match kind {
-        Kind::Submitted => true,
-        Kind::Poll => false,
-        Kind::Null => false,
-    }
+    matches!(kind, Kind::Submitted)
 }
 
 fn listening(
@@ -258,16 +257,12 @@ fn listening(
 {
     let next = ear.step(seen.hsk, busy);
     if ear.taken(seen.hsk) {
-        let c = f.command;
-        let kind = f.kind;
-        let stores = is_submitted(kind);
-        let more = response.with(seen.nibble, c.buffer_length, stores, buffer);
+        let stores = is_submitted(f.kind);
+        let more = response.with(seen.nibble, f.command.buffer_length, stores, buffer);
         return stays(Stage::Listening(f, next, more, 0));
     }
-    if seen.hsk {
-        return waits(f, next, response, timeout, 0);
-    }
-    waits(f, next, response, timeout, quiet as u32 + 1)
+    let quiet = if seen.hsk { 0 } else { quiet as u32 + 1 };
+    waits(f, next, response, timeout, quiet)
 }
 
 // A round without a nibble, after which HSK was seen high for so many in a row.
@@ -284,20 +279,14 @@ fn waits(f: Frame, ear: Listener, response: Response, timeout: u16, quiet: u32) 
 pub fn ends(done: bool, timeout: u16, quiet: u32) -> bool
     ensures { result ≡ ends_by done timeout quiet }
 {
-    if done {
-        return true;
-    }
-    timeout as u32 <= quiet
+    done || timeout as u32 <= quiet
 }
 
 // Whether HSK was seen high after the response's last nibble, or after a length that is too large.
 fn has_ended(response: Response, ear: Listener) -> bool
     ensures { result ≡ is_over response && is_ready ear }
 {
-    if response.is_over() {
-        return ear.is_ready();
-    }
-    false
+    response.is_over() && ear.is_ready()
 }
 
 fn over(f: Frame, response: Response) -> Moved
@@ -305,16 +294,24 @@ fn over(f: Frame, response: Response) -> Moved
 {
     Moved {
         stage: Stage::Resting(true),
-        end: End::Over(f, response.status(), response.count()),
+        end: Some(End {
+            frame: f,
+            status: response.status(),
+            count: response.count(),
+        }),
     }
 }
 
-fn check_frame(f: Frame, n: usize, room: usize) -> Lent
+fn check_frame(f: Frame, n: usize, room: usize) -> Result<(), LentError>
     ensures { result ≡ lent_to f n room }
 {
-    let kind = f.kind;
-    let c = f.command;
-    lent_with(is_submitted(kind), f.data_length, c.buffer_length, n, room)
+    lent_with(
+        is_submitted(f.kind),
+        f.data_length,
+        f.command.buffer_length,
+        n,
+        room,
+    )
 }
 
 // Whether n bytes of data and a response buffer of so many bytes fit a frame: submitted or not, its data's length and its buffer length.
@@ -324,21 +321,19 @@ pub fn lent_with(
     buffer_length: u16,
     n: usize,
     room: usize,
-) -> Lent
+) -> Result<(), LentError>
     ensures { result ≡ lent_with submitted data_length buffer_length n room }
 {
-    if submitted {
-        let same = n == data_length as usize;
-        if same {
-            let short = room < buffer_length as usize;
-            if short {
-                return Lent::Buffer;
-            }
-            return Lent::Fits;
-        }
-        return Lent::Data;
+    if !submitted {
+        return Ok(());
     }
-    Lent::Fits
+    if n != data_length as usize {
+        return Err(LentError::Data);
+    }
+    if room < buffer_length as usize {
+        return Err(LentError::Buffer);
+    }
+    Ok(())
 }
 
 fn lines(bav: bool, hsk: bool, nibble: u8) -> Lines

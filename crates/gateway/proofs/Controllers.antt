@@ -5,13 +5,14 @@ use mathlib.Core.Bool.{Bool}
 use mathlib.Core.List.{List, [], ◌∷◌}
 use borrow.Author.Tests.{lt-ltb, le-ltb}
 use lib.ListN.{length}
+use Rattle.std.specs.Prelude.{Result}
 use Rattle.application.specs.declared.Looks.{Looks}
 use Rattle.controller.specs.Calls.{if_lent, stepping, controller_stepped, buffer_after}
 use Rattle.controller.specs.Controller.{controller_step, event_in}
 use Rattle.controller.specs.declared.Controller.{Controller}
 use Rattle.controllerwords.specs.Controller.{loaded_stage, loaded, saved_in, saved}
 use Rattle.frame.specs.Frame.{frame_buffer, lent_at}
-use Rattle.frame.specs.declared.Lent.{Lent}
+use Rattle.frame.specs.declared.LentError.{LentError}
 use Rattle.line.specs.declared.Lines.{Lines}
 use Rattle.message.specs.Answer.{Answer, gives, refused, kept}
 use Rattle.ring.specs.Ring.{counted}
@@ -39,9 +40,9 @@ module _ (ws d response : List ℕ) (seen : Lines) (busy : Bool) where
   pub level : 15 < seen.nibble → refused 5 ≡ stepping (loaded ws) seen busy d response
   level h = sym (rw (lt-ltb 15 seen.nibble h))
 
-  pub lent : {l x : Lent} → seen.nibble ≤ 15 → l ≡ lent_at (loaded_stage ws) (length d) (length response) → l ≡ x
+  pub lent : {l x : Result (Unit {0}) LentError} → seen.nibble ≤ 15 → l ≡ lent_at (loaded_stage ws) (length d) (length response) → l ≡ x
       → if_lent x (event_in (loaded ws) seen busy d) ≡ stepping (loaded ws) seen busy d response
-  lent h p q = ap (λ (l : Lent). if_lent l (event_in (loaded ws) seen busy d)) (sym q ∙ p) ∙ sym (rw (le-ltb 15 seen.nibble h))
+  lent h p q = ap (λ (l : Result (Unit {0}) LentError). if_lent l (event_in (loaded ws) seen busy d)) (sym q ∙ p) ∙ sym (rw (le-ltb 15 seen.nibble h))
 
   abbrev Left : ℕ → List ℕ → List ℕ → List ℕ → List ℕ → Type 0
   Left r after response' events events' =

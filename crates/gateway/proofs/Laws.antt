@@ -6,8 +6,6 @@ use mathlib.Core.List.{List, [], ◌∷◌}
 use borrow.Author.Tests.{lt-ltb, le-ltb}
 use lib.ListN.{length}
 use Rattle.host.specs.declared.Looks.{Looks}
-use Rattle.host.specs.declared.Taken.{Taken}
-use Rattle.host.specs.declared.Taken.TheVariants.{Byte, Nothing}
 use Rattle.kind.specs.Kinds.{kind_of, is_short}
 use Rattle.kind.specs.declared.Kind.{Kind}
 use Rattle.line.specs.declared.Lines.{Lines}
@@ -49,13 +47,6 @@ module _ (ws : List ℕ) (seen : Lines) (busy : Bool) (buffer input output : Lis
       → (after ≡ saved_in ws (unit_step (loaded ws) seen busy buffer input)) × ((buffer' ≡ unit_buffer (loaded ws) seen buffer) × (output' ≡ unit_output (loaded ws) seen buffer output))
       → Steps 0 after buffer' output'
   steps f g q = rw (le-ltb 15 seen.nibble f, g) (refl, q)
-
--- A byte that is taken, or nothing.
-pub taken_byte : {t : Taken} (b : ℕ) {v : Unit} (ws : List ℕ) {after : List ℕ} → Byte b v ≡ t → after ≡ saved_in ws v → (b ≡ taken_number t) × (after ≡ taken_words t ws)
-taken_byte b ws p q = (ap taken_number p, q ∙ ap (λ (t : Taken). taken_words t ws) p)
-
-pub taken_nothing : {t : Taken} (ws : List ℕ) → Nothing ≡ t → (256 ≡ taken_number t) × (ws ≡ taken_words t ws)
-taken_nothing ws p = (ap taken_number p, ap (λ (t : Taken). taken_words t ws) p)
 
 -- What is looked at, word by word.
 pub looked : (l : Looks) {opening accepted enabled requesting : ℕ}

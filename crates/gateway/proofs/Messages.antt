@@ -1,22 +1,16 @@
--- What reading a message leaves, once its answer is known; and that a message's data is short.
+-- A message's data is short.
 use Prim.Native.Nat.{ℕ, ◌+◌, ◌<◌}
 use native.Mathlib.Nat.{min-le_left}
 use native.Mathlib.Omega.{arith}
-use mathlib.Core.Path.{◌≡◌, ◌∙◌, ap}
 use mathlib.Core.Bool.{Bool, true, false, cond}
 use mathlib.Core.List.{List, [], ◌∷◌}
 use lib.Dec.{ltb, eqb}
 use lib.ListN.{length, drop, take, length-take}
-use Rattle.command.specs.Command.{message_of}
 use Rattle.field.specs.Field.{Below, value_of}
-use Rattle.header.specs.declared.Command.{Command}
-use Rattle.message.specs.Answer.{Answer, gives, refused}
-use Rattle.message.specs.Format.{Format, Message, size}
+use Rattle.message.specs.Answer.{gives, refused}
+use Rattle.message.specs.Format.{Format, size}
 use Rattle.message.specs.Reading.{announced, data_by, data_in}
 use Rattle.message.proofs.Fields.{below_drop}
-use Rattle.response.specs.Response.{message_of as response·messageOf}
-use Rattle.words.specs.Words.{number}
-use Rattle.gateway.specs.Messages.{read_words}
 
 two_below : (l : List ℕ) → Below 256 l → value_of (take 2 l) < 65536
 two_below [] b = omega arith
@@ -34,18 +28,3 @@ data_short f s b =
     let at = size f.before in
     let least = at + 2 + size f.after in
     data_by_lem (ltb (length s) least) (eqb (length s) (least + announced at s)) (announced at s) at s (two_below (drop at s) (below_drop at s b))
-
--- What was read stands in the words, or they are as they were.
-pub command_read : {a : Answer Message} (c : Command) (d ws : List ℕ) {n : ℕ} → gives (message_of c d) ≡ a → n ≡ length d
-    → (0 ≡ number a) × (c.device ∷ c.command ∷ c.logical_unit ∷ c.record_number ∷ c.buffer_length ∷ n ∷ [] ≡ read_words a ws)
-command_read c d ws p q = (
-  ap number p,
-  ap (λ (k : ℕ). c.device ∷ c.command ∷ c.logical_unit ∷ c.record_number ∷ c.buffer_length ∷ k ∷ []) q ∙ ap (λ (a : Answer Message). read_words a ws) p,
-)
-
-pub response_read : {a : Answer Message} (status : ℕ) (d ws : List ℕ) {n : ℕ} → gives (response·messageOf d status) ≡ a → n ≡ length d
-    → (0 ≡ number a) × (status ∷ n ∷ [] ≡ read_words a ws)
-response_read status d ws p q = (ap number p, ap (λ (k : ℕ). status ∷ k ∷ []) q ∙ ap (λ (a : Answer Message). read_words a ws) p)
-
-pub not_read : {a : Answer Message} {k : ℕ} (ws : List ℕ) → refused k ≡ a → (k ≡ number a) × (ws ≡ read_words a ws)
-not_read ws p = (ap number p, ap (λ (a : Answer Message). read_words a ws) p)

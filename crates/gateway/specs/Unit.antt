@@ -1,9 +1,7 @@
 -- The calls of a unit from C: what each returns, and what it leaves in the words that hold the unit.
-use Rattle.std.specs.Prelude.{ℕ, ◌≡◌, Bool, true, false, List, [], ◌∷◌}
+use Rattle.std.specs.Prelude.{ℕ, ◌≡◌, Bool, true, false, Option, Some, None, List, [], ◌∷◌}
 use Rattle.host.specs.Calls.{making, feeding, input_after, taking, raising}
 use Rattle.host.specs.declared.Looks.{Looks}
-use Rattle.host.specs.declared.Taken.{Taken}
-use Rattle.host.specs.declared.Taken.TheVariants.{Byte, Nothing}
 use Rattle.line.specs.declared.Lines.{Lines}
 use Rattle.message.specs.Answer.{Answer, gives, refused}
 use Rattle.screen.specs.declared.Screen.{Screen}
@@ -31,13 +29,13 @@ unit_made (gives u) ws = saved u
 unit_made (refused k) ws = ws
 
 -- Taking: the byte, or 256 for nothing.
-abbrev pub taken_number : Taken → ℕ
-taken_number (Byte b u) = b
-taken_number Nothing = 256
+abbrev pub taken_number : Option (ℕ × Unit) → ℕ
+taken_number (Some taken) = taken.0
+taken_number None = 256
 
-abbrev pub taken_words : Taken → List ℕ → List ℕ
-taken_words (Byte b u) ws = saved_in ws u
-taken_words Nothing ws = ws
+abbrev pub taken_words : Option (ℕ × Unit) → List ℕ → List ℕ
+taken_words (Some taken) ws = saved_in ws taken.1
+taken_words None ws = ws
 
 -- Looking, in six words: closed 0, open for input 1, output 2 or update 3; the accepted length, 0 while closed; how many bytes the
 -- input queue and the output queue hold; enabled; requesting.

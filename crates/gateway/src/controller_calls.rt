@@ -9,9 +9,7 @@ ghost use Rattle.gateway.specs.Controller.{looks_words, ControllerMade, Controll
 ghost use Rattle.gateway.specs.Messages.{command_in};
 ghost use Rattle.gateway.specs.Unit.{lines_of};
 
-use application::{Acknowledging, Making, Submitting};
 use controllerwords::Words;
-use frame::Lent;
 use line::Lines;
 
 // Makes a new controller with its time-out count.
@@ -20,14 +18,12 @@ pub extern "C" fn hexbus_controller_make(controller: &mut Words, timeout: u32) -
     ensures { ControllerMade timeout controller.old result controller.new }
 {
     let made = application::make(timeout);
-    let outcome = made.outcome;
-    let c = made.controller;
-    match outcome {
-        Making::New => {
-            controllerwords::save_new(controller, c);
+    match made.outcome {
+        Ok(()) => {
+            controllerwords::save_new(controller, made.controller);
             0
         }
-        Making::Setting => 5,
+        Err(e) => u32::from(e),
     }
 }
 
@@ -49,13 +45,12 @@ pub extern "C" fn hexbus_controller_step(
         return 5;
     }
     match controllerround::check(controller, data.len(), response.len()) {
-        Lent::Fits => {
+        Ok(()) => {
             let seen = Lines { bav, hsk, nibble };
             controllerround::round(controller, seen, busy, data, response, event);
             0
         }
-        Lent::Data => 10,
-        Lent::Buffer => 11,
+        Err(e) => u32::from(e),
     }
 }
 
@@ -77,21 +72,14 @@ pub extern "C" fn hexbus_controller_submit(
 ) -> u32
     ensures { ControllerSubmitted (command_in fields.now) (length «data».now) (length response.now) controller.old result controller.new }
 {
-    let c = controllerwords::load(controller);
+    let mut c = controllerwords::load(controller);
     let k = crate::message_calls::command_in(fields);
-    let s = application::submit(c, k, data, response);
-    let outcome = s.outcome;
-    let next = s.controller;
-    match outcome {
-        Submitting::Accepted => {
-            controllerwords::save(controller, next);
+    match application::submit(&mut c, k, data, response) {
+        Ok(()) => {
+            controllerwords::save(controller, c);
             0
         }
-        Submitting::Running => 1,
-        Submitting::TooLong => 2,
-        Submitting::PollCommand => 3,
-        Submitting::FullRing => 4,
-        Submitting::ShortResponse => 11,
+        Err(e) => u32::from(e),
     }
 }
 
@@ -100,16 +88,13 @@ pub extern "C" fn hexbus_controller_submit(
 pub extern "C" fn hexbus_controller_acknowledge(controller: &mut Words, code: u8) -> u32
     ensures { ControllerAcknowledged code controller.old result controller.new }
 {
-    let c = controllerwords::load(controller);
-    let a = application::acknowledge(c, code);
-    let outcome = a.outcome;
-    let next = a.controller;
-    match outcome {
-        Acknowledging::Cleared => {
-            controllerwords::save(controller, next);
+    let mut c = controllerwords::load(controller);
+    match application::acknowledge(&mut c, code) {
+        Ok(()) => {
+            controllerwords::save(controller, c);
             0
         }
-        Acknowledging::NotMarked => 8,
+        Err(e) => u32::from(e),
     }
 }
 
@@ -119,9 +104,8 @@ pub extern "C" fn hexbus_controller_look(controller: &Words, answer: &mut [u32; 
     ensures { answer.new ≡ looks_words (looks_of (loaded controller.now)) }
 {
     let l = application::look(controllerwords::load(controller));
-    let ring = l.ring;
     *answer = [
-        ring.len() as u32,
+        l.ring.len() as u32,
         words::bit(l.may_start),
         words::bit(l.submitted),
     ];

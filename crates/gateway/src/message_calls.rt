@@ -1,28 +1,16 @@
 // Messages and device classes.
-ghost use Rattle.std.specs.Prelude.{◌≡◌, length};
+ghost use Rattle.std.specs.Prelude.{◌≡◌, ◌<◌, length};
 ghost use Rattle.command.specs.Command.{message_of};
 ghost use Rattle.device.specs.Classes.{class_of};
 ghost use Rattle.message.specs.Format.{command_format, response_format, bytes_of};
 ghost use Rattle.message.specs.Nibbles.{nibble_in};
-ghost use Rattle.message.specs.Reading.{data_in};
 ghost use Rattle.response.specs.Response.{message_of as response·messageOf};
 ghost use Rattle.words.specs.Words.{number};
 ghost use Rattle.writer.specs.Numbers.{numbered};
 ghost use Rattle.gateway.specs.Messages.{command_in, MessageRead, MessageWritten};
 
 use header::Command;
-use writer::Written;
-
-// The words of a command's fields that are looked at, by name (specs/Messages.antt), as hexbus_command declares them.
-const DEVICE: usize = 0;
-
-const COMMAND: usize = 1;
-
-const LOGICAL_UNIT: usize = 2;
-
-const RECORD_NUMBER: usize = 3;
-
-const BUFFER_LENGTH: usize = 4;
+use writer::WriteError;
 
 // Reads a command into six words.
 #[unsafe(no_mangle)]
@@ -30,19 +18,18 @@ pub extern "C" fn hexbus_command_read(message: &[u8], fields: &mut [u32; 6]) -> 
     ensures { MessageRead command_format message.now fields.old result fields.new }
 {
     match command::read(message) {
-        command::Reading::Fields(c) => {
+        Ok(c) => {
             *fields = [
-                c.device as u32,
-                c.command as u32,
-                c.logical_unit as u32,
-                c.record_number as u32,
-                c.buffer_length as u32,
-                command_data(message),
+                u32::from(c.device),
+                u32::from(c.command),
+                u32::from(c.logical_unit),
+                u32::from(c.record_number),
+                u32::from(c.buffer_length),
+                length_in(command::data_of(message)),
             ];
             0
         }
-        command::Reading::Short => 9,
-        command::Reading::Disagrees => 10,
+        Err(e) => u32::from(e),
     }
 }
 
@@ -68,12 +55,11 @@ pub extern "C" fn hexbus_response_read(message: &[u8], fields: &mut [u32; 2]) ->
     ensures { MessageRead response_format message.now fields.old result fields.new }
 {
     match response::read(message) {
-        response::Reading::Status(status) => {
-            *fields = [status as u32, response_data(message)];
+        Ok(status) => {
+            *fields = [u32::from(status), length_in(response::data_of(message))];
             0
         }
-        response::Reading::Short => 9,
-        response::Reading::Disagrees => 10,
+        Err(e) => u32::from(e),
     }
 }
 
@@ -105,35 +91,30 @@ pub extern "C" fn hexbus_class(code: u8) -> u8
 pub fn command_in(fields: &[u32; 6]) -> Command
     ensures { result ≡ command_in fields.now }
 {
-    words::command(
-        fields[DEVICE],
-        fields[COMMAND],
-        fields[LOGICAL_UNIT],
-        fields[RECORD_NUMBER],
-        fields[BUFFER_LENGTH],
-    )
+    let [
+        device,
+        command,
+        logical_unit,
+        record_number,
+        buffer_length,
+        _,
+    ] = *fields;
+    words::command(device, command, logical_unit, record_number, buffer_length)
 }
 
-fn command_data(message: &[u8]) -> u32
-    ensures { result ≡ length (data_in command_format message.now) }
+// The length of a message's data, which is announced in two bytes.
+fn length_in(data: &[u8]) -> u32
+    requires { length «data».now < 65536 }
+    ensures { result ≡ length «data».now }
 {
-    let d = command::data_of(message);
-    d.len() as u32
+    data.len() as u32
 }
 
-fn response_data(message: &[u8]) -> u32
-    ensures { result ≡ length (data_in response_format message.now) }
-{
-    let d = response::data_of(message);
-    d.len() as u32
-}
-
-fn written(w: Written) -> u32
+fn written(w: Result<usize, WriteError>) -> u32
     ensures { result ≡ number (numbered w) }
 {
     match w {
-        Written::Length(_) => 0,
-        Written::TooLong => 2,
-        Written::NoRoom => 11,
+        Ok(_) => 0,
+        Err(e) => u32::from(e),
     }
 }

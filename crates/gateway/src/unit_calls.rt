@@ -6,7 +6,6 @@ ghost use Rattle.unitwords.specs.Unit.{loaded};
 ghost use Rattle.words.specs.Words.{lines_number};
 ghost use Rattle.gateway.specs.Unit.{lines_of, accepted_of, looks_words, is_reading, screen_looks, UnitMade, UnitStepped, UnitFed, UnitTaken, UnitRaised};
 
-use host::{Fed, Made, Raised, Taken};
 use line::Lines;
 use screen::Sequence;
 use serial::Opening;
@@ -18,11 +17,11 @@ pub extern "C" fn hexbus_unit_make(unit: &mut Words, own: u8, retry: u32) -> u32
     ensures { UnitMade own retry unit.old result unit.new }
 {
     match host::make(own, retry) {
-        Made::New(u) => {
+        Ok(u) => {
             unitwords::save_new(unit, u);
             0
         }
-        Made::Setting => 5,
+        Err(e) => u32::from(e),
     }
 }
 
@@ -70,12 +69,11 @@ pub extern "C" fn hexbus_unit_feed(unit: &mut Words, input: &mut [u8; 256], b: u
 {
     let u = unitwords::load(unit);
     match host::feed(u, input, b) {
-        Fed::Queued(v) => {
+        Ok(v) => {
             unitwords::save(unit, v);
             0
         }
-        Fed::Full => 6,
-        Fed::NotOpen => 7,
+        Err(e) => u32::from(e),
     }
 }
 
@@ -86,11 +84,11 @@ pub extern "C" fn hexbus_unit_take(unit: &mut Words, output: &[u8; 256]) -> u32
 {
     let u = unitwords::load(unit);
     match host::take(u, output) {
-        Taken::Byte(b, v) => {
+        Some((b, v)) => {
             unitwords::save(unit, v);
-            b as u32
+            u32::from(b)
         }
-        Taken::Nothing => 256,
+        None => 256,
     }
 }
 
@@ -101,11 +99,11 @@ pub extern "C" fn hexbus_unit_raise(unit: &mut Words) -> u32
 {
     let u = unitwords::load(unit);
     match host::raise(u) {
-        Raised::Held(v) => {
+        Ok(v) => {
             unitwords::save(unit, v);
             0
         }
-        Raised::NotEnabled => 7,
+        Err(e) => u32::from(e),
     }
 }
 
@@ -115,10 +113,9 @@ pub extern "C" fn hexbus_unit_look(unit: &Words, answer: &mut [u32; 6])
     ensures { answer.new ≡ looks_words (looks_of (loaded unit.now)) }
 {
     let l = host::look(unitwords::load(unit));
-    let opening = l.opening;
     *answer = [
-        unitwords::opening_number(opening),
-        accepted(opening),
+        unitwords::opening_number(l.opening),
+        accepted(l.opening),
         l.input as u32,
         l.output as u32,
         words::bit(l.enabled),
@@ -132,7 +129,6 @@ pub extern "C" fn hexbus_screen_look(unit: &Words, answer: &mut [u32; 8])
     ensures { answer.new ≡ screen_looks (loaded unit.now).serial.screen }
 {
     let s = unitwords::load_screen(unit);
-    let q = s.sequence;
     *answer = [
         s.row as u32,
         s.column as u32,
@@ -141,20 +137,14 @@ pub extern "C" fn hexbus_screen_look(unit: &Words, answer: &mut [u32; 8])
         words::bit(s.top),
         words::bit(s.bottom),
         words::bit(s.asked),
-        words::bit(is_reading(q)),
+        words::bit(is_reading(s.sequence)),
     ];
 }
 
 fn is_reading(q: Sequence) -> bool
     ensures { result ≡ is_reading q }
 {
-    match q {
-        Sequence::Plain => false,
-        Sequence::Escape => true,
-        Sequence::Row => true,
-        Sequence::Column(_) => true,
-        Sequence::Skips(_) => true,
-    }
+    !matches!(q, Sequence::Plain)
 }
 
 fn accepted(o: Opening) -> u32

@@ -3,13 +3,12 @@ use Prim.Native.Nat.{ℕ, ◌+◌, ◌*◌, ◌/◌, ◌%◌, ◌<◌, ◌≤◌
 use native.Mathlib.Nat.{add-zero, mod-eq_of_lt}
 use native.Mathlib.Omega.{arith}
 use mathlib.Core.Path.{◌≡◌, sym, ◌∙◌, ap}
-use mathlib.Core.List.{List, [], ◌++◌}
+use mathlib.Core.List.{List, ◌++◌}
 use lib.ListN.{length, set, take, drop, length-set, length-drop}
 use lib.Seq.{take-add, take_all, set_out}
 use Rattle.field.specs.Field.{field, Below}
 use Rattle.message.specs.Format.{command_format, laid}
 use Rattle.message.specs.Reading.{values_in, announced}
-use Rattle.message.proofs.Lists.{elements-drop}
 use Rattle.message.proofs.Fields.{laid_values, field_value, below_drop, below_set}
 use Rattle.header.specs.Header.{InRange, header_bytes, header_in}
 use Rattle.header.specs.declared.Header.{Header}
@@ -45,7 +44,3 @@ holds_with {h} {r} {t} i b p q e = record {
   nine = length-set t i b ∙ p.nine;
   bytes = below_set t i b p.bytes q;
 }
-
--- Only the first nine bytes count.
-pub header_front : (s : List ℕ) → 9 ≤ length s → header_in (take 9 s ++ []) ≡ header_in s
-header_front s h = let e = elements-drop 0 9 s h in ap (λ (l : List ℕ). header_in (take 9 l ++ [])) e ∙ ap header_in (sym e)

@@ -8,7 +8,7 @@ ghost use Rattle.message.specs.Format.{command_format, head_of};
 ghost use Rattle.header.specs.Header.{fields_of, header_bytes, header_in};
 
 // The fields of a command. Its data length is that of the data beside it.
-#[derive(Clone, Copy)]
+#[derive(Clone, Copy, Debug, PartialEq, Eq)]
 pub struct Command {
     pub device: u8,
     pub command: u8,
@@ -21,21 +21,24 @@ pub struct Command {
 pub fn bytes_of(c: Command, n: usize) -> [u8; 9]
     ensures { result ≡ head_of command_format (fields_of c) n }
 {
+    let [record_low, record_high] = c.record_number.to_le_bytes();
+    let [buffer_low, buffer_high] = c.buffer_length.to_le_bytes();
+    let [data_low, data_high, ..] = n.to_le_bytes();
     [
         c.device,
         c.command,
         c.logical_unit,
-        field::byte(c.record_number, 0),
-        field::byte(c.record_number, 1),
-        field::byte(c.buffer_length, 0),
-        field::byte(c.buffer_length, 1),
-        (n % 256) as u8,
-        (n / 256 % 256) as u8,
+        record_low,
+        record_high,
+        buffer_low,
+        buffer_high,
+        data_low,
+        data_high,
     ]
 }
 
 // The nine bytes before the data.
-#[derive(Clone, Copy)]
+#[derive(Clone, Copy, Debug, PartialEq, Eq)]
 pub struct Header {
     pub command: Command,
     pub data_length: u16,
@@ -46,15 +49,14 @@ impl Header {
     pub fn new() -> Header
         ensures { result ≡ header_in [] }
     {
-        let c = Command {
-            device: 0,
-            command: 0,
-            logical_unit: 0,
-            record_number: 0,
-            buffer_length: 0,
-        };
         Header {
-            command: c,
+            command: Command {
+                device: 0,
+                command: 0,
+                logical_unit: 0,
+                record_number: 0,
+                buffer_length: 0,
+            },
             data_length: 0,
         }
     }
@@ -69,22 +71,10 @@ impl Header {
             0 => c.device = b,
             1 => c.command = b,
             2 => c.logical_unit = b,
-            3 => {
-                let v = field::with_byte(c.record_number, 0, b);
-                c.record_number = v;
-            }
-            4 => {
-                let v = field::with_byte(c.record_number, 1, b);
-                c.record_number = v;
-            }
-            5 => {
-                let v = field::with_byte(c.buffer_length, 0, b);
-                c.buffer_length = v;
-            }
-            6 => {
-                let v = field::with_byte(c.buffer_length, 1, b);
-                c.buffer_length = v;
-            }
+            3 => c.record_number = field::with_byte(c.record_number, 0, b),
+            4 => c.record_number = field::with_byte(c.record_number, 1, b),
+            5 => c.buffer_length = field::with_byte(c.buffer_length, 0, b),
+            6 => c.buffer_length = field::with_byte(c.buffer_length, 1, b),
             7 => n = field::with_byte(n, 0, b),
             8 => n = field::with_byte(n, 1, b),
             _ => {}

@@ -91,7 +91,7 @@ impl<'a> Play<'a> {
         noted::seen(&mut self.desk, self.bench.view());
         if pictured::is_wanted(&self.desk, doing.act) {
             let marks = self.bench.marks();
-            pictured::round(&mut self.desk, marks, &self.rows, &mut self.store);
+            pictured::round(&mut self.desk, marks, &mut self.rows, &mut self.store);
         }
     }
 

@@ -6,46 +6,47 @@ use Rattle.message.specs.Answer.{Answer, gives, refused, OneAnswer}
 use Rattle.message.proofs.Answers.{by-inverse}
 use Rattle.unit.specs.declared.Unit.{Unit}
 use Rattle.host.specs.Calls.{made, fed, raised}
-use Rattle.host.specs.declared.Made.{Made}
-use Rattle.host.specs.declared.Made.TheVariants.{New, Setting}
-use Rattle.host.specs.declared.Fed.{Fed}
-use Rattle.host.specs.declared.Fed.TheVariants.{Queued, Full, NotOpen}
-use Rattle.host.specs.declared.Raised.{Raised}
-use Rattle.host.specs.declared.Raised.TheVariants.{Held, NotEnabled}
+use Rattle.std.specs.Prelude.{Result, Ok, Err}
+use Rattle.host.specs.declared.MakeError.{MakeError}
+use Rattle.host.specs.declared.MakeError.TheVariants.{Setting}
+use Rattle.host.specs.declared.FeedError.{FeedError}
+use Rattle.host.specs.declared.FeedError.TheVariants.{Full, NotOpen}
+use Rattle.host.specs.declared.RaiseError.{RaiseError}
+use Rattle.host.specs.declared.RaiseError.TheVariants.{NotEnabled}
 
-was-made : Answer Unit → Made
-was-made (gives u) = New u
-was-made (refused k) = Setting
+was-made : Answer Unit → Result Unit MakeError
+was-made (gives u) = Ok u
+was-made (refused k) = Err Setting
 
-made_back : (r : Made) → was-made (made r) ≡ r
+made_back : (r : Result Unit MakeError) → was-made (made r) ≡ r
 unfolding was-made
-made_back (New u) = refl
-made_back Setting = refl
+made_back (Ok u) = refl
+made_back (Err Setting) = refl
 
 pub one-made : OneAnswer made
 one-made = by-inverse made was-made made_back
 
-was-fed : Answer Unit → Fed
-was-fed (gives u) = Queued u
-was-fed (refused k) = cond (eqb k 6) Full NotOpen
+was-fed : Answer Unit → Result Unit FeedError
+was-fed (gives u) = Ok u
+was-fed (refused k) = Err (cond (eqb k 6) Full NotOpen)
 
-fed-back : (r : Fed) → was-fed (fed r) ≡ r
+fed-back : (r : Result Unit FeedError) → was-fed (fed r) ≡ r
 unfolding was-fed
-fed-back (Queued u) = refl
-fed-back Full = refl
-fed-back NotOpen = refl
+fed-back (Ok u) = refl
+fed-back (Err Full) = refl
+fed-back (Err NotOpen) = refl
 
 pub one-fed : OneAnswer fed
 one-fed = by-inverse fed was-fed fed-back
 
-was-raised : Answer Unit → Raised
-was-raised (gives u) = Held u
-was-raised (refused k) = NotEnabled
+was-raised : Answer Unit → Result Unit RaiseError
+was-raised (gives u) = Ok u
+was-raised (refused k) = Err NotEnabled
 
-raised-back : (r : Raised) → was-raised (raised r) ≡ r
+raised-back : (r : Result Unit RaiseError) → was-raised (raised r) ≡ r
 unfolding was-raised
-raised-back (Held u) = refl
-raised-back NotEnabled = refl
+raised-back (Ok u) = refl
+raised-back (Err NotEnabled) = refl
 
 pub one-raised : OneAnswer raised
 one-raised = by-inverse raised was-raised raised-back

@@ -10,8 +10,8 @@ use Rattle.kind.specs.Kinds.{kind_of, is_fed}
 use Rattle.kind.specs.declared.Kind.{Kind}
 use Rattle.message.specs.Answer.{Answer, gives, refused, kept}
 use Rattle.queue.specs.Queue.{popped, queue_with, bytes_with, room}
-use Rattle.queue.specs.declared.Popped.{Popped}
-use Rattle.queue.specs.declared.Popped.TheVariants.{Byte, Nothing}
+use Rattle.std.specs.Prelude.{ℕ, Option, Some, None}
+use Rattle.queue.specs.declared.Queue.{Queue}
 use Rattle.queue.proofs.Laws.{length_with_lem}
 use Rattle.serial.specs.Serial.{with_input, with_request}
 use Rattle.serial.specs.declared.Serial.{Serial}
@@ -36,9 +36,9 @@ unit_called (feeds b h) st = by (feeding_in (kind_of st.unit.own) st.unit.serial
     by (refused k) e = record { own = rw e; retry = rw e; quiet = rw e; asking = rw e; phase = rw e; buffer = refl; inside = rw e }
 unit_called takes st = by (popped st.output st.unit.serial.output) refl
   where
-    by : (p : Popped) → popped st.output st.unit.serial.output ≡ p → Called takes st (called_by takes st)
-    by (Byte b q) e = record { own = rw e; retry = rw e; quiet = rw e; asking = rw e; phase = rw e; buffer = refl; inside = rw e }
-    by Nothing e = record { own = rw e; retry = rw e; quiet = rw e; asking = rw e; phase = rw e; buffer = refl; inside = rw e }
+    by : (p : Option (ℕ × Queue)) → popped st.output st.unit.serial.output ≡ p → Called takes st (called_by takes st)
+    by (Some front) e = record { own = rw e; retry = rw e; quiet = rw e; asking = rw e; phase = rw e; buffer = refl; inside = rw e }
+    by None e = record { own = rw e; retry = rw e; quiet = rw e; asking = rw e; phase = rw e; buffer = refl; inside = rw e }
 unit_called raises st = by (raising_in st.unit.serial) refl
   where
     by : (a : Answer Serial) → raising_in st.unit.serial ≡ a → Called raises st (called_by raises st)
@@ -71,9 +71,9 @@ request_called kind x (feeds b h) r = by (is_fed kind x.state.opening) (eqb (roo
     by false v = r
 request_called kind x takes r = by (popped x.output x.state.output)
   where
-    by : (p : Popped) → (taking_in x.state p).requesting ≡ true
-    by (Byte b q) = r
-    by Nothing = r
+    by : (p : Option (ℕ × Queue)) → (taking_in x.state p).requesting ≡ true
+    by (Some front) = r
+    by None = r
 request_called kind x raises r = by x.state.enabled
   where
     by : (t : Bool) → (state_after (cond t (gives (with_request x.state true)) (refused 7)) x.state).requesting ≡ true

@@ -18,8 +18,7 @@ use Rattle.kind.specs.declared.Kind.{Kind}
 use Rattle.message.specs.Answer.{Answer, gives, refused, kept}
 use Rattle.message.proofs.Fields.{below_take, below_set}
 use Rattle.queue.specs.Queue.{held, room, from, contents, queue_with, bytes_with, popped}
-use Rattle.queue.specs.declared.Popped.{Popped}
-use Rattle.queue.specs.declared.Popped.TheVariants.{Byte, Nothing}
+use Rattle.std.specs.Prelude.{Option, Some, None}
 use Rattle.queue.specs.declared.Queue.{Queue}
 use Rattle.queue.proofs.Laws.{contents_with, held_with, length_with_lem, length-contents, held_below}
 use Rattle.reply.specs.Reply.{is_silent, reply_status}
@@ -198,9 +197,9 @@ call_grown : (kind : Kind) (x : Inside) (call : HostCall) → length x.input ≡
 call_grown kind x (feeds b h) m = feed-by x b h m (is_fed kind x.state.opening) (eqb (room x.state.input) 0) refl
 call_grown kind x takes m = by (popped x.output x.state.output)
   where
-    by : (p : Popped) → Grown x (with_state x (taking_in x.state p))
-    by (Byte b rest) = same_queue x _ refl refl
-    by Nothing = same_queue x _ refl refl
+    by : (p : Option (ℕ × Queue)) → Grown x (with_state x (taking_in x.state p))
+    by (Some front) = same_queue x _ refl refl
+    by None = same_queue x _ refl refl
 call_grown kind x raises m = by x.state.enabled
   where
     by : (t : Bool) → Grown x (with_state x (state_after (cond t (gives (with_request x.state true)) (refused 7)) x.state))
@@ -246,9 +245,9 @@ served-called kind x (feeds b h) s = by (is_fed kind x.state.opening) (eqb (room
     by false v = s
 served-called kind x takes s = by (popped x.output x.state.output)
   where
-    by : (p : Popped) → Served (taking_in x.state p)
-    by (Byte b rest) = s
-    by Nothing = s
+    by : (p : Option (ℕ × Queue)) → Served (taking_in x.state p)
+    by (Some front) = s
+    by None = s
 served-called kind x raises s = by x.state.enabled refl
   where
     by : (t : Bool) → x.state.enabled ≡ t → Served (state_after (cond t (gives (with_request x.state true)) (refused 7)) x.state)

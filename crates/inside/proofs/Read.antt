@@ -4,7 +4,6 @@ use native.Mathlib.Omega.{arith}
 use mathlib.Core.Path.{◌≡◌, refl, sym, ◌∙◌, ap, subst}
 use mathlib.Core.Bool.{cond}
 use mathlib.Core.List.{List, ◌++◌}
-use borrow.Author.Tests.{eqb-true, eqb-false}
 use lib.Dec.{ltb, eqb}
 use lib.ListN.{length, take, take-append-drop}
 use lib.Seq.{take_all}
@@ -15,8 +14,9 @@ use Rattle.kind.specs.declared.Kind.TheVariants.{Serial as SerialUnit}
 use Rattle.queue.specs.Queue.{held}
 use Rattle.queue.proofs.Laws.{contents_without, length-contents}
 use Rattle.reply.specs.Reply.{reply_status}
-use Rattle.rs232.specs.Checks.{mode_of, accepted_of, requested_in, attributes_in, open_status, read_length, open_by, command_by}
-use Rattle.rs232.proofs.Laws.{opens}
+use Rattle.rs232.specs.Checks.{mode_of, accepted_of, requested_in, attributes_in, opened_or, read_length, open_by, command_by}
+use Rattle.std.specs.Prelude.{None, Result}
+use Rattle.rs232.proofs.Laws.{each_status}
 use Rattle.serial.specs.Serial.{applied}
 use Rattle.serial.specs.Verdict.{says}
 use Rattle.serial.specs.declared.Effect.TheVariants.{Keeps, Opens}
@@ -31,7 +31,7 @@ use Rattle.serial.specs.declared.Verdict.{Verdict}
 use Rattle.whole.specs.Whole.{stored_of}
 use Rattle.inside.specs.Inside.{Inside, incoming, data_in, taken_for, responded}
 use Rattle.inside.specs.Read.{ReadInOrder, ReadAtOnce}
-use Rattle.inside.proofs.Ors.{by_test, by_checks, with_code}
+use Rattle.inside.proofs.Ors.{by_checks, with_code}
 use Rattle.inside.proofs.Written.{by_effect, whole, verdict}
 
 -- A verdict of this form, or one with another status than 00, which keeps all that is inside.
@@ -63,10 +63,11 @@ data OpensWith (n : ℕ) (d : List ℕ) : Verdict → Type 0 where
 
 open_closed : (buffer n : ℕ) (d : List ℕ) → Either (OpensWith n d) (open_by buffer n (requested_in d) (attributes_in d))
 open_closed buffer n d =
-    let number = open_status 0 buffer n (requested_in d) (attributes_in d) in
-    by_test (Either (OpensWith n d)) (eqb number 0) _ _
-    (λ e. accepts _ (opens_with (opens 0 buffer n (requested_in d) (attributes_in d) (eqb-true number 0 e)).has_data))
-    (λ e. declines (Status number) (eqb-false number 0 e))
+    each_status (λ (r : Result (Unit {0}) ℕ). Either (OpensWith n d) (opened_or r (says (Opened (accepted_of (requested_in d))) (Opens (mode_of (attributes_in d)) (accepted_of (requested_in d))))))
+    None buffer n (requested_in d) (attributes_in d)
+    (λ o. accepts _ (opens_with o.has_data))
+    (λ k e. cc)
+    (λ k p _. declines (Status k) (λ e. omega arith))
 
 open_opening : (o : Opening) (s : Serial) (c : Command) (n : ℕ) (d : List ℕ) → Either (OpensWith n d) (command_by o s (with_code c 0x00) n d)
 open_opening Closed s c n d = open_closed c.buffer_length n d

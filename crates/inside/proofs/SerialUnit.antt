@@ -4,7 +4,6 @@ use native.Mathlib.Nat.{min-le_left, min-le_right, le_trans}
 use mathlib.Core.Bool.{Bool, true, false, ◌&&◌}
 use mathlib.Core.List.{List, [], ◌∷◌}
 use mathlib.Core.Path.{◌≡◌, refl}
-use borrow.Author.Tests.{eqb-true}
 use lib.Dec.{ltb, eqb, lit<}
 use lib.ListN.{get_or}
 use Rattle.field.specs.Field.{value_of}
@@ -13,15 +12,16 @@ use Rattle.header.specs.declared.Command.{Command}
 use Rattle.kind.specs.Kinds.{checks_of}
 use Rattle.kind.specs.declared.Kind.TheVariants.{Serial as SerialUnit}
 use Rattle.queue.specs.Queue.{held, room}
-use Rattle.rs232.proofs.Laws.{opens, status_below}
-use Rattle.rs232.specs.Checks.{mode_of, accepted_of, open_status, open_by, read_by, write_by, opened_by, command_by, supported}
+use Rattle.std.specs.Prelude.{None, Result}
+use Rattle.rs232.proofs.Laws.{each_status}
+use Rattle.rs232.specs.Checks.{mode_of, accepted_of, opened_or, open_by, read_by, write_by, opened_by, command_by, supported}
 use Rattle.serial.specs.Verdict.{says, poll_by}
-use Rattle.serial.specs.declared.Effect.TheVariants.{Keeps}
+use Rattle.serial.specs.declared.Effect.TheVariants.{Keeps, Opens}
 use Rattle.serial.specs.declared.Mode.{Mode}
 use Rattle.serial.specs.declared.Mode.TheVariants.{Input, Output, Update}
 use Rattle.serial.specs.declared.Opening.{Opening}
 use Rattle.serial.specs.declared.Opening.TheVariants.{Closed, OpenFor}
-use Rattle.serial.specs.declared.Reply.TheVariants.{Bytes}
+use Rattle.serial.specs.declared.Reply.TheVariants.{Bytes, Opened}
 use Rattle.serial.specs.declared.Serial.{Serial}
 use Rattle.serial.specs.declared.Verdict.{Verdict}
 use Rattle.inside.specs.Lawful.{Lawful}
@@ -32,10 +32,11 @@ use Rattle.inside.proofs.Queues.{queues-lawful, Each}
 module _ (s : Serial) (c : Command) (P : Verdict → Type 0) (each : Each s c P) where
   each-open : (n requested attributes : ℕ) → P (open_by c.buffer_length n requested attributes)
   each-open n requested attributes =
-      let number = open_status 0x00 c.buffer_length n requested attributes in
-      by_test P (eqb number 0) _ _
-      (λ e. each.opens (mode_of attributes) (accepted_of requested) (opens 0x00 c.buffer_length n requested attributes (eqb-true number 0 e)).has_room)
-      (λ _. each.refuses number (status_below 0x00 c.buffer_length n requested attributes (lit< tt)))
+      each_status (λ (r : Result (Unit {0}) ℕ). P (opened_or r (says (Opened (accepted_of requested)) (Opens (mode_of attributes) (accepted_of requested)))))
+      None c.buffer_length n requested attributes
+      (λ o. each.opens (mode_of attributes) (accepted_of requested) o.has_room)
+      (λ k e. cc)
+      (λ k _ h. each.refuses k h)
 
   each-bytes : (accepted : ℕ) → P (says (Bytes (min (held s.input) (min c.buffer_length accepted))) Keeps)
   each-bytes accepted =

@@ -5,7 +5,7 @@ use native.Mathlib.Omega.{arith}
 use mathlib.Core.Bool.{Bool, true, false, cond, ◌&&◌, ◌||◌, true≢false, false≢true}
 use mathlib.Core.List.{List, [], ◌∷◌}
 use mathlib.Core.Path.{◌≡◌, refl, sym, ◌∙◌, ap, subst}
-use borrow.Author.Tests.{eqb-true, ne_eqb}
+use borrow.Author.Tests.{ne_eqb}
 use lib.Dec.{ltb, eqb, lit<, lit≤}
 use lib.ListN.{length-take}
 use Rattle.field.specs.Field.{Below}
@@ -17,11 +17,11 @@ use Rattle.kind.specs.declared.Kind.TheVariants.{Video as VideoUnit}
 use Rattle.message.proofs.Fields.{below_take}
 use Rattle.message.specs.Answer.{gives, refused}
 use Rattle.queue.specs.Queue.{popped}
-use Rattle.queue.specs.declared.Popped.{Popped}
-use Rattle.queue.specs.declared.Popped.TheVariants.{Byte, Nothing}
+use Rattle.queue.specs.declared.Queue.{Queue}
 use Rattle.reply.specs.Reply.{is_silent, reply_status}
-use Rattle.rs232.proofs.Laws.{opens, status_below}
-use Rattle.rs232.specs.Checks.{mode_of, accepted_of, open_status, requested_in, attributes_in, read_length}
+use Rattle.std.specs.Prelude.{Option, Some, None, Result}
+use Rattle.rs232.proofs.Laws.{each_status}
+use Rattle.rs232.specs.Checks.{mode_of, accepted_of, opened_or, requested_in, attributes_in, read_length}
 use Rattle.screen.proofs.Laws.{text_on}
 use Rattle.screen.specs.Screen.{On}
 use Rattle.screen.specs.declared.Screen.{Screen}
@@ -60,14 +60,15 @@ module _ (s : Serial) (c : Command) (P : Verdict → Type 0) (each : Each s c P)
   each-open : (n requested attributes : ℕ) → P (open_by c.buffer_length n requested attributes)
   each-open n requested attributes =
       let buffer = c.buffer_length in
-      let number = open_status (refused_mode attributes) buffer n requested attributes in
-      by_test P (eqb number 0) _ _
-      (λ e. each.opened (mode_of attributes) (accepted_of requested) (opens (refused_mode attributes) buffer n requested attributes (eqb-true number 0 e)).has_room)
-      (λ _. each.refuses number (status_below (refused_mode attributes) buffer n requested attributes (mode-below (eqb (attributes / 64) 1))))
+      each_status (λ (r : Result (Unit {0}) ℕ). P (opened_or r (says (Opened (accepted_of requested)) (OpensScreen (mode_of attributes) (accepted_of requested)))))
+      (refused_mode attributes) buffer n requested attributes
+      (λ o. each.opened (mode_of attributes) (accepted_of requested) o.has_room)
+      (λ k e. each.refuses k (mode-below (eqb (attributes / 64) 1) k e))
+      (λ k _ h. each.refuses k h)
     where
-      mode-below : (t : Bool) → cond t 0x15 0x00 < 256
-      mode-below true = lit< tt
-      mode-below false = lit< tt
+      mode-below : (t : Bool) (k : ℕ) → cond t (Some 0x15) None ≡ Some k → k < 256
+      mode-below true k e = let same : 0x15 ≡ k = cc in omega arith
+      mode-below false k e = cc
 
   each-address : (accepted : ℕ) → P (address_by s.screen accepted c.buffer_length)
   each-address accepted =
@@ -138,9 +139,9 @@ fit_called : (x : Inside) (call : HostCall) → ScreenFit x → ScreenFit (calle
 fit_called x (feeds b h) f = f
 fit_called x takes f = by (popped x.output x.state.output)
   where
-    by : (p : Popped) → ScreenFit (with_state x (taking_in x.state p))
-    by (Byte b rest) = f
-    by Nothing = f
+    by : (p : Option (ℕ × Queue)) → ScreenFit (with_state x (taking_in x.state p))
+    by (Some front) = f
+    by None = f
 fit_called x raises f = by x.state.enabled refl
   where
     by : (t : Bool) → x.state.enabled ≡ t → ScreenFit (with_state x (state_after (cond t (gives (with_request x.state true)) (refused 7)) x.state))

@@ -1,10 +1,8 @@
 -- The calls of a unit's host: at a unit with its memory, and what they make of what is inside it. A refused call changes nothing.
-use Rattle.std.specs.Prelude.{ℕ, ◌<◌, List, [], ◌∷◌}
+use Rattle.std.specs.Prelude.{ℕ, ◌<◌, Option, Some, None, List, [], ◌∷◌}
 use Rattle.bus.specs.Bus.{unit_after}
 use Rattle.bus.specs.declared.Station.{Station}
 use Rattle.host.specs.Calls.{feeding, feeding_in, input_after, taking, taking_in, raising, raising_in}
-use Rattle.host.specs.declared.Taken.{Taken}
-use Rattle.host.specs.declared.Taken.TheVariants.{Byte, Nothing}
 use Rattle.kind.specs.declared.Kind.{Kind}
 use Rattle.message.specs.Answer.{Answer, gives, refused, kept}
 use Rattle.queue.specs.Queue.{bytes_with, popped}
@@ -18,9 +16,9 @@ pub data HostCall : Type 0 where
   raises : HostCall
 
 -- At a unit.
-abbrev pub unit_taken : Taken → Unit → Unit
-unit_taken (Byte b after) before = after
-unit_taken Nothing before = before
+abbrev pub unit_taken : Option (ℕ × Unit) → Unit → Unit
+unit_taken (Some taken) before = taken.1
+unit_taken None before = before
 
 abbrev pub called_by : HostCall → Station → Station
 called_by (feeds b h) st = record { unit = unit_after (feeding st.unit b) st.unit; buffer = st.buffer; input = input_after st.unit b st.input; output = st.output }

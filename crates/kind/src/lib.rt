@@ -8,7 +8,7 @@ ghost use Rattle.kind.specs.Kinds.{kind_of, checks_of, reset_of, verdict_of, is_
 use header::Command;
 use serial::{Effect, Opening, Reply, Serial, Verdict};
 
-#[derive(Clone, Copy)]
+#[derive(Clone, Copy, Debug, PartialEq, Eq)]
 pub enum Kind {
     // 000, 5.4 and its RS-232 chapter.
     Serial,
@@ -21,32 +21,22 @@ pub enum Kind {
 pub fn kind_of(own: u8) -> Kind
     ensures { result ≡ kind_of own }
 {
-    if 30 <= own {
-        if own <= 33 {
-            return Kind::Video;
-        }
-        return Kind::Serial;
+    match own {
+        30..=33 => Kind::Video,
+        _ => Kind::Serial,
     }
-    Kind::Serial
 }
 
 // What a unit of a kind answers to a command with n bytes of data, of which these are stored: checks 1 to 11.
 pub fn verdict_of(kind: Kind, s: Serial, c: Command, n: usize, data: &[u8]) -> Verdict
     ensures { result ≡ verdict_of kind s c n «data».now }
 {
-    let is_null = c.command == 0xFE;
-    if is_null {
-        return serial::says(Reply::Silent, Effect::Keeps);
+    match c.command {
+        0xFE => serial::says(Reply::Silent, Effect::Keeps),
+        0xFF => serial::says(Reply::Silent, reset_of(kind, s)),
+        _ if c.device == 0 => serial::says(Reply::Silent, Effect::Keeps),
+        _ => checks_of(kind, s, c, n, data),
     }
-    let is_reset = c.command == 0xFF;
-    if is_reset {
-        return serial::says(Reply::Silent, reset_of(kind, s));
-    }
-    let is_to_all = c.device == 0;
-    if is_to_all {
-        return serial::says(Reply::Silent, Effect::Keeps);
-    }
-    checks_of(kind, s, c, n, data)
 }
 
 // Whether a unit of a kind that is so open is fed.
@@ -75,10 +65,7 @@ pub fn lent_to(kind: Kind) -> usize
 pub fn is_short(kind: Kind, room: usize, lent: usize) -> bool
     ensures { result ≡ is_short kind room lent }
 {
-    if room < 256 {
-        return true;
-    }
-    lent < lent_to(kind)
+    room < 256 || lent < lent_to(kind)
 }
 
 fn checks_of(kind: Kind, s: Serial, c: Command, n: usize, data: &[u8]) -> Verdict
@@ -93,9 +80,8 @@ fn checks_of(kind: Kind, s: Serial, c: Command, n: usize, data: &[u8]) -> Verdic
 fn reset_of(kind: Kind, s: Serial) -> Effect
     ensures { result ≡ reset_of kind s }
 {
-    let opening = s.opening;
     match kind {
         Kind::Serial => Effect::Resets,
-        Kind::Video => video::reset(opening),
+        Kind::Video => video::reset(s.opening),
     }
 }

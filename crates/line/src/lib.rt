@@ -3,12 +3,12 @@
 
 #![tactic(auto)]
 
-ghost use Rattle.std.specs.Prelude.{◌≡◌, ◌||◌, ◌≤◌, ◌%◌, min};
+ghost use Rattle.std.specs.Prelude.{◌≡◌};
 ghost use Rattle.line.specs.Line.{wired, wired_nibble, send_of, sent_of, sender_hsk, sender_nibble, hear_of, taken_of, is_ready, listener_hsk};
 
 // What a party sees on the lines, or does to them. A line is low if any party pulls it: true is low, or pulled. A released
 // nibble reads 15.
-#[derive(Clone, Copy)]
+#[derive(Clone, Copy, Debug, PartialEq, Eq)]
 pub struct Lines {
     pub bav: bool,
     pub hsk: bool,
@@ -20,39 +20,21 @@ pub fn wired(a: Lines, b: Lines) -> Lines
     ensures { result ≡ wired a b }
 {
     Lines {
-        bav: either(a.bav, b.bav),
-        hsk: either(a.hsk, b.hsk),
+        bav: a.bav || b.bav,
+        hsk: a.hsk || b.hsk,
         nibble: wired_nibble(a.nibble, b.nibble),
     }
 }
 
-fn either(a: bool, b: bool) -> bool
-    ensures { result ≡ a || b }
-{
-    if a { true } else { b }
-}
-
+// A data line is high only where both leave it high.
 fn wired_nibble(a: u8, b: u8) -> u8
     ensures { result ≡ wired_nibble a b }
 {
-    let a1 = a / 2;
-    let b1 = b / 2;
-    let a2 = a1 / 2;
-    let b2 = b1 / 2;
-    both_high(a, b)
-        + 2 * (both_high(a1, b1) + 2 * (both_high(a2, b2) + 2 * both_high(a2 / 2, b2 / 2)))
-}
-
-// The lowest of the data lines.
-fn both_high(a: u8, b: u8) -> u8
-    ensures { (result ≡ min (a % 2) (b % 2)) × (result ≤ 1) }
-{
-    let high = a % 2;
-    if high < b % 2 { high } else { b % 2 }
+    (a & b) % 16
 }
 
 // A sender: before it places its next nibble, after it placed one, and while it keeps one with HSK released.
-#[derive(Clone, Copy)]
+#[derive(Clone, Copy, Debug, PartialEq, Eq)]
 pub enum Sender {
     Next,
     Placed(u8),
@@ -75,22 +57,14 @@ impl Sender {
     pub fn sent(self, low: bool) -> bool
         ensures { result ≡ sent_of self low }
     {
-        match self {
-            Sender::Next => false,
-            Sender::Placed(_) => false,
-            Sender::Kept(_) => if low { false } else { true },
-        }
+        matches!(self, Sender::Kept(_)) && !low
     }
 
     // Whether it pulls HSK, and what it leaves on the data lines.
     pub fn hsk(self) -> bool
         ensures { result ≡ sender_hsk self }
     {
-        match self {
-            Sender::Next => false,
-            Sender::Placed(_) => true,
-            Sender::Kept(_) => false,
-        }
+        matches!(self, Sender::Placed(_))
     }
 
     pub fn nibble(self) -> u8
@@ -98,14 +72,13 @@ impl Sender {
     {
         match self {
             Sender::Next => 15,
-            Sender::Placed(m) => m,
-            Sender::Kept(m) => m,
+            Sender::Placed(m) | Sender::Kept(m) => m,
         }
     }
 }
 
 // A listener: ready for a nibble, holding HSK low after it took one, and waiting to see HSK high.
-#[derive(Clone, Copy)]
+#[derive(Clone, Copy, Debug, PartialEq, Eq)]
 pub enum Listener {
     Ready,
     Holding,
@@ -118,21 +91,10 @@ impl Listener {
         ensures { result ≡ hear_of self low busy }
     {
         match self {
-            Listener::Ready => if low {
-                Listener::Holding
-            } else {
-                Listener::Ready
-            },
-            Listener::Holding => if busy {
-                Listener::Holding
-            } else {
-                Listener::Waiting
-            },
-            Listener::Waiting => if low {
-                Listener::Waiting
-            } else {
-                Listener::Ready
-            },
+            Listener::Ready if low => Listener::Holding,
+            Listener::Holding if !busy => Listener::Waiting,
+            Listener::Waiting if !low => Listener::Ready,
+            _ => self,
         }
     }
 
@@ -142,8 +104,7 @@ impl Listener {
     {
         match self {
             Listener::Ready => low,
-            Listener::Holding => false,
-            Listener::Waiting => false,
+            _ => false,
         }
     }
 
@@ -151,21 +112,13 @@ impl Listener {
     pub fn is_ready(self) -> bool
         ensures { result ≡ is_ready self }
     {
-        match self {
-            Listener::Ready => true,
-            Listener::Holding => false,
-            Listener::Waiting => false,
-        }
+        matches!(self, Listener::Ready)
     }
 
     // Whether it pulls HSK.
     pub fn hsk(self) -> bool
         ensures { result ≡ listener_hsk self }
     {
-        match self {
-            Listener::Ready => false,
-            Listener::Holding => true,
-            Listener::Waiting => false,
-        }
+        matches!(self, Listener::Holding)
     }
 }

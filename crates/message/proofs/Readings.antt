@@ -1,16 +1,14 @@
 -- What a check answers, by the tests it makes; and what those were where it found a message.
-use Prim.Native.Nat.{ℕ, suc, ◌+◌, ◌<◌, ◌≤◌}
+use Prim.Native.Nat.{ℕ, ◌+◌, ◌<◌, ◌≤◌}
 use native.Mathlib.Omega.{arith}
 use mathlib.Core.Path.{◌≡◌, refl, ◌∙◌, ap}
 use mathlib.Core.Bool.{Bool, true, false, cond}
-use mathlib.Core.List.{List, [], ◌∷◌}
+use mathlib.Core.List.{List}
 use borrow.Author.Tests.{lt-ltb, le-ltb, eq-eqb, ne_eqb, eqb-true}
 use lib.Dec.{ltb, eqb}
-use lib.ListN.{length, get_or, take}
-use Rattle.field.specs.Field.{value_of}
+use lib.ListN.{length}
 use Rattle.message.specs.Answer.{gives, refused}
 use Rattle.message.specs.Reading.{announced, checking}
-use Rattle.message.proofs.Lists.{elements-drop}
 
 was_found : (t u : Bool) (x n : ℕ) → cond t (refused 9) (cond u (gives x) (refused 10)) ≡ gives n → (u ≡ true) × (x ≡ n)
 was_found true u x n e = absurd (let z : ◌≡◌ {A = ℕ} 0 1 = cc in omega arith)
@@ -32,7 +30,3 @@ module _ (at behind : ℕ) (s : List ℕ) where
   found-whole {n} e =
       let was = was_found (ltb (length s) (at + 2 + behind)) (eqb (length s) (at + 2 + behind + announced at s)) (announced at s) n e in
       (was.1, eqb-true (length s) (at + 2 + behind + announced at s) was.0 ∙ ap (λ (k : ℕ). at + 2 + behind + k) was.1)
-
--- The length field by the places of its two bytes.
-pub announced-at : (at : ℕ) (s : List ℕ) → at + 2 ≤ length s → announced at s ≡ value_of (get_or s at 0 ∷ get_or s (suc at) 0 ∷ [])
-announced-at at s h = ap (λ (l : List ℕ). value_of (take 2 l)) (elements-drop at 2 s h)

@@ -46,7 +46,8 @@ pub struct Moved {
     pub serial: Serial,
 }
 
-// A round of a unit with this code, while BAV is seen low. Only receiving changes lent memory.
+// A round of a unit with this code, while BAV is seen low. Only receiving changes lent memory. What it is lent and what it sees stand singly,
+// here and below: a struct of them would hold two `&mut`s, which each function that stores would take apart again, and none needs all of it.
 pub fn step(
     phase: Phase,
     own: u8,
@@ -104,12 +105,7 @@ fn selecting(own: u8, ear: Listener, half: bool, low: u8, seen: Lines, busy: boo
 pub fn select(own: u8, code: u8) -> Phase
     ensures { result ≡ selected own code }
 {
-    let is_own = code == own;
-    if is_own {
-        return addressed(code);
-    }
-    let is_all = code == 0;
-    if is_all {
+    if code == own || code == 0 {
         return addressed(code);
     }
     Phase::SittingOut(true)
@@ -175,9 +171,11 @@ fn taking(
                 output,
             );
         }
-        let mut next = p;
-        next.half = true;
-        next.low = seen.nibble;
+        let next = Partial {
+            half: true,
+            low: seen.nibble,
+            ..p
+        };
         return moves(
             Phase::Receiving(Listener::Holding, Progress::Taking(next)),
             s,
@@ -193,8 +191,7 @@ fn take_byte(own: u8, s: Serial, p: Partial, b: u8, buffer: &mut [u8], output: &
     ensures { (result ≡ byte_step own s p b buffer.old) × ((buffer.new ≡ byte_buffer p b buffer.old) × (output.new ≡ byte_output own s p b buffer.old output.old)) }
 {
     let place = p.place;
-    let old = p.header;
-    let header = old.with(wide(place), b);
+    let header = p.header.with(wide(place), b);
     let n = header.data_length;
     put(n, place, b, buffer);
     if 8 + n as u32 <= place {
@@ -213,14 +210,10 @@ fn take_byte(own: u8, s: Serial, p: Partial, b: u8, buffer: &mut [u8], output: &
 pub fn put(n: u16, place: u32, b: u8, buffer: &mut [u8])
     ensures { buffer.new ≡ buffer_with n place b buffer.old }
 {
-    if 9 <= place {
-        if n <= 256 {
-            let i = wide(place - 9);
-            if i < n as usize {
-                if i < buffer.len() {
-                    buffer[i] = b;
-                }
-            }
+    if 9 <= place && n <= 256 {
+        let i = wide(place - 9);
+        if i < usize::from(n) && i < buffer.len() {
+            buffer[i] = b;
         }
     }
 }
@@ -236,15 +229,12 @@ pub fn answer(own: u8, s: Serial, header: Header, buffer: &[u8], output: &mut [u
     ensures { (result ≡ answered own s header buffer.now) × (output.new ≡ stored own s header buffer.now output.old) }
 {
     let c = header.command;
-    let n = header.data_length as usize;
+    let n = usize::from(header.data_length);
     let d = data_in(n, buffer);
-    let kind = kind::kind_of(own);
-    let v = kind::verdict_of(kind, s, c, n, d);
-    let reply = v.reply;
-    let effect = v.effect;
-    let after = s.after(effect, d, output);
+    let v = kind::verdict_of(kind::kind_of(own), s, c, n, d);
+    let after = s.after(v.effect, d, output);
     moves(
-        Phase::Receiving(Listener::Holding, Progress::Answered(reply)),
+        Phase::Receiving(Listener::Holding, Progress::Answered(v.reply)),
         after,
     )
 }

@@ -10,6 +10,7 @@ pub mod strip;
 ghost use Rattle.std.specs.Prelude.{◌≤◌};
 
 use line::Lines;
+use page::Out;
 
 // The marks of a round.
 pub type Marks = [u8; 22];
@@ -30,4 +31,9 @@ pub fn mark(l: Lines) -> u8
     let bav = if l.bav { 0 } else { 32 };
     let hsk = if l.hsk { 0 } else { 16 };
     bav + hsk + l.nibble % 16
+}
+
+// Where a picture goes. After `show failures`, while nothing else is said, that is descriptor 0, as it always was.
+fn shown(out: Out) -> Out {
+    out.or(Some(0))
 }

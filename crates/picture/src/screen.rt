@@ -27,7 +27,7 @@ pub fn show(out: Out, cells: &[u8], frame: Frame) {
         page.letter(b'\n');
     }
     edge(&mut page, frame, b'^');
-    page.write(out);
+    page.write(crate::shown(out));
 }
 
 // Writes the cells as 24 lines of text; whether that succeeded.

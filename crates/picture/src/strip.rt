@@ -1,21 +1,73 @@
 // The lines as a picture of letters, one column to a round: - high, _ low, the nibble in hexadecimal, and who holds HSK low or places
 // a nibble. Only rounds in which a line is low are shown, in strips of up to 96 columns.
+ghost use Rattle.std.specs.Prelude.{◌≤◌};
+
 use crate::{ALL, Marks};
 use page::{Out, Page};
 
 pub const WIDTH: usize = 96;
 
-// A strip: the marks of the lines in its columns, and who pulls in them.
-pub type Strip = [u8; 192];
+// The mark of the lines in a round, and who pulls.
+#[derive(Clone, Copy)]
+struct Column {
+    mark: u8,
+    who: u8,
+}
 
-// One column more behind n of a strip, from the marks of a round; how many there are then.
-pub fn column(strip: &mut Strip, n: usize, marks: &Marks) -> usize {
-    if n < WIDTH {
-        strip[n] = marks[ALL];
-        strip[n + WIDTH] = holder(marks);
-        n + 1
-    } else {
-        n
+// The columns of a picture, up to as many as a line has room for. There is no heap, so they are counted.
+#[derive(Drop)]
+pub struct Strip {
+    columns: [Column; WIDTH],
+    n: usize,
+    ghost within: { n ≤ 96 },
+}
+
+impl Strip {
+    // No column stands on it.
+    pub fn new() -> Strip {
+        Strip {
+            columns: [Column { mark: 0, who: b' ' }; WIDTH],
+            n: 0,
+        }
+    }
+
+    fn columns(&self) -> &[Column] {
+        &self.columns[..self.n]
+    }
+
+    pub fn len(&self) -> usize
+        ensures { result ≤ 96 }
+    {
+        self.n
+    }
+
+    pub fn clear(&mut self) {
+        self.n = 0;
+    }
+
+    // One column more, from the marks of a round.
+    pub fn push(&mut self, marks: &Marks) {
+        if self.n < WIDTH {
+            self.columns[self.n] = Column {
+                mark: marks[ALL],
+                who: holder(marks),
+            };
+            self.n += 1;
+        }
+    }
+
+    // The picture of its rounds, up to this one.
+    pub fn show(&self, out: Out, last: u64) {
+        let columns = self.columns();
+        let mut page = Page::new();
+        let first = last.saturating_add(1).saturating_sub(columns.len() as u64);
+        page.tell(format_args!("          rounds {first} to {last}"));
+        row(&mut page, b"BAV ", columns, |c| level(c.mark & 32));
+        row(&mut page, b"HSK ", columns, |c| level(c.mark & 16));
+        row(&mut page, b"D   ", columns, |c| nibble(c.mark));
+        row(&mut page, b"by  ", columns, |c| c.who);
+        page.letter(b'\n');
+        page.write(crate::shown(out));
     }
 }
 
@@ -33,23 +85,8 @@ fn holder(marks: &Marks) -> u8 {
 // A blank for all of them together.
 const LETTERS: &[u8; 22] = b"abcdefghijklmnopC wxyz";
 
-// The picture of the n rounds up to this one.
-pub fn show(out: Out, strip: &Strip, n: usize, last: u64) {
-    let mut page = Page::new();
-    let first = last.saturating_add(1).saturating_sub(n as u64);
-    page.tell(format_args!("          rounds {first} to {last}"));
-    let (marks, holders) = strip.split_at(WIDTH);
-    let marks = word::front(marks, n);
-    row(&mut page, b"BAV ", marks, bav);
-    row(&mut page, b"HSK ", marks, hsk);
-    row(&mut page, b"D   ", marks, nibble);
-    row(&mut page, b"by  ", word::front(holders, n), |who| who);
-    page.letter(b'\n');
-    page.write(out);
-}
-
 // A row with its name before it: a letter of each column.
-fn row<F: Fn(u8) -> u8>(page: &mut Page, name: &[u8], columns: &[u8], letter: F)
+fn row<F: Fn(Column) -> u8>(page: &mut Page, name: &[u8], columns: &[Column], letter: F)
     requires { F.IsAlwaysCallable letter }
 {
     page.words(b"\n          ");
@@ -57,14 +94,6 @@ fn row<F: Fn(u8) -> u8>(page: &mut Page, name: &[u8], columns: &[u8], letter: F)
     for column in columns {
         page.letter(letter(*column));
     }
-}
-
-fn bav(mark: u8) -> u8 {
-    level(mark & 32)
-}
-
-fn hsk(mark: u8) -> u8 {
-    level(mark & 16)
 }
 
 fn level(line: u8) -> u8 {

@@ -1,4 +1,5 @@
-// What stands at each byte and nibble of a message, of any format, that is described by its fields and data.
+// What stands at each byte and nibble of a message, of any format, that is described by its fields and data. A struct of head, data and
+// end is no plainer: `find` takes the length of the data alone.
 
 #![tactic(auto)]
 
@@ -7,7 +8,7 @@ ghost use Rattle.message.specs.Nibbles.{nibble_in};
 ghost use Rattle.place.specs.Place.{place_in, byte_at};
 
 // What stands at a byte of a message.
-#[derive(Clone, Copy)]
+#[derive(Clone, Copy, Debug, PartialEq, Eq)]
 pub enum Place {
     // This byte of a field.
     Field(u8),
@@ -21,18 +22,17 @@ pub enum Place {
 pub fn find(head: &[u8], n: usize, end: &[u8], i: usize) -> Place
     ensures { result ≡ place_in head.now n end.now i }
 {
-    if i < head.len() {
-        return Place::Field(head[i]);
+    if let Some(b) = head.get(i) {
+        return Place::Field(*b);
     }
     let j = i - head.len();
     if j < n {
         return Place::Item(j);
     }
-    let k = j - n;
-    if k < end.len() {
-        return Place::Field(end[k]);
+    match end.get(j - n) {
+        Some(b) => Place::Field(*b),
+        None => Place::Past,
     }
-    Place::Past
 }
 
 // Nibble i of a message with this head, data and end; past its end 15, as on released lines.
@@ -49,7 +49,7 @@ pub fn byte(p: Place, data: &[u8]) -> u8
 {
     match p {
         Place::Field(b) => b,
-        Place::Item(j) => { if j < data.len() { data[j] } else { 255 } }
+        Place::Item(j) => data.get(j).copied().unwrap_or(255),
         Place::Past => 255,
     }
 }

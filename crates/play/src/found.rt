@@ -120,9 +120,9 @@ fn values(desk: &Desk, look: &Look<'_>, rows: &Rows) -> Values {
 // The one value that an expectation finds; of what has no value, 1 where it is not so.
 fn value(desk: &Desk, form: Form, rows: &Rows) -> Option<Value> {
     let number = match form {
-        Form::ExpectStatus => return or_none(desk.status),
-        Form::ExpectRequest => return or_none(desk.request),
-        Form::ExpectRefusal => return or_none(desk.refusal),
+        Form::ExpectStatus => return or_none(desk.status.map(u64::from)),
+        Form::ExpectRequest => return or_none(desk.request.map(u64::from)),
+        Form::ExpectRefusal => return or_none(desk.refusal.map(u64::from)),
         Form::ExpectQuiet => return (!is_quiet(desk, rows)).then_some(Value::Number(1)),
         Form::ExpectUnreached => return desk.is_reached.then_some(Value::Number(1)),
         Form::ExpectRequests => desk.requests,
@@ -134,8 +134,8 @@ fn value(desk: &Desk, form: Form, rows: &Rows) -> Option<Value> {
 }
 
 // A number, or the word `none`.
-fn or_none(number: Option<u8>) -> Option<Value> {
-    Some(number.map_or(OTHER, |n| Value::Number(u64::from(n))))
+fn or_none(number: Option<u64>) -> Option<Value> {
+    Some(number.map_or(OTHER, Value::Number))
 }
 
 // Whether no party has anything to do: no line is pulled, no frame or rest runs, nothing is submitted, no unit holds a request.

@@ -13,15 +13,17 @@ use desk::hosts::Hosts;
 use desk::{Awaited, Desk, Failures, Part, Script, Until, Work, judge, plan, tell};
 use line::Lines;
 use page::{STDERR, STDOUT};
+use picture::strip::Strip;
 use script::Line;
 use stand_in::StandIn;
 use statement::{Act, Doing, Form, Statement, Store, Values};
 
-// What there is of each host and of each stand-in of a bus.
+// What there is of each host and of each stand-in of a bus, and the strip of its picture.
 #[derive(Drop)]
 pub struct Rows {
     pub hosts: Hosts,
     pub stand_ins: [StandIn; 4],
+    strip: Strip,
 }
 
 // What a look at the bus has found: the values that an expectation finds of a party, the response buffer, and the memory of units.
@@ -44,6 +46,7 @@ impl Rows {
         Rows {
             hosts: Hosts::new(),
             stand_ins: [StandIn::new(None); 4],
+            strip: Strip::new(),
         }
     }
 

@@ -2,7 +2,8 @@
 use crate::Rows;
 use desk::Desk;
 use picture::dump::Parties;
-use picture::{ALL, Marks, RELEASED, STAND_INS, dump, strip};
+use picture::strip::{Strip, WIDTH};
+use picture::{ALL, Marks, RELEASED, STAND_INS, dump};
 use statement::{Act, Form, Store};
 
 // No party pulls a line.
@@ -16,13 +17,13 @@ pub fn is_wanted(desk: &Desk, act: Act) -> bool {
 
 // Behind a round, or a step by hand: what each party leaves on the lines, units by their place, then the controller. All together and
 // stand-ins are added here.
-pub fn round(desk: &mut Desk, marks: Marks, rows: &Rows, store: &mut Store) {
+pub fn round(desk: &mut Desk, marks: Marks, rows: &mut Rows, store: &mut Store) {
     let after = with_stand_ins(desk, marks, rows);
     if desk.dump.is_some() {
         dumped(desk, store, &after);
     }
     if desk.is_pictured {
-        pictured(desk, store, &after);
+        pictured(desk, &mut rows.strip, &after);
     }
 }
 
@@ -73,13 +74,15 @@ pub(crate) fn end(desk: &mut Desk) {
 }
 
 // A column more on the strip. It is shown when it is full, and in the first round with no line low.
-fn pictured(desk: &mut Desk, store: &mut Store, after: &Marks) {
-    let n = strip::column(&mut store.strip, desk.columns, after);
+fn pictured(desk: &Desk, strip: &mut Strip, after: &Marks) {
+    strip.push(after);
     let is_released = after[ALL] == RELEASED;
-    let least = if is_released { 2 } else { strip::WIDTH };
-    let is_shown = least <= n;
+    let least = if is_released { 2 } else { WIDTH };
+    let is_shown = least <= strip.len();
     if is_shown {
-        strip::show(desk.out, &store.strip, n, desk.round);
+        strip.show(desk.out, desk.round);
     }
-    desk.columns = if is_released | is_shown { 0 } else { n };
+    if is_released | is_shown {
+        strip.clear();
+    }
 }

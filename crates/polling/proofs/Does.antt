@@ -13,15 +13,15 @@ use Rattle.application.specs.Calls.{Done, done, submitting, is_shut_out, with_co
 use Rattle.controller.specs.Calls.{stepping}
 use Rattle.controller.specs.Controller.{is_idle, service, controller_moved, controller_step, event_in, ring_after, event_after, frame_of}
 use Rattle.controller.specs.declared.Controller.{Controller}
-use Rattle.frame.specs.Frame.{submitted_frame, frame_step, lent_at, next_nibble, waited, over, stays, quiet_after, ends, rest_step, last_nibble}
-use Rattle.frame.specs.declared.End.TheVariants.{NotYet, Over}
+use Rattle.frame.specs.Frame.{end_of, submitted_frame, frame_step, lent_at, next_nibble, waited, over, stays, quiet_after, ends, rest_step, last_nibble}
+use Rattle.std.specs.Prelude.{Some, None, Result, Ok, Err}
 use Rattle.delivery.proofs.Ends.{and_left}
 use Rattle.delivery.proofs.Running.{first_of}
 use Rattle.frame.specs.declared.Frame.{Frame}
 use Rattle.frame.specs.declared.Kind.{Kind}
 use Rattle.frame.specs.declared.Kind.TheVariants.{Submitted, Poll, Null}
-use Rattle.frame.specs.declared.Lent.{Lent}
-use Rattle.frame.specs.declared.Lent.TheVariants.{Fits, Data, Buffer}
+use Rattle.frame.specs.declared.LentError.{LentError}
+use Rattle.frame.specs.declared.LentError.TheVariants.{Data, Buffer}
 use Rattle.frame.specs.declared.Moved.{Moved}
 use Rattle.frame.specs.declared.Stage.{Stage}
 use Rattle.frame.specs.declared.Stage.TheVariants.{Free, Resting, Waiting, Sending, Listening}
@@ -110,8 +110,8 @@ unchanged c m e v u =
 
 -- A frame's step, of a stage that is not idle.
 pub data Moves (stage : Stage) (mv : Moved) : Type 0 where
-  not_yet : mv.end ≡ NotYet → Onward stage mv.stage → Moves stage mv
-  now : (f : Frame) (status count : ℕ) → running stage ≡ f ∷ [] → held stage ≡ f ∷ [] → mv.end ≡ Over f status count → held mv.stage ≡ [] → Moves stage mv
+  not_yet : mv.end ≡ None → Onward stage mv.stage → Moves stage mv
+  now : (f : Frame) (status count : ℕ) → running stage ≡ f ∷ [] → held stage ≡ f ∷ [] → mv.end ≡ Some (end_of f status count) → held mv.stage ≡ [] → Moves stage mv
 
 either : (frames : Stage → List Frame) (t : Bool) (a b : Stage) (fs : List Frame) → frames a ≡ fs → frames b ≡ fs → frames (cond t a b) ≡ fs
 either frames true a b fs e g = e
@@ -201,11 +201,11 @@ refused_does c seen busy lent response k e =
     unchanged c (steps seen busy lent response) (ap (λ (a : Answer Event). kept a (controller_step c seen busy lent) c) e) (ap told e)
     (λ own marked. ap (λ (x : Answer Event). is_done (told x) && any_for own (running c.stage)) e)
 
-steps_do : (c : Controller) (seen : Lines) (busy : Bool) (lent response : List ℕ) (t : Bool) (l : Lent) → ltb 15 seen.nibble ≡ t → lent_at c.stage (length lent) (length response) ≡ l → Does c (steps seen busy lent response)
+steps_do : (c : Controller) (seen : Lines) (busy : Bool) (lent response : List ℕ) (t : Bool) (l : Result (Unit {0}) LentError) → ltb 15 seen.nibble ≡ t → lent_at c.stage (length lent) (length response) ≡ l → Does c (steps seen busy lent response)
 steps_do c seen busy lent response true l e g = refused_does c seen busy lent response 5 (rw e)
-steps_do c seen busy lent response false Fits e g = step-does c seen busy lent response (rw (e, g)) (is_idle c.stage) refl
-steps_do c seen busy lent response false Data e g = refused_does c seen busy lent response 10 (rw (e, g))
-steps_do c seen busy lent response false Buffer e g = refused_does c seen busy lent response 11 (rw (e, g))
+steps_do c seen busy lent response false (Ok u) e g = step-does c seen busy lent response (rw (e, g)) (is_idle c.stage) refl
+steps_do c seen busy lent response false (Err Data) e g = refused_does c seen busy lent response 10 (rw (e, g))
+steps_do c seen busy lent response false (Err Buffer) e g = refused_does c seen busy lent response 11 (rw (e, g))
 
 -- Submissions and acknowledgements.
 accepted_does : (c : Controller) (k : Command) (n room : ℕ) → submitting c k n room ≡ gives done → is_shut_out k c.ring ≡ false → eqb k.command 0x0A ≡ false → running c.stage ≡ [] → Does c (submits k n room)

@@ -27,8 +27,8 @@ use Rattle.phase.specs.declared.Moved.{Moved}
 use Rattle.phase.specs.declared.Phase.{Phase}
 use Rattle.phase.specs.declared.Phase.TheVariants.{Idle, Selecting, SittingOut}
 use Rattle.queue.specs.Queue.{room, queue_with, popped}
-use Rattle.queue.specs.declared.Popped.{Popped}
-use Rattle.queue.specs.declared.Popped.TheVariants.{Byte, Nothing}
+use Rattle.std.specs.Prelude.{Option, Some, None}
+use Rattle.queue.specs.declared.Queue.{Queue}
 use Rattle.serial.specs.Serial.{with_input, with_request}
 use Rattle.serial.specs.declared.Serial.{Serial}
 use Rattle.unit.specs.Unit.{new_unit, low_step, high_step, asks, quiet_after}
@@ -90,9 +90,9 @@ moves u (feeds b) = keeps (by (is_fed (kind_of u.own) u.serial.opening) (eqb (ro
     by false v = as_before u
 moves u (takes output) = keeps (by (popped output u.serial.output)) (λ row. refl)
   where
-    by : (p : Popped) → Kept u (unit_taken (taken_by u p) u)
-    by (Byte b q) = record { own = refl; retry = refl; quiet = refl; asking = refl; phase = refl; enabled = refl; request = λ e. e }
-    by Nothing = as_before u
+    by : (p : Option (ℕ × Queue)) → Kept u (unit_taken (taken_by u p) u)
+    by (Some front) = record { own = refl; retry = refl; quiet = refl; asking = refl; phase = refl; enabled = refl; request = λ e. e }
+    by None = as_before u
 moves u raises = keeps (by u.serial.enabled) (λ row. refl)
   where
     by : (t : Bool) → Kept u (unit_after (in_unit u (cond t (gives (with_request u.serial true)) (refused 7))) u)

@@ -1,6 +1,6 @@
 -- Beyond demand 3: the bound of any controller, what begins a service frame, every turn of a unit, the ring's marks, that no unit is in the ring twice, what the end of a
 -- poll tells at any levels, and that on demand 2's bus a pull for a request is seen.
-use Rattle.std.specs.Prelude.{ℕ, suc, ◌<◌, ◌≤◌, ◌≡◌, Bool, true, false, cond, List, [], ◌∷◌, ◌++◌, eqb, length}
+use Rattle.std.specs.Prelude.{ℕ, suc, ◌<◌, ◌≤◌, ◌≡◌, Bool, true, false, cond, List, [], ◌∷◌, ◌++◌, eqb, length, Some}
 use Rattle.bus.specs.declared.Station.{Station}
 use Rattle.controller.specs.Calls.{stepping}
 use Rattle.controller.specs.Controller.{is_idle, event_in, frame_of}
@@ -8,8 +8,7 @@ use Rattle.controller.specs.declared.Controller.{Controller}
 use Rattle.delivery.specs.Run.{QuietStart, Run}
 use Rattle.delivery.specs.Lists.{Has}
 use Rattle.delivery.specs.World.{World, Busy}
-use Rattle.frame.specs.Frame.{begun, poll_of}
-use Rattle.frame.specs.declared.End.TheVariants.{Over}
+use Rattle.frame.specs.Frame.{begun, end_of, poll_of}
 use Rattle.line.specs.declared.Lines.{Lines}
 use Rattle.message.specs.Answer.{gives}
 use Rattle.ring.specs.Ring.{counted, live, is_marked}
@@ -72,7 +71,7 @@ PollEnds =
     (c : Controller) (seen : Lines) (busy : Bool) (lent response : List ℕ) (code status count : ℕ)
     → stepping c seen busy lent response ≡ gives (event_in c seen busy lent)
     → is_idle c.stage ≡ false
-    → (frame_of c seen busy lent).end ≡ Over (poll_of code) status count
+    → (frame_of c seen busy lent).end ≡ Some (end_of (poll_of code) status count)
     → event_of c (steps seen busy lent response) ≡ cond (eqb status 0x00) (Handed code) Nothing
 
 -- On demand 2's bus a unit that pulls BAV for its request is seen: an idle controller whose ring is not empty begins a service frame.

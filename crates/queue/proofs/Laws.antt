@@ -11,8 +11,8 @@ use borrow.Author.Tests.{le-leb, lt-leb}
 use lib.ListN.{length, get_or, set, drop, length-set}
 use lib.Seq.{drop-cons, get_or-set_same, get_or-set_other}
 use Rattle.queue.specs.Queue.{held, room, from, contents, empty_queue, byte_at, stored, fits, queue_with, bytes_with, queue_without, popped_from, popped}
+use Rattle.std.specs.Prelude.{Some, None}
 use Rattle.queue.specs.declared.Queue.{Queue}
-use Rattle.queue.specs.declared.Popped.TheVariants.{Byte, Nothing}
 
 -- From an order of numbers to the test of whether there is room.
 pub ruleset tests = (le-leb, lt-leb)
@@ -123,15 +123,15 @@ contents_without bytes q n =
     rw (held_without q n) (from_wrap bytes (q.head + n) (held q - n) ∙ from-drop bytes q.head (held q) n)
 
 -- Popping gives the first of the list, and leaves the rest of it.
-pub popped_byte : (bytes : List ℕ) (q : Queue) (b : ℕ) (bs : List ℕ) → contents bytes q ≡ b ∷ bs → (popped bytes q ≡ Byte b (queue_without 1 q)) × (contents bytes (queue_without 1 q) ≡ bs)
+pub popped_byte : (bytes : List ℕ) (q : Queue) (b : ℕ) (bs : List ℕ) → contents bytes q ≡ b ∷ bs → (popped bytes q ≡ Some (b, queue_without 1 q)) × (contents bytes (queue_without 1 q) ≡ bs)
 popped_byte bytes q b bs e = (ap (λ (l : List ℕ). popped_from l q) e, contents_without bytes q 1 ∙ ap (drop 1) e)
 
-pub popped_nothing : (bytes : List ℕ) (q : Queue) → contents bytes q ≡ [] → popped bytes q ≡ Nothing
+pub popped_nothing : (bytes : List ℕ) (q : Queue) → contents bytes q ≡ [] → popped bytes q ≡ None
 popped_nothing bytes q e = ap (λ (l : List ℕ). popped_from l q) e
 
-pub popped_front : (bytes : List ℕ) (q : Queue) → 0 < held q → popped bytes q ≡ Byte (byte_at bytes q 0) (queue_without 1 q)
+pub popped_front : (bytes : List ℕ) (q : Queue) → 0 < held q → popped bytes q ≡ Some (byte_at bytes q 0, queue_without 1 q)
 popped_front bytes q h = front (held q) h
   where
-    front : (n : ℕ) → 0 < n → popped_from (from bytes q.head n) q ≡ Byte (byte_at bytes q 0) (queue_without 1 q)
+    front : (n : ℕ) → 0 < n → popped_from (from bytes q.head n) q ≡ Some (byte_at bytes q 0, queue_without 1 q)
     front zero h = absurd (omega arith)
     front (suc n) h = rw add-zero

@@ -1,9 +1,7 @@
 -- Document 01, "The serial peripheral": input and output queues hold 256 bytes each; freed room is used again.
 -- The bytes of a queue stand in a ring of 256 lent bytes, from its head on.
-use Rattle.std.specs.Prelude.{ℕ, zero, suc, ◌+◌, ◌-◌, ◌%◌, min, Bool, cond, List, [], ◌∷◌, leb, length, get_or, set}
+use Rattle.std.specs.Prelude.{ℕ, zero, suc, ◌+◌, ◌-◌, ◌%◌, min, Bool, cond, Option, Some, None, List, [], ◌∷◌, leb, length, get_or, set}
 use Rattle.queue.specs.declared.Queue.{Queue}
-use Rattle.queue.specs.declared.Popped.{Popped}
-use Rattle.queue.specs.declared.Popped.TheVariants.{Byte, Nothing}
 
 -- How many bytes a queue holds, and for how many it has room. A count over 256 is that of a full queue.
 abbrev pub held : Queue → ℕ
@@ -49,9 +47,9 @@ abbrev pub queue_without : ℕ → Queue → Queue
 queue_without n q = record { head = (q.head + n) % 256; count = held q - n }
 
 -- The oldest of what a queue holds, and the queue without it.
-abbrev pub popped_from : List ℕ → Queue → Popped
-popped_from [] q = Nothing
-popped_from (b ∷ bs) q = Byte b (queue_without 1 q)
+abbrev pub popped_from : List ℕ → Queue → Option (ℕ × Queue)
+popped_from [] q = None
+popped_from (b ∷ bs) q = Some (b, queue_without 1 q)
 
-abbrev pub popped : List ℕ → Queue → Popped
+abbrev pub popped : List ℕ → Queue → Option (ℕ × Queue)
 popped bytes q = popped_from (contents bytes q) q

@@ -6,17 +6,10 @@ ghost use Rattle.std.specs.Prelude.{◌≡◌, [], ◌∷◌, ◌+◌, ◌%◌};
 ghost use Rattle.queue.specs.Queue.{held, room, empty_queue, byte_at, queue_with, bytes_with, queue_without, popped};
 
 // Where the oldest byte stands, and how many there are. A count over 256 is that of a full queue.
-#[derive(Clone, Copy)]
+#[derive(Clone, Copy, Debug, PartialEq, Eq)]
 pub struct Queue {
     pub head: u8,
     pub count: u16,
-}
-
-// What is taken from a queue: its oldest byte, and the queue without it.
-#[derive(Clone, Copy)]
-pub enum Popped {
-    Byte(u8, Queue),
-    Nothing,
 }
 
 impl Queue {
@@ -31,8 +24,7 @@ impl Queue {
     pub fn len(self) -> usize
         ensures { result ≡ held self }
     {
-        let count = self.count;
-        if 256 < count { 256 } else { count as usize }
+        usize::from(self.count).min(256)
     }
 
     // How many more bytes it can hold.
@@ -46,8 +38,7 @@ impl Queue {
     pub fn at(self, bytes: &[u8; 256], i: usize) -> u8
         ensures { result ≡ byte_at bytes.now self i }
     {
-        let place = place(self.head, i);
-        bytes[place]
+        bytes[place(self.head, i)]
     }
 
     // With b at the back. A full queue and its bytes stay as they are.
@@ -59,8 +50,8 @@ impl Queue {
             let back = place(self.head, count as usize);
             bytes[back] = b;
             return Queue {
-                head: self.head,
                 count: count + 1,
+                ..self
             };
         }
         self
@@ -74,17 +65,15 @@ impl Queue {
         let n = data.len();
         if n <= self.room() {
             let back = self.head as usize + self.len();
-            let mut i = 0;
-            while i < n {
+            for (i, b) in data.iter().enumerate() {
                 let place = (back + i) % 256;
                 if place < bytes.len() {
-                    bytes[place] = data[i];
+                    bytes[place] = *b;
                 }
-                i += 1;
             }
             return Queue {
-                head: self.head,
                 count: self.count + n as u16,
+                ..self
             };
         }
         self
@@ -94,26 +83,20 @@ impl Queue {
     pub fn drop(self, n: usize) -> Queue
         ensures { result ≡ queue_without n self }
     {
-        let head = place(self.head, n) as u8;
-        let held = self.len();
-        if n < held {
-            return Queue {
-                head,
-                count: (held - n) as u16,
-            };
+        Queue {
+            head: place(self.head, n) as u8,
+            count: self.len().saturating_sub(n) as u16,
         }
-        Queue { head, count: 0 }
     }
 
-    // The oldest byte and the queue without it; nothing where it is empty.
-    pub fn pop(self, bytes: &[u8; 256]) -> Popped
+    // The oldest byte and the queue without it; none where it is empty.
+    pub fn pop(self, bytes: &[u8; 256]) -> Option<(u8, Queue)>
         ensures { result ≡ popped bytes.now self }
     {
-        let count = self.count;
-        if count == 0 {
-            return Popped::Nothing;
+        if self.count == 0 {
+            return None;
         }
-        Popped::Byte(self.at(bytes, 0), self.drop(1))
+        Some((self.at(bytes, 0), self.drop(1)))
     }
 }
 

@@ -1,11 +1,13 @@
 -- Document 01, "Refusal numbers" (9, 10).
-use Rattle.std.specs.Prelude.{ℕ}
-use Rattle.message.specs.Answer.{Answer, gives, refused}
-use Rattle.reader.specs.declared.Checked.{Checked}
-use Rattle.reader.specs.declared.Checked.TheVariants.{Whole, Short, Disagrees}
+use Rattle.std.specs.Prelude.{ℕ, Result}
+use Rattle.message.specs.Answer.{Answer, answered}
+use Rattle.reader.specs.declared.Misread.{Misread}
+use Rattle.reader.specs.declared.Misread.TheVariants.{Short, Disagrees}
+
+abbrev pub number : Misread → ℕ
+number Short = 9
+number Disagrees = 10
 
 -- The number and value of each answer of the check.
-abbrev pub found : Checked → Answer ℕ
-found (Whole n) = gives n
-found Short = refused 9
-found Disagrees = refused 10
+abbrev pub found : Result ℕ Misread → Answer ℕ
+found r = answered number r

@@ -2,7 +2,7 @@
 
 #![tactic(auto)]
 
-ghost use Rattle.std.specs.Prelude.{◌≡◌, [], ◌∷◌, ◌++◌, min, ◌≤◌, get_or, take};
+ghost use Rattle.std.specs.Prelude.{◌≡◌, [], ◌∷◌, ◌++◌, ◌≤◌, get_or, take};
 ghost use Rattle.field.specs.Field.{field};
 ghost use Rattle.message.specs.Nibbles.{nibble_in};
 ghost use Rattle.place.specs.Place.{byte_at};
@@ -17,14 +17,7 @@ use serial::Reply;
 pub fn is_silent(r: Reply) -> bool
     ensures { result ≡ is_silent r }
 {
-    match r {
-        Reply::Silent => true,
-        Reply::Status(_) => false,
-        Reply::Opened(_) => false,
-        Reply::Bytes(_) => false,
-        Reply::Address(_, _, _) => false,
-        Reply::Polled => false,
-    }
+    matches!(r, Reply::Silent)
 }
 
 // Nibble i of the response; 15 past its end.
@@ -46,19 +39,11 @@ fn length_of(r: Reply, q: Queue) -> usize
     ensures { (result ≡ reply_length q r) × (result ≤ 256) }
 {
     match r {
-        Reply::Silent => 0,
-        Reply::Status(_) => 0,
+        Reply::Silent | Reply::Status(_) | Reply::Polled => 0,
         Reply::Opened(_) => 4,
-        Reply::Bytes(n) => least(n as usize, q.len()),
-        Reply::Address(n, _, _) => least(n as usize, 2),
-        Reply::Polled => 0,
+        Reply::Bytes(n) => usize::from(n).min(q.len()),
+        Reply::Address(n, _, _) => usize::from(n).min(2),
     }
-}
-
-fn least(a: usize, b: usize) -> usize
-    ensures { result ≡ min a b }
-{
-    if a < b { a } else { b }
 }
 
 fn status_of(r: Reply) -> u8
@@ -67,10 +52,7 @@ fn status_of(r: Reply) -> u8
     match r {
         Reply::Silent => 0xFF,
         Reply::Status(number) => number,
-        Reply::Opened(_) => 0x00,
-        Reply::Bytes(_) => 0x00,
-        Reply::Address(_, _, _) => 0x00,
-        Reply::Polled => 0x00,
+        Reply::Opened(_) | Reply::Bytes(_) | Reply::Address(_, _, _) | Reply::Polled => 0x00,
     }
 }
 
@@ -90,12 +72,10 @@ fn item(r: Reply, q: Queue, input: &[u8; 256], j: usize) -> u8
     ensures { result ≡ get_or (reply_data (contents input.now q) r) j 255 }
 {
     match r {
-        Reply::Silent => 255,
-        Reply::Status(_) => 255,
+        Reply::Silent | Reply::Status(_) | Reply::Polled => 255,
         Reply::Opened(accepted) => opened_item(accepted, j),
         Reply::Bytes(n) => queued_item(n, q, input, j),
         Reply::Address(n, row, column) => address_item(n, row, column, j),
-        Reply::Polled => 255,
     }
 }
 
@@ -114,7 +94,7 @@ fn opened_item(accepted: u8, j: usize) -> u8
 fn queued_item(n: u16, q: Queue, input: &[u8; 256], j: usize) -> u8
     ensures { result ≡ get_or (take n (contents input.now q)) j 255 }
 {
-    let most = least(n as usize, q.len());
+    let most = usize::from(n).min(q.len());
     if j < most {
         return q.at(input, j);
     }
@@ -124,7 +104,7 @@ fn queued_item(n: u16, q: Queue, input: &[u8; 256], j: usize) -> u8
 fn address_item(n: u8, row: u8, column: u8, j: usize) -> u8
     ensures { result ≡ get_or (take n (row ∷ column ∷ [])) j 255 }
 {
-    let size = least(n as usize, 2);
+    let size = usize::from(n).min(2);
     if j < size {
         if j == 1 {
             return column;

@@ -1,26 +1,17 @@
--- The number and values of a reader's answer say which it is.
-use mathlib.Core.Path.{◌≡◌, refl}
-use mathlib.Core.Bool.{cond}
+-- The number and values of a reader's answer say which it is: a message has its response's status.
+use mathlib.Core.Path.{ap}
 use mathlib.Core.List.{List}
 use Prim.Native.Nat.{ℕ}
-use lib.Dec.{eqb}
 use lib.ListN.{get_or}
-use Rattle.message.specs.Answer.{Answer, gives, refused, OneAnswer}
+use Rattle.message.specs.Answer.{OneAnswer}
 use Rattle.message.specs.Format.{Message}
-use Rattle.message.proofs.Answers.{by-inverse}
-use Rattle.response.specs.Response.{numbered}
-use Rattle.response.specs.declared.Reading.{Reading}
-use Rattle.response.specs.declared.Reading.TheVariants.{Status, Short, Disagrees}
+use Rattle.message.proofs.Answers.{one-answered-as}
+use Rattle.reader.specs.Numbers.{number}
+use Rattle.reader.proofs.Answers.{one-number}
+use Rattle.response.specs.Response.{message_of, numbered}
 
-answered : Answer Message → Reading
-answered (gives m) = Status (get_or m.after 0 0)
-answered (refused k) = cond (eqb k 9) Short Disagrees
-
-answered-back : (d : List ℕ) (r : Reading) → answered (numbered d r) ≡ r
-unfolding answered
-answered-back d (Status status) = refl
-answered-back d Short = refl
-answered-back d Disagrees = refl
+one-message : (d : List ℕ) → OneAnswer (λ (status : ℕ). message_of d status)
+one-message d status k e = ap (λ (m : Message). get_or m.after 0 0) e
 
 pub one-reading : (d : List ℕ) → OneAnswer (numbered d)
-one-reading d = by-inverse (numbered d) answered (answered-back d)
+one-reading d = one-answered-as (λ (status : ℕ). message_of d status) number (one-message d) one-number

@@ -1,4 +1,4 @@
-// The response message: data length 2, the data, status 1.
+// The response message: data length 2, the data, status 1. `command` says why there is no trait of both.
 
 #![tactic(auto)]
 
@@ -12,29 +12,15 @@ ghost use Rattle.place.specs.Place.{place_in};
 ghost use Rattle.response.specs.Response.{message_of, numbered};
 
 use place::Place;
-use reader::Checked;
-use writer::Written;
+use reader::Misread;
+use writer::WriteError;
 
-// What reading a slice that must hold exactly one response comes to.
-#[derive(Clone, Copy)]
-pub enum Reading {
-    // Its status. `data_of` hands back the data.
-    Status(u8),
-    // Refusal 9: under 3 bytes.
-    Short,
-    // Refusal 10: the length field disagrees with the slice.
-    Disagrees,
-}
-
-// Reads a slice that must hold exactly one response.
-pub fn read(s: &[u8]) -> Reading
+// Reads a slice that must hold exactly one response: its status. `data_of` hands back the data.
+pub fn read(s: &[u8]) -> Result<u8, Misread>
     ensures { numbered (data_in response_format s.now) result ≡ reading response_format s.now }
 {
-    match reader::check(s, 0, 1) {
-        Checked::Whole(n) => Reading::Status(s[2 + n]),
-        Checked::Short => Reading::Short,
-        Checked::Disagrees => Reading::Disagrees,
-    }
+    let n = reader::check(s, 0, 1)?;
+    Ok(s[2 + n])
 }
 
 // The data field of the response that a slice holds, as that part of the slice; nothing where `read` refuses.
@@ -45,7 +31,7 @@ pub fn data_of(s: &[u8]) -> &[u8]
 }
 
 // Writes a response with its data to the front of a lent buffer. Bytes past it keep their values, and all do where it refuses.
-pub fn write(data: &[u8], status: u8, out: &mut [u8]) -> Written
+pub fn write(data: &[u8], status: u8, out: &mut [u8]) -> Result<usize, WriteError>
     ensures { (writer·numbered result ≡ writing (least response_format) (length «data».now) (length out.old)) × (out.new ≡ written_as response_format (message_of «data».now status) out.old) }
 {
     let head = head_of(data.len());
@@ -71,5 +57,6 @@ pub fn nibble(data: &[u8], status: u8, i: usize) -> u8
 fn head_of(n: usize) -> [u8; 2]
     ensures { result ≡ head_of response_format [] n }
 {
-    [(n % 256) as u8, (n / 256 % 256) as u8]
+    let [low, high, ..] = n.to_le_bytes();
+    [low, high]
 }

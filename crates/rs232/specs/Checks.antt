@@ -1,6 +1,6 @@
 -- Document 01, "The serial peripheral" (000, 5.4 and its RS-232 chapter): the checks of a serial unit on a whole command, and what they
 -- answer.
-use Rattle.std.specs.Prelude.{ℕ, ◌/◌, ◌%◌, min, Bool, true, false, cond, ◌||◌, List, [], ◌∷◌, ltb, eqb, get_or}
+use Rattle.std.specs.Prelude.{ℕ, ◌/◌, ◌%◌, min, Bool, true, false, cond, ◌||◌, Option, Some, None, Result, Ok, Err, List, [], ◌∷◌, ltb, eqb, get_or}
 use Rattle.field.specs.Field.{value_of}
 use Rattle.header.specs.declared.Command.{Command}
 use Rattle.queue.specs.Queue.{held, room}
@@ -29,25 +29,33 @@ requested_in d = value_of (get_or d 0 0 ∷ get_or d 1 0 ∷ [])
 abbrev pub attributes_in : List ℕ → ℕ
 attributes_in d = get_or d 2 0
 
--- The status of an open with n bytes of data, in a closed unit of any kind: under 3 data bytes 02; append mode 13; a mode that its kind does
--- not open for, the status that refuses it, or 0; relative bit set 11; requested length over 128, or the buffer length field under 4, 0C;
--- option bytes present 01.
-abbrev pub open_status : ℕ → ℕ → ℕ → ℕ → ℕ → ℕ
+-- Whether an open with n bytes of data is accepted by a closed unit of any kind, else the status that refuses it: under 3 data bytes 02;
+-- append mode 13; a mode that its kind does not open for, the status that refuses it; relative bit set 11; requested length over 128, or the
+-- buffer length field under 4, 0C; option bytes present 01.
+abbrev pub mode_or : Option ℕ → Result (Unit {0}) ℕ → Result (Unit {0}) ℕ
+mode_or (Some status) rest = Err status
+mode_or None rest = rest
+
+abbrev pub open_status : Option ℕ → ℕ → ℕ → ℕ → ℕ → Result (Unit {0}) ℕ
 open_status refused buffer n requested attributes =
-    cond (ltb n 3) 0x02
-    (cond (eqb (attributes / 64) 0) 0x13
-    (cond (ltb 0 refused) refused
-    (cond (eqb (attributes / 32 % 2) 1) 0x11
-    (cond (ltb 128 requested) 0x0C
-    (cond (ltb buffer 4) 0x0C
-    (cond (ltb 3 n) 0x01 0x00))))))
+    cond (ltb n 3) (Err 0x02)
+    (cond (eqb (attributes / 64) 0) (Err 0x13)
+    (mode_or refused
+    (cond (eqb (attributes / 32 % 2) 1) (Err 0x11)
+    (cond (ltb 128 requested) (Err 0x0C)
+    (cond (ltb buffer 4) (Err 0x0C)
+    (cond (ltb 3 n) (Err 0x01) (Ok tt)))))))
+
+-- What an open that comes to this answers: the verdict, or the status that refuses it.
+abbrev pub opened_or : Result (Unit {0}) ℕ → Verdict → Verdict
+opened_or (Ok done) verdict = verdict
+opened_or (Err number) verdict = status number
 
 -- A serial unit opens for input, output and update. Success answers four data bytes.
 abbrev pub open_by : ℕ → ℕ → ℕ → ℕ → Verdict
 open_by buffer n requested attributes =
-    cond (eqb (open_status 0 buffer n requested attributes) 0)
+    opened_or (open_status None buffer n requested attributes)
     (says (Opened (accepted_of requested)) (Opens (mode_of attributes) (accepted_of requested)))
-    (status (open_status 0 buffer n requested attributes))
 
 -- How many bytes a read answers: the least of those that there are, buffer length and accepted length.
 abbrev pub read_length : ℕ → ℕ → ℕ → ℕ

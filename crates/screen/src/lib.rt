@@ -6,7 +6,7 @@ ghost use Rattle.std.specs.Prelude.{◌≡◌, cond, false, ◌+◌, ◌-◌, lt
 ghost use Rattle.screen.specs.Screen.{at, reading, backward, forward, advanced, controlled, placed, protected, guarded, ordered, skipped, skipping, sequence_of, commanded, unescaped, with_byte, new_screen, scrolling, wrapping, asking};
 
 // The sequence that is being read.
-#[derive(Clone, Copy)]
+#[derive(Clone, Copy, Debug, PartialEq, Eq)]
 pub enum Sequence {
     // None.
     Plain,
@@ -19,7 +19,7 @@ pub enum Sequence {
     Skips(u8),
 }
 
-#[derive(Clone, Copy)]
+#[derive(Clone, Copy, Debug, PartialEq, Eq)]
 pub struct Screen {
     // Where the cursor is.
     pub row: u8,
@@ -53,12 +53,11 @@ impl Screen {
     }
 
     // After the cursor's address was answered.
-    pub fn answered(self) -> Screen
+    pub fn answered(mut self) -> Screen
         ensures { result ≡ asking self false }
     {
-        let mut s = self;
-        s.asked = false;
-        s
+        self.asked = false;
+        self
     }
 }
 
@@ -66,8 +65,7 @@ impl Screen {
 pub fn with_byte(s: Screen, b: u8) -> Screen
     ensures { result ≡ with_byte s b }
 {
-    let sequence = s.sequence;
-    match sequence {
+    match s.sequence {
         Sequence::Plain => unescaped(s, b),
         Sequence::Escape => commanded(s, b),
         Sequence::Row => reading(s, Sequence::Column(b)),
@@ -96,25 +94,25 @@ pub fn lines(top: bool, bottom: bool) -> u8
 }
 
 // With the cursor elsewhere, or another sequence being read. Screens are made field by field, here and below: the fields then stay in
-// registers, where those of a copy are packed and unpacked for each byte of a text.
+// registers, where those of a copy are packed and unpacked for each byte of a text. With `..s` in their place a text of set cursors was slower.
 fn at(s: Screen, row: u8, column: u8) -> Screen
     ensures { result ≡ at s row column }
 {
     let sequence = s.sequence;
     Screen {
-        row: row,
-        column: column,
+        row,
+        column,
         scrolls: s.scrolls,
         wraps: s.wraps,
         top: s.top,
         bottom: s.bottom,
         asked: s.asked,
-        sequence: sequence,
+        sequence,
     }
 }
 
-fn reading(s: Screen, q: Sequence) -> Screen
-    ensures { result ≡ reading s q }
+fn reading(s: Screen, sequence: Sequence) -> Screen
+    ensures { result ≡ reading s sequence }
 {
     Screen {
         row: s.row,
@@ -124,7 +122,7 @@ fn reading(s: Screen, q: Sequence) -> Screen
         top: s.top,
         bottom: s.bottom,
         asked: s.asked,
-        sequence: q,
+        sequence,
     }
 }
 
@@ -156,18 +154,11 @@ fn controlled(s: Screen, b: u8) -> Screen
 fn backward(s: Screen) -> Screen
     ensures { result ≡ backward s }
 {
-    let row = s.row;
-    let column = s.column;
-    let first = first_line(s.top);
-    let last = last_line(s.bottom);
-    if 0 < column {
-        return at(s, row, column - 1);
+    if 0 < s.column {
+        return at(s, s.row, s.column - 1);
     }
     if s.wraps {
-        if first < row {
-            return at(s, row - 1, 79);
-        }
-        return at(s, last, 79);
+        return at(s, up_row(s.row, false, s.top, s.bottom), 79);
     }
     s
 }
@@ -250,12 +241,12 @@ fn modes(s: Screen, scrolls: bool, wraps: bool, asked: bool) -> Screen
     Screen {
         row: s.row,
         column: s.column,
-        scrolls: scrolls,
-        wraps: wraps,
+        scrolls,
+        wraps,
         top: s.top,
         bottom: s.bottom,
-        asked: asked,
-        sequence: sequence,
+        asked,
+        sequence,
     }
 }
 
@@ -280,10 +271,10 @@ fn protected(s: Screen, top: bool, bottom: bool) -> Screen
         column: s.column,
         scrolls: s.scrolls,
         wraps: s.wraps,
-        top: top,
-        bottom: bottom,
+        top,
+        bottom,
         asked: s.asked,
-        sequence: sequence,
+        sequence,
     }
 }
 
@@ -291,24 +282,14 @@ fn protected(s: Screen, top: bool, bottom: bool) -> Screen
 fn nearest(top: bool, bottom: bool, row: u8) -> u8
     ensures { result ≡ cond (ltb row (cond top 1 0)) (cond top 1 0) (cond (ltb (cond bottom 22 23) row) (cond bottom 22 23) row) }
 {
-    let first = first_line(top);
-    let last = last_line(bottom);
-    if row < first {
-        return first;
-    }
-    if last < row {
-        return last;
-    }
-    row
+    row.clamp(first_line(top), last_line(bottom))
 }
 
 fn placed(s: Screen, row: u8, column: u8) -> Screen
     ensures { result ≡ placed s row column }
 {
-    if row < 24 {
-        if column < 80 {
-            return at(s, nearest(s.top, s.bottom, row), column);
-        }
+    if row < 24 && column < 80 {
+        return at(s, nearest(s.top, s.bottom, row), column);
     }
     at(s, s.row, s.column)
 }
@@ -327,15 +308,9 @@ fn skipped(s: Screen, b: u8) -> u8
 {
     let n = lines(s.top, s.bottom);
     match b {
-        0x36 => n,
-        0x37 => n,
-        0x2E => 1,
-        0x47 => 1,
+        0x36 | 0x37 | 0x4B | 0x4C => n,
+        0x2E | 0x43 | 0x47 | 0x50 => 1,
         0x42 => 9,
-        0x43 => 1,
-        0x4B => n,
-        0x4C => n,
-        0x50 => 1,
         0x53 => 2,
         _ => 0,
     }
@@ -344,18 +319,15 @@ fn skipped(s: Screen, b: u8) -> u8
 fn skipping(n: u8) -> Sequence
     ensures { result ≡ skipping n }
 {
-    if n == 0 {
-        return Sequence::Plain;
+    match n {
+        0 => Sequence::Plain,
+        _ => Sequence::Skips(n),
     }
-    Sequence::Skips(n)
 }
 
 // What is read behind one argument of n.
 fn after_one(n: u8) -> Sequence
     ensures { result ≡ skipping (n - 1) }
 {
-    if 0 < n {
-        return skipping(n - 1);
-    }
-    Sequence::Plain
+    skipping(n.saturating_sub(1))
 }

@@ -12,7 +12,7 @@ use queue::Queue;
 use screen::Screen;
 
 // What an open unit is open for.
-#[derive(Clone, Copy)]
+#[derive(Clone, Copy, Debug, PartialEq, Eq)]
 pub enum Mode {
     Input,
     Output,
@@ -20,7 +20,7 @@ pub enum Mode {
 }
 
 // Closed, or open for a mode with an accepted length.
-#[derive(Clone, Copy)]
+#[derive(Clone, Copy, Debug, PartialEq, Eq)]
 pub enum Opening {
     Closed,
     OpenFor(Mode, u8),
@@ -86,16 +86,13 @@ impl Serial {
     pub fn new() -> Serial
         ensures { result ≡ new_serial }
     {
-        let input = Queue::new();
-        let output = Queue::new();
-        let screen = Screen::new();
         Serial {
             opening: Opening::Closed,
             enabled: false,
             requesting: false,
-            input,
-            output,
-            screen,
+            input: Queue::new(),
+            output: Queue::new(),
+            screen: Screen::new(),
         }
     }
 
@@ -122,9 +119,7 @@ impl Serial {
         ensures { result ≡ finished self r }
     {
         match r {
-            Reply::Silent => self,
-            Reply::Status(_) => self,
-            Reply::Opened(_) => self,
+            Reply::Silent | Reply::Status(_) | Reply::Opened(_) => self,
             Reply::Bytes(n) => shortened(self, n),
             Reply::Address(_, _, _) => addressed(self),
             Reply::Polled => heard(self),
@@ -135,70 +130,58 @@ impl Serial {
 fn opened(s: Serial, m: Mode, accepted: u8) -> Serial
     ensures { result ≡ applied s (Effect.Opens m accepted) [] }
 {
-    let input = s.input;
-    let output = s.output;
-    let screen = s.screen;
     Serial {
         opening: Opening::OpenFor(m, accepted),
-        enabled: s.enabled,
-        requesting: s.requesting,
-        input,
-        output,
-        screen,
+        ..s
     }
 }
 
 fn closed(s: Serial) -> Serial
     ensures { result ≡ applied s Effect.Closes [] }
 {
-    let input = Queue::new();
-    let output = s.output;
-    let screen = s.screen;
     Serial {
         opening: Opening::Closed,
         enabled: false,
         requesting: false,
-        input,
-        output,
-        screen,
+        input: Queue::new(),
+        ..s
     }
 }
 
 fn enabled(s: Serial) -> Serial
     ensures { result ≡ applied s Effect.Enables [] }
 {
-    let mut t = s;
-    t.enabled = true;
-    t
+    Serial { enabled: true, ..s }
 }
 
 fn disabled(s: Serial) -> Serial
     ensures { result ≡ applied s Effect.Disables [] }
 {
-    let mut t = s;
-    t.enabled = false;
-    t.requesting = false;
-    t
+    Serial {
+        enabled: false,
+        requesting: false,
+        ..s
+    }
 }
 
 fn stored(s: Serial, data: &[u8], output: &mut [u8]) -> Serial
     ensures { (result ≡ applied s Effect.Stores «data».now) × (output.new ≡ output_after s Effect.Stores «data».now output.old) }
 {
-    let q = s.output;
-    let longer = q.push_all(output, data);
-    let mut t = s;
-    t.output = longer;
-    t
+    let longer = s.output.push_all(output, data);
+    Serial {
+        output: longer,
+        ..s
+    }
 }
 
 fn opened_screen(s: Serial, m: Mode, accepted: u8, output: &mut [u8]) -> Serial
     ensures { (result ≡ applied s (Effect.OpensScreen m accepted) []) × (output.new ≡ output_after s (Effect.OpensScreen m accepted) [] output.old) }
 {
     text::clear(output);
-    let mut t = opened(s, m, accepted);
-    let blank = Screen::new();
-    t.screen = blank;
-    t
+    Serial {
+        screen: Screen::new(),
+        ..opened(s, m, accepted)
+    }
 }
 
 fn reset_screen(output: &mut [u8]) -> Serial
@@ -212,37 +195,34 @@ fn shown(s: Serial, data: &[u8], output: &mut [u8]) -> Serial
     ensures { (result ≡ applied s Effect.Shows «data».now) × (output.new ≡ output_after s Effect.Shows «data».now output.old) }
 {
     let next = text::show(s.screen, data, output);
-    let mut t = s;
-    t.screen = next;
-    t
+    Serial { screen: next, ..s }
 }
 
 fn addressed(s: Serial) -> Serial
     ensures { result ≡ finished s (Reply.Address 0 0 0) }
 {
-    let screen = s.screen;
-    let answered = screen.answered();
-    let mut t = s;
-    t.screen = answered;
-    t
+    Serial {
+        screen: s.screen.answered(),
+        ..s
+    }
 }
 
 fn shortened(s: Serial, n: u16) -> Serial
     ensures { result ≡ finished s (Reply.Bytes n) }
 {
-    let q = s.input;
-    let rest = q.drop(n as usize);
-    let mut t = s;
-    t.input = rest;
-    t
+    Serial {
+        input: s.input.drop(usize::from(n)),
+        ..s
+    }
 }
 
 fn heard(s: Serial) -> Serial
     ensures { result ≡ finished s Reply.Polled }
 {
-    let mut t = s;
-    t.requesting = false;
-    t
+    Serial {
+        requesting: false,
+        ..s
+    }
 }
 
 // A reply with an effect.
@@ -263,11 +243,8 @@ pub fn status(number: u8) -> Verdict
 pub fn poll(s: Serial) -> Verdict
     ensures { result ≡ poll_by s.enabled s.requesting }
 {
-    if s.enabled {
-        if s.requesting {
-            return says(Reply::Polled, Effect::Keeps);
-        }
-        return status(0x0A);
+    if s.enabled && s.requesting {
+        return says(Reply::Polled, Effect::Keeps);
     }
     status(0x0A)
 }

@@ -54,7 +54,7 @@ pub struct Doing {
 }
 
 // The number of a refusal (document 01).
-pub type Refusal = u8;
+pub type Refusal = u32;
 
 // What an act has come to.
 #[derive(Clone, Copy)]
@@ -113,8 +113,6 @@ pub struct Store {
     // The answers of stand-ins, and what these have heard.
     pub answers: [[u8; 1024]; 4],
     pub heard: [[u8; 1024]; 4],
-    // The strip of a picture: the marks of the lines, and who pulls.
-    pub strip: [u8; 192],
     // Bytes that were taken.
     pub taken: [u8; 256],
     // The entries of the ring, two bytes each: a code and a mark.
@@ -130,7 +128,6 @@ impl Store {
             command: [0; MOST],
             answers: [[0; 1024]; 4],
             heard: [[0; 1024]; 4],
-            strip: [0; 192],
             taken: [0; 256],
             ring: [0; 32],
             marks: [0; 22],

@@ -2,7 +2,7 @@
 -- 22 raises one, with k = 2 units ahead of it. The first service frame is 20's turn, a null message; the second polls 21. Only the third, the
 -- (k+1)th, is the turn of 22. On the way 20 leaves the ring and 23 joins it. In one run, on demand 2's bus, 21 answers its poll. In the other
 -- 21 is unplugged, and its poll times out.
-use Rattle.std.specs.Prelude.{ℕ, zero, suc, ◌≤◌, ◌≡◌, refl, Bool, true, false, List, [], ◌∷◌, ◌++◌, get_or}
+use Rattle.std.specs.Prelude.{ℕ, zero, suc, ◌≤◌, ◌≡◌, refl, Bool, true, false, List, [], ◌∷◌, ◌++◌, get_or, Option, Some, None}
 use Rattle.bus.specs.declared.Station.{Station}
 use Rattle.controller.specs.Calls.{stepping}
 use Rattle.controller.specs.Controller.{frame_of}
@@ -14,7 +14,6 @@ use Rattle.delivery.specs.Run.{QuietStart, Run, start}
 use Rattle.delivery.specs.World.{World}
 use Rattle.frame.specs.Frame.{poll_of, null_frame}
 use Rattle.frame.specs.declared.End.{End}
-use Rattle.frame.specs.declared.End.TheVariants.{NotYet, Over}
 use Rattle.frame.specs.declared.Frame.{Frame}
 use Rattle.inside.specs.Calls.{raises}
 use Rattle.kind.specs.Kinds.{kind_of}
@@ -97,9 +96,9 @@ pub record Ended : Type 0 where
 abbrev pub ended : ℕ → ℕ → ℕ → Ended
 ended device command status = record { device = device; command = command; status = status }
 
-abbrev pub ended_by : End → List Ended
-ended_by NotYet = []
-ended_by (Over f status count) = ended f.command.device f.command.command status ∷ []
+abbrev pub ended_by : Option End → List Ended
+ended_by None = []
+ended_by (Some end) = ended end.frame.command.device end.frame.command.command end.status ∷ []
 
 abbrev pub ended_now : Controller → Move → List Ended
 ended_now c (steps seen busy lent response) = kept (stepping c seen busy lent response) (ended_by (frame_of c seen busy lent).end) []

@@ -5,18 +5,17 @@ ghost use Rattle.screen.specs.Cells.{erased, closed_up, opened_up, fed_cells, up
 
 use screen::{Screen, Sequence};
 
-// What a byte makes of a screen's cells. Arguments show nothing.
+// What a byte makes of a screen's cells. Arguments show nothing. What is required here and below is no invariant of a type: a `Screen` may be
+// one whose cursor is where none can be (`text::show` answers for those too), and a struct that lends cells beside it would have to be taken
+// apart and made again at each call.
 pub(crate) fn draw(s: Screen, b: u8, cells: &mut [u8])
     requires { On s × (1920 ≤ length cells.old) }
     ensures { cells.new ≡ cells_with s b cells.old }
 {
-    let sequence = s.sequence;
-    match sequence {
+    match s.sequence {
         Sequence::Plain => unescaped(s, b, cells),
         Sequence::Escape => commanded(s, b, cells),
-        Sequence::Row => {}
-        Sequence::Column(_) => {}
-        Sequence::Skips(_) => {}
+        Sequence::Row | Sequence::Column(_) | Sequence::Skips(_) => {}
     }
 }
 
@@ -123,11 +122,7 @@ pub(crate) fn erase(cells: &mut [u8], from: usize, n: usize)
     requires { from + n ≤ length cells.old }
     ensures { cells.new ≡ erased from n cells.old }
 {
-    let mut i = 0;
-    while i < n {
-        cells[from + i] = 0x20;
-        i += 1;
-    }
+    cells[from..from + n].fill(0x20);
 }
 
 // n cells from a place on, closed up by g.
@@ -135,14 +130,8 @@ fn close_up(cells: &mut [u8], from: usize, n: usize, g: usize)
     requires { (from + n ≤ length cells.old) × (g ≤ n) }
     ensures { cells.new ≡ closed_up from n g cells.old }
 {
-    let kept = n - g;
-    let behind = from + g;
-    let mut i = 0;
-    while i < kept {
-        cells[from + i] = cells[behind + i];
-        i += 1;
-    }
-    erase(cells, from + kept, g);
+    cells.copy_within(from + g..from + n, from);
+    erase(cells, from + (n - g), g);
 }
 
 // n cells from a place on, opened up by g.
@@ -150,11 +139,6 @@ fn open_up(cells: &mut [u8], from: usize, n: usize, g: usize)
     requires { (from + n ≤ length cells.old) × (g ≤ n) }
     ensures { cells.new ≡ opened_up from n g cells.old }
 {
-    let behind = from + g;
-    let mut i = n - g;
-    while 0 < i {
-        i -= 1;
-        cells[behind + i] = cells[from + i];
-    }
+    cells.copy_within(from..from + (n - g), from + g);
     erase(cells, from, g);
 }

@@ -20,12 +20,14 @@ pub const CELLS: usize = 1920;
 pub fn show(s: Screen, text: &[u8], cells: &mut [u8]) -> Screen
     ensures { (result ≡ with_text s text.now) × (cells.new ≡ cells_after s text.now cells.old) }
 {
+    // The place in the text is counted by hand, as a turn takes as many bytes as a run puts. With the rest of it as a slice in the place of i, here
+    // and in `run`, a text of set cursors took an eighth more instructions.
     let draws = is_drawn(s, cells.len());
     let mut after = s;
     let mut i = 0;
     while i < text.len() {
         let n = run(draws, after, text, i, cells);
-        after.column = after.column + n as u8;
+        after.column += n as u8;
         i += n;
         if text.len() <= i {
             return after;
@@ -51,14 +53,10 @@ pub fn clear(cells: &mut [u8])
 fn is_drawn(s: Screen, n: usize) -> bool
     ensures { result ≡ (is_on s && leb 1920 n) }
 {
-    if screen::first_line(s.top) <= s.row {
-        if s.row <= screen::last_line(s.bottom) {
-            if s.column < 80 {
-                return CELLS <= n;
-            }
-        }
-    }
-    false
+    screen::first_line(s.top) <= s.row
+        && s.row <= screen::last_line(s.bottom)
+        && s.column < 80
+        && CELLS <= n
 }
 
 // The characters from byte i of a text on that stay within the cursor's line, put into the cells at once: how many they are. None where
@@ -94,18 +92,14 @@ fn put(text: &[u8], i: usize, cells: &mut [u8], place: usize, most: usize) -> us
     ensures upper_bound { (result ≤ most) × ((i + result ≤ length text.now) × ((k : ℕ) → k < result → 0x20 ≤ get_or text.now (i + k) 0)) }
     ensures cells_after { cells.new ≡ paste cells.old place (drop i text.now) result }
 {
-    let left = text.len() - i;
-    let end = if most < left { most } else { left };
-    let mut n = 0;
-    while n < end {
-        let b = text[i + n];
-        if b < 0x20 {
+    let end = most.min(text.len() - i);
+    for (n, b) in text[i..i + end].iter().enumerate() {
+        if *b < 0x20 {
             return n;
         }
-        cells[place + n] = b;
-        n += 1;
+        cells[place + n] = *b;
     }
-    n
+    end
 }
 
 // How many characters stay within the cursor's line: none while a sequence is being read, nor where the first byte is a control code.
@@ -113,11 +107,10 @@ fn room(s: Screen, b: u8) -> usize
     requires { s.column < 80 }
     ensures { (s.column + result < 80) × (0 < result → s.sequence ≡ Sequence.Plain) }
 {
-    let sequence = s.sequence;
-    if let Sequence::Plain = sequence {
-        if 0x20 <= b {
-            return 79 - s.column as usize;
-        }
+    if let Sequence::Plain = s.sequence
+        && 0x20 <= b
+    {
+        return 79 - s.column as usize;
     }
     0
 }

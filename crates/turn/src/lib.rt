@@ -10,7 +10,7 @@ use header::Command;
 use ring::{Entry, Ring};
 
 // What the application is told of a round.
-#[derive(Clone, Copy)]
+#[derive(Clone, Copy, Debug, PartialEq, Eq)]
 pub enum Event {
     Nothing,
     // Its command ended with a status; so many data bytes stand at the front of the response buffer.
@@ -24,37 +24,34 @@ pub fn frame_of(e: Entry) -> Frame
     ensures { result ≡ turn_of e }
 {
     if e.marked {
-        return frame::null();
+        frame::null()
+    } else {
+        frame::poll(e.code)
     }
-    frame::poll(e.code)
 }
 
 // The ring after a frame that ended with a status.
 pub fn ring_after(ring: Ring, f: Frame, status: u8) -> Ring
     ensures { result ≡ ring_ended ring f status }
 {
-    let kind = f.kind;
-    let k = f.command;
-    let is_good = status == 0x00;
-    if is_good {
-        return match kind {
-            Kind::Submitted => ring_with(ring, k),
-            Kind::Poll => ring.with_mark(k.device, true),
-            Kind::Null => ring,
-        };
+    if status != 0x00 {
+        return ring;
     }
-    ring
+    let k = f.command;
+    match f.kind {
+        Kind::Submitted => ring_with(ring, k),
+        Kind::Poll => ring.with_mark(k.device, true),
+        Kind::Null => ring,
+    }
 }
 
 // What the application is told of a frame that ended with a status, and so many data bytes in the response buffer.
 pub fn event_of(f: Frame, status: u8, count: u16) -> Event
     ensures { result ≡ event_of f status count }
 {
-    let kind = f.kind;
-    let k = f.command;
-    match kind {
+    match f.kind {
         Kind::Submitted => Event::Ended(status, count),
-        Kind::Poll => handed(k.device, status),
+        Kind::Poll => handed(f.command.device, status),
         Kind::Null => Event::Nothing,
     }
 }
@@ -62,28 +59,20 @@ pub fn event_of(f: Frame, status: u8, count: u16) -> Event
 fn ring_with(ring: Ring, k: Command) -> Ring
     ensures { result ≡ ring_with ring k }
 {
-    let enables = k.command == 0x08;
-    if enables {
-        return ring.joined(k.device);
+    match k.command {
+        0x08 => ring.joined(k.device),
+        0x09 | 0x01 => ring.removed(k.device),
+        _ => ring,
     }
-    let disables = k.command == 0x09;
-    if disables {
-        return ring.removed(k.device);
-    }
-    let closes = k.command == 0x01;
-    if closes {
-        return ring.removed(k.device);
-    }
-    ring
 }
 
 // A poll that ends with 00 hands its code to the application.
 fn handed(code: u8, status: u8) -> Event
     ensures { result ≡ handed code status }
 {
-    let is_held = status == 0x00;
-    if is_held {
-        return Event::Handed(code);
+    if status == 0x00 {
+        Event::Handed(code)
+    } else {
+        Event::Nothing
     }
-    Event::Nothing
 }

@@ -4,7 +4,7 @@
 
 ghost use Rattle.std.specs.Prelude.{◌≡◌, ◌&&◌, not, ◌+◌, min};
 ghost use Rattle.unit.specs.Unit.{pulls_hsk, pulls_nibble, pulls_of, low_step, high_step, unit_step, unit_buffer, unit_output, asks};
-ghost use Rattle.unit.specs.Calls.{stepping, buffer_after, output_after, stepped};
+ghost use Rattle.unit.specs.Calls.{stepping, buffer_after, output_after, stepped, number};
 
 use line::Lines;
 use phase::{Moved, Phase};
@@ -23,14 +23,24 @@ pub struct Unit {
     pub serial: Serial,
 }
 
-// What a step comes to.
-#[derive(Clone, Copy)]
-pub enum Stepped {
-    On(Unit),
+// Why a step is refused.
+#[derive(Clone, Copy, Debug, PartialEq, Eq)]
+pub enum StepError {
     // Refusal 5: nibble level over 15.
     Level,
     // Refusal 11: lent memory is too short.
     Buffer,
+}
+
+impl From<StepError> for u32 {
+    ghost from_gives = { λ e n. n ≡ number e };
+
+    fn from(e: StepError) -> u32 {
+        match e {
+            StepError::Level => 5,
+            StepError::Buffer => 11,
+        }
+    }
 }
 
 // A round: the levels that it sees, whether its host is busy, the lent command buffer, the bytes of its input queue, and the memory for what
@@ -42,27 +52,26 @@ pub fn step(
     buffer: &mut [u8],
     input: &[u8; 256],
     output: &mut [u8],
-) -> Stepped
+) -> Result<Unit, StepError>
     ensures { (stepped result ≡ stepping u seen busy buffer.old input.now output.old) × ((buffer.new ≡ buffer_after u seen busy buffer.old input.now output.old) × (output.new ≡ output_after u seen busy buffer.old input.now output.old)) }
 {
     if 15 < seen.nibble {
-        return Stepped::Level;
+        return Err(StepError::Level);
     }
     if kind::is_short(kind::kind_of(u.own), buffer.len(), output.len()) {
-        return Stepped::Buffer;
+        return Err(StepError::Buffer);
     }
-    Stepped::On(round(u, seen, busy, buffer, input, output))
+    Ok(round(u, seen, busy, buffer, input, output))
 }
 
 // What it pulls after its last step.
 pub fn pulls(u: Unit) -> Lines
     ensures { result ≡ pulls_of u }
 {
-    let phase = u.phase;
     Lines {
         bav: u.asking,
-        hsk: pulls_hsk(phase),
-        nibble: pulls_nibble(phase),
+        hsk: pulls_hsk(u.phase),
+        nibble: pulls_nibble(u.phase),
     }
 }
 
@@ -76,10 +85,8 @@ fn round(
 ) -> Unit
     ensures { (result ≡ unit_step u seen busy buffer.old input.now) × ((buffer.new ≡ unit_buffer u seen buffer.old) × (output.new ≡ unit_output u seen buffer.old output.old)) }
 {
-    let phase = u.phase;
-    let serial = u.serial;
     if seen.bav {
-        let m = phase::step(phase, u.own, serial, seen, busy, buffer, input, output);
+        let m = phase::step(u.phase, u.own, u.serial, seen, busy, buffer, input, output);
         return lowered(u, seen.hsk, m);
     }
     dropped(u, seen.hsk)
@@ -89,16 +96,12 @@ fn round(
 fn lowered(u: Unit, hsk: bool, m: Moved) -> Unit
     ensures { result ≡ low_step u hsk m }
 {
-    let phase = m.phase;
-    let serial = m.serial;
-    let asking = still_asks(u.asking, hsk);
     Unit {
-        own: u.own,
-        retry: u.retry,
         quiet: 0,
-        asking,
-        phase,
-        serial,
+        asking: still_asks(u.asking, hsk),
+        phase: m.phase,
+        serial: m.serial,
+        ..u
     }
 }
 
@@ -106,13 +109,7 @@ fn lowered(u: Unit, hsk: bool, m: Moved) -> Unit
 pub fn still_asks(asking: bool, hsk: bool) -> bool
     ensures { result ≡ asking && not hsk }
 {
-    if asking {
-        if hsk {
-            return false;
-        }
-        return true;
-    }
-    false
+    asking && !hsk
 }
 
 // After a round with BAV seen high: the message is dropped.
@@ -130,12 +127,10 @@ fn dropped(u: Unit, hsk: bool) -> Unit
         hsk,
     );
     Unit {
-        own: u.own,
-        retry: u.retry,
         quiet,
         asking,
         phase: Phase::Idle,
-        serial,
+        ..u
     }
 }
 
@@ -173,8 +168,7 @@ fn pulls_hsk(phase: Phase) -> bool
 {
     match phase {
         Phase::Idle => false,
-        Phase::Selecting(ear, _, _) => ear.hsk(),
-        Phase::Receiving(ear, _) => ear.hsk(),
+        Phase::Selecting(ear, _, _) | Phase::Receiving(ear, _) => ear.hsk(),
         Phase::Responding(_, _, sender, _) => sender.hsk(),
         Phase::SittingOut(last) => last,
     }
@@ -184,10 +178,8 @@ fn pulls_nibble(phase: Phase) -> u8
     ensures { result ≡ pulls_nibble phase }
 {
     match phase {
-        Phase::Idle => 15,
-        Phase::Selecting(_, _, _) => 15,
-        Phase::Receiving(_, _) => 15,
         Phase::Responding(_, _, sender, _) => sender.nibble(),
-        Phase::SittingOut(_) => 15,
+        Phase::Selecting(_, _, _) | Phase::Receiving(_, _) | Phase::SittingOut(_) => 15,
+        Phase::Idle => 15,
     }
 }

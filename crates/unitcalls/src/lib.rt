@@ -4,12 +4,11 @@
 
 ghost use Rattle.std.specs.Prelude.{◌≡◌, IfErr};
 
-use host::{Fed, Made, Raised, Taken};
 use phase::Phase;
 use screen::{Screen, Sequence};
 use serial::{Mode, Opening};
 use statement::{Doing, Form, Refusal, Statement, Store, Told, Value, Values};
-use unit::{Stepped, Unit};
+use unit::Unit;
 
 // What the statement says of the unit that acts, at the levels that it names, with the unit's memory; what this comes to. In a run its host
 // raises a request by itself.
@@ -47,7 +46,7 @@ pub fn make(values: &Values) -> Result<Unit, Refusal>
 {
     let own = (values.number_or(0, 0) % 256) as u8;
     let retry = (values.number_or(1, 20) % 4294967296) as u32;
-    made(host::make(own, retry))
+    Ok(host::make(own, retry)?)
 }
 
 // What an expectation finds of a unit: its screen, what it pulls, its phase, its queues, or all that its host may look at.
@@ -80,15 +79,6 @@ pub fn looks(u: &Unit, form: Option<Form>) -> Values {
     found
 }
 
-fn made(made: Made) -> Result<Unit, Refusal>
-    ensures { IfErr result (λ e. e ≡ 5) }
-{
-    match made {
-        Made::New(u) => Ok(u),
-        Made::Setting => Err(5),
-    }
-}
-
 // The parts of a unit's memory: command buffer, input queue, and what is written to it, a queue or the cells of a screen.
 #[derive(Drop)]
 struct Parts<'a> {
@@ -113,11 +103,7 @@ fn feed(u: &mut Unit, bytes: &[u8], memory: &mut [u8]) -> Result<(), Refusal> {
         return Ok(());
     };
     for b in bytes {
-        match host::feed(*u, parts.input, *b) {
-            Fed::Queued(v) => *u = v,
-            Fed::Full => return Err(6),
-            Fed::NotOpen => return Err(7),
-        }
+        *u = host::feed(*u, parts.input, *b)?;
     }
     Ok(())
 }
@@ -132,14 +118,12 @@ fn take(u: &mut Unit, most: u64, store: &mut Store, memory: &mut [u8]) -> usize 
         return n;
     };
     for place in store.taken.iter_mut().take(most as usize) {
-        match host::take(*u, output) {
-            Taken::Byte(b, v) => {
-                *place = b;
-                *u = v;
-                n = n.saturating_add(1);
-            }
-            Taken::Nothing => return n,
-        }
+        let Some((b, v)) = host::take(*u, output) else {
+            return n;
+        };
+        *place = b;
+        *u = v;
+        n = n.saturating_add(1);
     }
     n
 }
@@ -147,7 +131,7 @@ fn take(u: &mut Unit, most: u64, store: &mut Store, memory: &mut [u8]) -> usize 
 // It raises a request. Raising again changes nothing.
 fn raise(u: &mut Unit) -> Told {
     match host::raise(*u) {
-        Raised::Held(v) => {
+        Ok(v) => {
             let is_held = u.serial.requesting;
             *u = v;
             if is_held {
@@ -156,14 +140,14 @@ fn raise(u: &mut Unit) -> Told {
                 Told::Raised
             }
         }
-        Raised::NotEnabled => Told::Called(Err(7)),
+        Err(e) => Told::Called(Err(u32::from(e))),
     }
 }
 
 // It is switched off and on: new, with the settings that it had, its memory EE.
 fn restart(u: &mut Unit, memory: &mut [u8]) -> Result<(), Refusal> {
     memory.fill(0xEE);
-    *u = made(host::make(u.own, u.retry as u32))?;
+    *u = host::make(u.own, u.retry as u32)?;
     Ok(())
 }
 
@@ -182,18 +166,14 @@ fn step(u: &mut Unit, values: &Values, doing: &Doing, memory: &mut [u8]) -> Resu
     let lent = values.number_or(6, 65535) as usize;
     let buffer = &mut buffer[..lent.min(256)];
     let n = lent.min(output.len());
-    match unit::step(
+    *u = unit::step(
         *u,
         doing.seen,
         values.has(4),
         buffer,
         input,
         &mut output[..n],
-    ) {
-        Stepped::On(v) => *u = v,
-        Stepped::Level => return Err(5),
-        Stepped::Buffer => return Err(11),
-    }
+    )?;
     Ok(())
 }
 

@@ -49,39 +49,21 @@ pub fn pulls(words: &Words) -> Lines
 fn pulls_hsk(words: &Words) -> bool
     ensures { result ≡ pulls_hsk (loaded_phase words.now) }
 {
-    let tag = words[PHASE];
-    let selects = tag == 1;
-    if selects {
-        return words::listener(words[EAR]).hsk();
+    match words[PHASE] {
+        1..=3 => words::listener(words[EAR]).hsk(),
+        4 => words::sender(words[SENDER], words[NIBBLE]).hsk(),
+        5 => words::flag(words[LAST]),
+        _ => false,
     }
-    let takes = tag == 2;
-    if takes {
-        return words::listener(words[EAR]).hsk();
-    }
-    let has_answered = tag == 3;
-    if has_answered {
-        return words::listener(words[EAR]).hsk();
-    }
-    let responds = tag == 4;
-    if responds {
-        return words::sender(words[SENDER], words[NIBBLE]).hsk();
-    }
-    let sits_out = tag == 5;
-    if sits_out {
-        return words::flag(words[LAST]);
-    }
-    false
 }
 
 fn pulls_nibble(words: &Words) -> u8
     ensures { result ≡ pulls_nibble (loaded_phase words.now) }
 {
-    let tag = words[PHASE];
-    let responds = tag == 4;
-    if responds {
-        return words::sender(words[SENDER], words[NIBBLE]).nibble();
+    match words[PHASE] {
+        4 => words::sender(words[SENDER], words[NIBBLE]).nibble(),
+        _ => 15,
     }
-    15
 }
 
 // BAV seen high: only the row, the pull of BAV and the phase change.
@@ -134,33 +116,14 @@ fn phase(
 )
     ensures { Moves words.old seen busy buffer.old input.now output.old words.new buffer.new output.new }
 {
-    let tag = words[PHASE];
-    let selects = tag == 1;
-    if selects {
-        selecting(words, seen, busy);
-        return;
+    match words[PHASE] {
+        1 => selecting(words, seen, busy),
+        2 => taking(words, seen, busy, buffer, output),
+        3 => answered(words, seen.hsk, busy),
+        4 => responding(words, seen.hsk, input),
+        5 => words[LAST] = words::with_flag(words[LAST], false),
+        _ => leave(words, seen.hsk, 0),
     }
-    let takes = tag == 2;
-    if takes {
-        taking(words, seen, busy, buffer, output);
-        return;
-    }
-    let has_answered = tag == 3;
-    if has_answered {
-        answered(words, seen.hsk, busy);
-        return;
-    }
-    let responds = tag == 4;
-    if responds {
-        responding(words, seen.hsk, input);
-        return;
-    }
-    let sits_out = tag == 5;
-    if sits_out {
-        words[LAST] = words::with_flag(words[LAST], false);
-        return;
-    }
-    leave(words, seen.hsk, 0);
 }
 
 // The phase that stands in the words is left: idle at BAV low, selecting with a code, receiving and responding after their last nibble.
@@ -168,27 +131,22 @@ fn phase(
 fn leave(words: &mut Words, hsk: bool, code: u8)
     ensures { words.new ≡ leaves words.old hsk code }
 {
-    let tag = words[PHASE];
-    let selects = tag == 1;
-    if selects {
-        let own = words::number8(words[OWN]);
-        unitwords::save_phase(words, phase::select(own, code));
-        return;
+    match words[PHASE] {
+        1 => {
+            let own = words::number8(words[OWN]);
+            unitwords::save_phase(words, phase::select(own, code));
+        }
+        3 => {
+            let reply = unitwords::reply(words[REPLY], words[VALUE]);
+            unitwords::save_phase(words, phase::replied(reply));
+        }
+        4 => {
+            let sent = unitwords::reply(words[REPLY], words[VALUE]);
+            let serial = unitwords::load_serial(words);
+            unitwords::save_moved(words, phase::done(serial, sent));
+        }
+        _ => unitwords::save_phase(words, phase::idle(hsk)),
     }
-    let has_answered = tag == 3;
-    if has_answered {
-        let reply = unitwords::reply(words[REPLY], words[VALUE]);
-        unitwords::save_phase(words, phase::replied(reply));
-        return;
-    }
-    let responds = tag == 4;
-    if responds {
-        let sent = unitwords::reply(words[REPLY], words[VALUE]);
-        let serial = unitwords::load_serial(words);
-        unitwords::save_moved(words, phase::done(serial, sent));
-        return;
-    }
-    unitwords::save_phase(words, phase::idle(hsk));
 }
 
 fn selecting(words: &mut Words, seen: Lines, busy: bool)
@@ -298,24 +256,20 @@ fn responding(words: &mut Words, hsk: bool, input: &[u8; 256])
         words[WAIT] = words::with_flag(words[WAIT], false);
         return;
     }
-    let tag = words[SENDER];
-    let placed = tag == 1;
-    if placed {
-        words[SENDER] = 2;
-        return;
-    }
-    let kept = tag == 2;
-    if kept {
-        if hsk {
-            return;
+    match words[SENDER] {
+        1 => words[SENDER] = 2,
+        2 => {
+            if !hsk {
+                sent(words);
+            }
         }
-        sent(words);
-        return;
+        _ => {
+            let n = nibble(words, input);
+            let word = words::with8(words[NIBBLE], n);
+            words[SENDER] = 1;
+            words[NIBBLE] = word;
+        }
     }
-    let n = nibble(words, input);
-    let word = words::with8(words[NIBBLE], n);
-    words[SENDER] = 1;
-    words[NIBBLE] = word;
 }
 
 // The nibble is sent: on to the next, or what waited for the last happens.

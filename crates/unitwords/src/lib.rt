@@ -111,15 +111,13 @@ pub const ARGUMENT: usize = 31;
 pub fn load(words: &Words) -> Unit
     ensures { result ≡ loaded words.now }
 {
-    let phase = load_phase(words);
-    let serial = load_serial(words);
     Unit {
         own: words::number8(words[OWN]),
         retry: words::number16(words[RETRY]),
         quiet: words::number16(words[QUIET]),
         asking: words::flag(words[ASKING]),
-        phase,
-        serial,
+        phase: load_phase(words),
+        serial: load_serial(words),
     }
 }
 
@@ -127,11 +125,9 @@ pub fn load(words: &Words) -> Unit
 pub fn save(words: &mut Words, u: Unit)
     ensures { words.new ≡ saved_in words.old u }
 {
-    let serial = u.serial;
-    let phase = u.phase;
     save_settings(words, u);
-    save_serial(words, serial);
-    save_phase(words, phase);
+    save_serial(words, u.serial);
+    save_phase(words, u.phase);
 }
 
 // The unit in cleared words.
@@ -146,10 +142,8 @@ pub fn save_new(words: &mut Words, u: Unit)
 pub fn save_moved(words: &mut Words, m: Moved)
     ensures { words.new ≡ moved_in words.old m }
 {
-    let serial = m.serial;
-    let phase = m.phase;
-    save_serial(words, serial);
-    save_phase(words, phase);
+    save_serial(words, m.serial);
+    save_phase(words, m.phase);
 }
 
 // Its state besides the lines.
@@ -185,43 +179,29 @@ pub fn load_screen(words: &Words) -> Screen
 fn load_phase(words: &Words) -> Phase
     ensures { result ≡ loaded_phase words.now }
 {
-    let tag = words[PHASE];
-    let selecting = tag == 1;
-    if selecting {
-        return Phase::Selecting(
+    match words[PHASE] {
+        1 => Phase::Selecting(
             words::listener(words[EAR]),
             words::flag(words[HALF]),
             words::number8(words[LOW]),
-        );
-    }
-    let taking = tag == 2;
-    if taking {
-        return Phase::Receiving(
+        ),
+        2 => Phase::Receiving(
             words::listener(words[EAR]),
             Progress::Taking(load_partial(words)),
-        );
-    }
-    let answered = tag == 3;
-    if answered {
-        return Phase::Receiving(
+        ),
+        3 => Phase::Receiving(
             words::listener(words[EAR]),
             Progress::Answered(reply(words[REPLY], words[VALUE])),
-        );
-    }
-    let responding = tag == 4;
-    if responding {
-        return Phase::Responding(
+        ),
+        4 => Phase::Responding(
             reply(words[REPLY], words[VALUE]),
             words[NEXT],
             words::sender(words[SENDER], words[NIBBLE]),
             words::flag(words[WAIT]),
-        );
+        ),
+        5 => Phase::SittingOut(words::flag(words[LAST])),
+        _ => Phase::Idle,
     }
-    let sits_out = tag == 5;
-    if sits_out {
-        return Phase::SittingOut(words::flag(words[LAST]));
-    }
-    Phase::Idle
 }
 
 // Its phase.
@@ -302,9 +282,8 @@ fn save_settings(words: &mut Words, u: Unit)
 fn save_serial(words: &mut Words, s: Serial)
     ensures { words.new ≡ serial_in words.old s }
 {
-    let screen = s.screen;
     save_common(words, s);
-    save_screen(words, screen);
+    save_screen(words, s.screen);
 }
 
 fn save_common(words: &mut Words, s: Serial)
@@ -359,23 +338,13 @@ fn save_screen(words: &mut Words, s: Screen)
 fn sequence(tag: u32, argument: u32) -> Sequence
     ensures { result ≡ sequence_of tag argument }
 {
-    let is_escape = tag == 1;
-    if is_escape {
-        return Sequence::Escape;
+    match tag {
+        1 => Sequence::Escape,
+        2 => Sequence::Row,
+        3 => Sequence::Column(words::number8(argument)),
+        4 => Sequence::Skips(words::number8(argument)),
+        _ => Sequence::Plain,
     }
-    let is_row = tag == 2;
-    if is_row {
-        return Sequence::Row;
-    }
-    let is_column = tag == 3;
-    if is_column {
-        return Sequence::Column(words::number8(argument));
-    }
-    let skips = tag == 4;
-    if skips {
-        return Sequence::Skips(words::number8(argument));
-    }
-    Sequence::Plain
 }
 
 fn sequence_tag(q: Sequence) -> u32
@@ -394,9 +363,7 @@ fn with_argument(word: u32, q: Sequence) -> u32
     ensures { result ≡ argument_in word q }
 {
     match q {
-        Sequence::Plain => word,
-        Sequence::Escape => word,
-        Sequence::Row => word,
+        Sequence::Plain | Sequence::Escape | Sequence::Row => word,
         Sequence::Column(row) => words::with8(word, row),
         Sequence::Skips(n) => words::with8(word, n),
     }
@@ -405,20 +372,12 @@ fn with_argument(word: u32, q: Sequence) -> u32
 fn opening(word: u32, accepted: u32) -> Opening
     ensures { result ≡ opening_of word accepted }
 {
-    let how = word % 4;
-    let is_input = how == 1;
-    if is_input {
-        return Opening::OpenFor(Mode::Input, words::number8(accepted));
+    match word % 4 {
+        1 => Opening::OpenFor(Mode::Input, words::number8(accepted)),
+        2 => Opening::OpenFor(Mode::Output, words::number8(accepted)),
+        3 => Opening::OpenFor(Mode::Update, words::number8(accepted)),
+        _ => Opening::Closed,
     }
-    let is_output = how == 2;
-    if is_output {
-        return Opening::OpenFor(Mode::Output, words::number8(accepted));
-    }
-    let is_update = how == 3;
-    if is_update {
-        return Opening::OpenFor(Mode::Update, words::number8(accepted));
-    }
-    Opening::Closed
 }
 
 // Closed 0, open for input 1, output 2, update 3.
@@ -427,11 +386,9 @@ pub fn opening_number(o: Opening) -> u32
 {
     match o {
         Opening::Closed => 0,
-        Opening::OpenFor(mode, _) => match mode {
-            Mode::Input => 1,
-            Mode::Output => 2,
-            Mode::Update => 3,
-        },
+        Opening::OpenFor(Mode::Input, _) => 1,
+        Opening::OpenFor(Mode::Output, _) => 2,
+        Opening::OpenFor(Mode::Update, _) => 3,
     }
 }
 
@@ -464,27 +421,14 @@ pub fn queue(head: u32, count: u32) -> Queue
 pub fn reply(tag: u32, word: u32) -> Reply
     ensures { result ≡ reply_of tag word }
 {
-    let is_status = tag == 1;
-    if is_status {
-        return Reply::Status(words::number8(word));
+    match tag {
+        1 => Reply::Status(words::number8(word)),
+        2 => Reply::Opened(words::number8(word)),
+        3 => Reply::Bytes(words::number16(word)),
+        4 => Reply::Polled,
+        5 => address(word),
+        _ => Reply::Silent,
     }
-    let is_opened = tag == 2;
-    if is_opened {
-        return Reply::Opened(words::number8(word));
-    }
-    let is_bytes = tag == 3;
-    if is_bytes {
-        return Reply::Bytes(words::number16(word));
-    }
-    let is_polled = tag == 4;
-    if is_polled {
-        return Reply::Polled;
-    }
-    let is_address = tag == 5;
-    if is_address {
-        return address(word);
-    }
-    Reply::Silent
 }
 
 fn address(word: u32) -> Reply
@@ -521,11 +465,10 @@ fn with_value(word: u32, r: Reply) -> u32
     ensures { result ≡ value_in word r }
 {
     match r {
-        Reply::Silent => word,
+        Reply::Silent | Reply::Polled => word,
         Reply::Status(status) => words::with8(word, status),
         Reply::Opened(accepted) => words::with8(word, accepted),
         Reply::Bytes(n) => words::with16(word, n),
-        Reply::Polled => word,
         Reply::Address(n, row, column) => with_address(word, n, row, column),
     }
 }

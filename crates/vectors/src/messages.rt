@@ -1,9 +1,6 @@
 // The messages that are run, and what they come to when they are written and read.
-use command::Reading;
 use header::Command;
-use response::Reading as Answer;
 use std::fmt;
-use writer::Written;
 
 // A command of the papers, or a response with a status.
 #[derive(Clone, Copy)]
@@ -14,7 +11,7 @@ pub enum Message {
 
 // The number of a refusal.
 #[derive(Clone, Copy)]
-pub struct Refusal(pub u8);
+pub struct Refusal(pub u32);
 
 impl Message {
     // The open of source document 000, 7.1, and that of M1: they differ in their data alone.
@@ -69,27 +66,16 @@ impl Message {
             Message::Command(c) => command::write(c, data, out),
             Message::Response(status) => response::write(data, status, out),
         };
-        match written {
-            Written::Length(n) => Ok(n),
-            Written::TooLong => Err(Refusal(2)),
-            Written::NoRoom => Err(Refusal(11)),
-        }
+        written.map_err(|e| Refusal(u32::from(e)))
     }
 
     // What a slice is read as that should hold such a message.
     pub fn read(self, s: &[u8]) -> Result<Message, Refusal> {
-        match self {
-            Message::Command(_) => match command::read(s) {
-                Reading::Fields(c) => Ok(Message::Command(c)),
-                Reading::Short => Err(Refusal(9)),
-                Reading::Disagrees => Err(Refusal(10)),
-            },
-            Message::Response(_) => match response::read(s) {
-                Answer::Status(status) => Ok(Message::Response(status)),
-                Answer::Short => Err(Refusal(9)),
-                Answer::Disagrees => Err(Refusal(10)),
-            },
-        }
+        let read = match self {
+            Message::Command(_) => command::read(s).map(Message::Command),
+            Message::Response(_) => response::read(s).map(Message::Response),
+        };
+        read.map_err(|e| Refusal(u32::from(e)))
     }
 
     // The data field of such a message in a slice.

@@ -1,8 +1,8 @@
 -- 000, the display chapter, section 4: the checks of a video unit on a whole command, and what they answer. They are numbered and ordered as
 -- the serial unit's.
-use Rattle.std.specs.Prelude.{ℕ, ◌/◌, Bool, cond, ◌||◌, List, ltb, eqb}
+use Rattle.std.specs.Prelude.{ℕ, ◌/◌, Bool, cond, ◌||◌, Option, Some, None, List, ltb, eqb}
 use Rattle.header.specs.declared.Command.{Command}
-use Rattle.rs232.specs.Checks.{mode_of, accepted_of, requested_in, attributes_in, open_status, read_length}
+use Rattle.rs232.specs.Checks.{mode_of, accepted_of, requested_in, attributes_in, open_status, opened_or, read_length}
 use Rattle.screen.specs.declared.Screen.{Screen}
 use Rattle.serial.specs.declared.Effect.TheVariants.{Keeps, OpensScreen, ResetsScreen, Closes, Shows}
 use Rattle.serial.specs.declared.Effect.{Effect}
@@ -16,15 +16,14 @@ use Rattle.serial.specs.declared.Verdict.{Verdict}
 use Rattle.serial.specs.Verdict.{says, status}
 
 -- Output and update mode open it; input mode is 15, right behind append.
-abbrev pub refused_mode : ℕ → ℕ
-refused_mode attributes = cond (eqb (attributes / 64) 1) 0x15 0x00
+abbrev pub refused_mode : ℕ → Option ℕ
+refused_mode attributes = cond (eqb (attributes / 64) 1) (Some 0x15) None
 
 -- An open with n bytes of data, in a unit that is closed. Success answers as a serial unit does, and clears the screen.
 abbrev pub open_by : ℕ → ℕ → ℕ → ℕ → Verdict
 open_by buffer n requested attributes =
-    cond (eqb (open_status (refused_mode attributes) buffer n requested attributes) 0)
+    opened_or (open_status (refused_mode attributes) buffer n requested attributes)
     (says (Opened (accepted_of requested)) (OpensScreen (mode_of attributes) (accepted_of requested)))
-    (status (open_status (refused_mode attributes) buffer n requested attributes))
 
 -- Read: opened for output 0F. Else the cursor's row and column where they are asked for; where not, no data.
 abbrev pub address_by : Screen → ℕ → ℕ → Verdict

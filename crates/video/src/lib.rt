@@ -9,22 +9,19 @@ use header::Command;
 use screen::Screen;
 use serial::{Effect, Mode, Opening, Reply, Serial, Verdict};
 
-// Checks 3 to 11 on a command with n bytes of data, of which these are stored.
+// Checks 3 to 11 on a command with n bytes of data, of which these are stored. The functions below are named as those of `rs232`, which are called
+// where the two kinds are alike; a trait of both would have a member for each of the others, as what they look at and answer differs.
 pub fn check(s: Serial, c: Command, n: usize, data: &[u8]) -> Verdict
     ensures { result ≡ checked s c n «data».now }
 {
     if is_supported(c.command) {
-        let is_long = 256 < n;
-        if is_long {
+        if 256 < n {
             return serial::status(0x08);
         }
-        let is_poll = c.command == 0x0A;
-        if is_poll {
+        if c.command == 0x0A {
             return serial::status(0x0A);
         }
-        let opening = s.opening;
-        let screen = s.screen;
-        return by_command(opening, screen, c, n, data);
+        return by_command(s.opening, s.screen, c, n, data);
     }
     serial::status(0x0D)
 }
@@ -42,23 +39,7 @@ pub fn reset(opening: Opening) -> Effect
 fn is_supported(code: u8) -> bool
     ensures { result ≡ supported code }
 {
-    let is_open = code == 0x00;
-    if is_open {
-        return true;
-    }
-    let is_close = code == 0x01;
-    if is_close {
-        return true;
-    }
-    let is_read = code == 0x03;
-    if is_read {
-        return true;
-    }
-    let is_write = code == 0x04;
-    if is_write {
-        return true;
-    }
-    code == 0x0A
+    matches!(code, 0x00 | 0x01 | 0x03 | 0x04 | 0x0A)
 }
 
 fn by_command(opening: Opening, s: Screen, c: Command, n: usize, data: &[u8]) -> Verdict
@@ -73,65 +54,58 @@ fn by_command(opening: Opening, s: Screen, c: Command, n: usize, data: &[u8]) ->
 fn by_closed(c: Command, n: usize, data: &[u8]) -> Verdict
     ensures { result ≡ closed_by c n «data».now }
 {
-    let is_open = c.command == 0x00;
-    if is_open {
-        return open(
+    match c.command {
+        0x00 => open(
             c.buffer_length,
             n,
             rs232::requested(data),
             rs232::attributes(data),
-        );
+        ),
+        _ => serial::status(0x04),
     }
-    serial::status(0x04)
 }
 
 fn by_open(m: Mode, accepted: u8, s: Screen, c: Command) -> Verdict
     ensures { result ≡ opened_by m accepted s c }
 {
-    let is_open = c.command == 0x00;
-    if is_open {
-        return serial::status(0x05);
+    match c.command {
+        0x00 => serial::status(0x05),
+        0x01 => serial::says(Reply::Status(0x00), Effect::Closes),
+        0x03 => read(m, s, accepted, c.buffer_length),
+        _ => write(m),
     }
-    let is_close = c.command == 0x01;
-    if is_close {
-        return serial::says(Reply::Status(0x00), Effect::Closes);
-    }
-    let is_read = c.command == 0x03;
-    if is_read {
-        return read(m, s, accepted, c.buffer_length);
-    }
-    write(m)
 }
 
 fn open(buffer: u16, n: usize, requested: u16, attributes: u8) -> Verdict
     ensures { result ≡ open_by buffer n requested attributes }
 {
-    let refused = refused_mode(attributes);
-    let status = rs232::open_status(refused, buffer, n, requested, attributes);
-    if status == 0 {
-        let accepted = rs232::accepted_of(requested as u8);
-        return serial::says(
-            Reply::Opened(accepted),
-            Effect::OpensScreen(rs232::mode_of(attributes), accepted),
-        );
+    match rs232::open_status(refused_mode(attributes), buffer, n, requested, attributes) {
+        Ok(()) => {
+            let accepted = rs232::accepted_of(requested as u8);
+            serial::says(
+                Reply::Opened(accepted),
+                Effect::OpensScreen(rs232::mode_of(attributes), accepted),
+            )
+        }
+        Err(number) => serial::status(number),
     }
-    serial::status(status)
 }
 
-fn refused_mode(attributes: u8) -> u8
+fn refused_mode(attributes: u8) -> Option<u8>
     ensures { result ≡ refused_mode attributes }
 {
-    let is_input = attributes / 64 == 1;
-    if is_input { 0x15 } else { 0x00 }
+    match attributes / 64 {
+        1 => Some(0x15),
+        _ => None,
+    }
 }
 
 fn read(m: Mode, s: Screen, accepted: u8, buffer: u16) -> Verdict
     ensures { result ≡ read_by m s accepted buffer }
 {
     match m {
-        Mode::Input => address(s, accepted, buffer),
+        Mode::Input | Mode::Update => address(s, accepted, buffer),
         Mode::Output => serial::status(0x0F),
-        Mode::Update => address(s, accepted, buffer),
     }
 }
 
@@ -151,7 +125,6 @@ fn write(m: Mode) -> Verdict
 {
     match m {
         Mode::Input => serial::status(0x0E),
-        Mode::Output => serial::says(Reply::Status(0x00), Effect::Shows),
-        Mode::Update => serial::says(Reply::Status(0x00), Effect::Shows),
+        Mode::Output | Mode::Update => serial::says(Reply::Status(0x00), Effect::Shows),
     }
 }

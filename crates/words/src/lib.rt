@@ -45,7 +45,7 @@ pub fn flag(word: u32) -> bool
 pub fn bit(b: bool) -> u32
     ensures { (result ≡ bit b) × (result ≤ 1) }
 {
-    if b { 1 } else { 0 }
+    u32::from(b)
 }
 
 pub fn with_flag(word: u32, b: bool) -> u32
@@ -58,27 +58,18 @@ pub fn with_flag(word: u32, b: bool) -> u32
 pub fn with_tag(word: u32, cases: u32, tag: u32) -> u32
     ensures { result ≡ tag_in cases word tag }
 {
-    if word < cases {
-        let same = word == tag;
-        return if same { word } else { tag };
-    }
-    let first = 0 == tag;
-    if first { word } else { tag }
+    if word < cases || tag != 0 { tag } else { word }
 }
 
 // A listener in the word of its tag.
 pub fn listener(word: u32) -> Listener
     ensures { result ≡ listener_of word }
 {
-    let holds = word == 1;
-    if holds {
-        return Listener::Holding;
+    match word {
+        1 => Listener::Holding,
+        2 => Listener::Waiting,
+        _ => Listener::Ready,
     }
-    let waits = word == 2;
-    if waits {
-        return Listener::Waiting;
-    }
-    Listener::Ready
 }
 
 pub fn with_listener(word: u32, ear: Listener) -> u32
@@ -101,44 +92,28 @@ fn listener_tag(ear: Listener) -> u32
 pub fn takes(word: u32, low: bool) -> bool
     ensures { result ≡ taken_of (listener_of word) low }
 {
-    let holds = word == 1;
-    if holds {
-        return false;
-    }
-    let waits = word == 2;
-    if waits {
-        return false;
-    }
-    low
+    !matches!(word, 1 | 2) && low
 }
 
 pub fn heard(word: u32, low: bool, busy: bool) -> u32
     ensures { result ≡ listener_in word (hear_of (listener_of word) low busy) }
 {
-    let holds = word == 1;
-    if holds {
-        return if busy { 1 } else { 2 };
+    match word {
+        1 => if busy { 1 } else { 2 },
+        2 => if low { 2 } else { 0 },
+        _ => if low { 1 } else { word },
     }
-    let waits = word == 2;
-    if waits {
-        return if low { 2 } else { 0 };
-    }
-    if low { 1 } else { word }
 }
 
 // A sender in the word of its tag and the word of its nibble.
 pub fn sender(word: u32, nibble: u32) -> Sender
     ensures { result ≡ sender_of word nibble }
 {
-    let placed = word == 1;
-    if placed {
-        return Sender::Placed(number8(nibble));
+    match word {
+        1 => Sender::Placed(number8(nibble)),
+        2 => Sender::Kept(number8(nibble)),
+        _ => Sender::Next,
     }
-    let kept = word == 2;
-    if kept {
-        return Sender::Kept(number8(nibble));
-    }
-    Sender::Next
 }
 
 pub fn with_sender(word: u32, s: Sender) -> u32
@@ -162,8 +137,7 @@ pub fn with_nibble(word: u32, s: Sender) -> u32
 {
     match s {
         Sender::Next => word,
-        Sender::Placed(n) => with8(word, n),
-        Sender::Kept(n) => with8(word, n),
+        Sender::Placed(n) | Sender::Kept(n) => with8(word, n),
     }
 }
 

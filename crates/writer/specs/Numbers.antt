@@ -1,11 +1,13 @@
 -- Document 01, "Refusal numbers" (2, 11).
-use Rattle.std.specs.Prelude.{ℕ}
-use Rattle.message.specs.Answer.{Answer, gives, refused}
-use Rattle.writer.specs.declared.Written.{Written}
-use Rattle.writer.specs.declared.Written.TheVariants.{Length, TooLong, NoRoom}
+use Rattle.std.specs.Prelude.{ℕ, Result}
+use Rattle.message.specs.Answer.{Answer, answered}
+use Rattle.writer.specs.declared.WriteError.{WriteError}
+use Rattle.writer.specs.declared.WriteError.TheVariants.{TooLong, NoRoom}
+
+abbrev pub number : WriteError → ℕ
+number TooLong = 2
+number NoRoom = 11
 
 -- The number and value of each answer of a writer.
-abbrev pub numbered : Written → Answer ℕ
-numbered (Length n) = gives n
-numbered TooLong = refused 2
-numbered NoRoom = refused 11
+abbrev pub numbered : Result ℕ WriteError → Answer ℕ
+numbered r = answered number r

@@ -9,10 +9,6 @@ returns-then-is_submitted c =
     let a = c.args in
     c.nibble.ensures ∙ nibble_with a.f a.«data».now a.i true (sym c.is_submitted.ensures ∙ c.if-is_submitted.true)
 
--- TODO no goal: slice-aggregate-nibble
--- slice-aggregate-nibble : tie.Need-slice-aggregate-nibble
--- slice-aggregate-nibble c = search rules
-
 pub returns : goal.returns
 returns c =
     let a = c.args in

@@ -7,32 +7,26 @@ use Rattle.gateway.specs.Messages.{command_in}
 use Rattle.gateway.proofs.Controllers.{controller-given, controller-kept}
 use Rattle.gateway.proofs.controller_calls.hexbus_controller_submit.Goals as goal
 
-pub returns-in-Accepted : goal.returns-in-Accepted
-returns-in-Accepted c =
+pub returns-in-Ok : goal.returns-in-Ok
+returns-in-Ok c =
     let a = c.args in
-    let e = c.submit-s.ensures in
+    let e = c.submit.ensures in
     let n = length a.«data».now in
     let m = length a.response.now in
     let k = c.command_in-k.ensures in
     let from = c.load-c.ensures in
-    controller-given (controller_submitted (loaded a.controller.now) (command_in a.fields.now) n m) a.controller.now (sym (ap submitted c.in-Accepted.is) ∙ e.0 ∙ λ i. submitting (from i) (k i) n m) (c.save.ensures ∙ ap (saved_in a.controller.now) (e.1 ∙ λ i. controller_submitted (from i) (k i) n m))
+    controller-given (controller_submitted (loaded a.controller.now) (command_in a.fields.now) n m) a.controller.now
+    (sym (ap submitted c.in-Ok.is) ∙ e.outcome ∙ (λ i. submitting (from i) (k i) n m))
+    (c.save.ensures ∙ ap (saved_in a.controller.now) (e.state ∙ (λ i. controller_submitted (from i) (k i) n m)))
 
-pub returns-in-FullRing : goal.returns-in-FullRing
-returns-in-FullRing c =
+pub returns-in-Err : goal.returns-in-Err
+returns-in-Err c =
     let a = c.args in
-    let e = c.submit-s.ensures in
     let n = length a.«data».now in
     let m = length a.response.now in
     let k = c.command_in-k.ensures in
     let from = c.load-c.ensures in
-    controller-kept (controller_submitted (loaded a.controller.now) (command_in a.fields.now) n m) a.controller.now (sym (ap submitted c.in-FullRing.is) ∙ e.0 ∙ λ i. submitting (from i) (k i) n m)
-
-pub returns-in-ShortResponse : goal.returns-in-ShortResponse
-returns-in-ShortResponse c =
-    let a = c.args in
-    let e = c.submit-s.ensures in
-    let n = length a.«data».now in
-    let m = length a.response.now in
-    let k = c.command_in-k.ensures in
-    let from = c.load-c.ensures in
-    controller-kept (controller_submitted (loaded a.controller.now) (command_in a.fields.now) n m) a.controller.now (sym (ap submitted c.in-ShortResponse.is) ∙ e.0 ∙ λ i. submitting (from i) (k i) n m)
+    let kept =
+    controller-kept (controller_submitted (loaded a.controller.now) (command_in a.fields.now) n m) a.controller.now
+    (sym (ap submitted c.in-Err.is) ∙ c.submit.ensures.outcome ∙ (λ i. submitting (from i) (k i) n m)) in
+    (c.from.ensures ∙ kept.0, kept.1)

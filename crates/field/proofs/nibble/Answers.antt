@@ -1,9 +1,0 @@
--- `field::nibble` meets its contract: an even place is the low nibble, an odd one the high nibble.
-use Rattle.field.proofs.Laws.{odd}
-use Rattle.field.proofs.nibble.Goals as goal
-
-pub returns-then-i-eq0 : goal.returns-then-i-eq0
-returns-then-i-eq0 c = simp c.if-i-eq0.true
-
-pub returns-else-i-eq0 : goal.returns-else-i-eq0
-returns-else-i-eq0 c = simp (odd _ c.if-i-eq0.false)
