@@ -79,7 +79,11 @@ pub fn open<R: Env + Files<File = File>>(
         return Err(Unavailable);
     }
     match open_overwrite(rt, name.letters()) {
-        Ok(file) => Ok(Some(file.into_raw_fd())),
+        Ok(file) => {
+            let out = file.into_raw_fd();
+            // Where the caller had closed standard input, this is its descriptor, and nothing is written to it.
+            Ok(if out == STDIN { None } else { Some(out) })
+        }
         Err(error) => Err(fail(name.letters(), error)),
     }
 }

@@ -2,19 +2,45 @@
 
 #![tactic(auto)]
 
-ghost use Rattle.std.specs.Prelude.{◌≤◌};
+ghost use Rattle.std.specs.Prelude.{◌≡◌, ◌≤◌, replicate};
 
 use bus::{Bus, MEMORY};
 use desk::View;
 use picture::Marks;
 use statement::{Act, Doing, Form, Refusal, Statement, Stepped, Store, Told, UNIT_MEMORY, Values};
 
-// A bus, the response buffer of its application, and the memory of its units.
+// A bus.
 #[derive(Drop)]
 pub struct Bench {
     bus: Bus,
+}
+
+// What is lent to it: the response buffer of its application, and the memory of its units.
+#[derive(Drop)]
+pub struct Lent {
     pub response: [u8; 65536],
     pub memory: [u8; MEMORY],
+}
+
+impl Lent {
+    pub fn new() -> Lent
+        ensures response { result.response ≡ replicate 65536 0 }
+        ensures memory { result.memory ≡ replicate 38912 0 }
+    {
+        Lent {
+            response: [0; 65536],
+            memory: [0; MEMORY],
+        }
+    }
+
+    // As it is before the first round of a script.
+    pub fn renew(&mut self)
+        ensures response { self.new.response ≡ replicate 65536 0 }
+        ensures memory { self.new.memory ≡ replicate 38912 0xEE }
+    {
+        self.response.fill(0);
+        self.memory.fill(0xEE);
+    }
 }
 
 impl Bench {
@@ -23,37 +49,41 @@ impl Bench {
         let made = application::make(application::TIMEOUT);
         Bench {
             bus: Bus::new(made.controller),
-            response: [0; 65536],
-            memory: [0xEE; MEMORY],
         }
     }
 
     // An act for a statement, and what it comes to.
-    pub fn act(&mut self, s: &Statement, doing: &Doing, store: &mut Store) -> Told {
+    pub fn act(
+        &mut self,
+        s: &Statement,
+        doing: &Doing,
+        store: &mut Store,
+        lent: &mut Lent,
+    ) -> Told {
         match doing.act {
             // The length of a forced command counts as in its frame, which has two bytes for it.
             Act::Round => Told::Stepped(round(
                 &mut self.bus,
                 doing,
                 controllercalls::data(store, doing.length % 65536),
-                &mut self.response,
-                &mut self.memory,
+                &mut lent.response,
+                &mut lent.memory,
             )),
             Act::Controller if s.is(Form::Step) => Told::Stepped(controllercalls::step(
                 &mut self.bus.controller,
                 s,
                 doing,
                 store,
-                &mut self.response,
+                &mut lent.response,
             )),
             Act::Controller => Told::Called(controllercalls::act(
                 &mut self.bus.controller,
                 s,
                 store,
-                &mut self.response,
+                &mut lent.response,
             )),
             Act::OneMore => Told::Called(self.one_more(&s.values)),
-            Act::Unit(i) => self.of_unit(i, s, doing, store),
+            Act::Unit(i) => self.of_unit(i, s, doing, store, &mut lent.memory),
         }
     }
 
@@ -65,9 +95,16 @@ impl Bench {
     }
 
     // The unit at a place. The ring as it was before is noted.
-    fn of_unit(&mut self, i: usize, s: &Statement, doing: &Doing, store: &mut Store) -> Told {
+    fn of_unit(
+        &mut self,
+        i: usize,
+        s: &Statement,
+        doing: &Doing,
+        store: &mut Store,
+        memory: &mut [u8],
+    ) -> Told {
         self.entries(store);
-        let part = self.memory.chunks_exact_mut(UNIT_MEMORY).nth(i);
+        let part = memory.chunks_exact_mut(UNIT_MEMORY).nth(i);
         match (self.bus.units.get_mut(i), part) {
             (Some(u), Some(memory)) => unitcalls::act(u, s, doing, store, memory),
             _ => Told::Called(Ok(())),

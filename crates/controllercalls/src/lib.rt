@@ -170,8 +170,11 @@ fn keep(s: &Statement, store: &mut Store) {
         command[..3].copy_from_slice(&[low, high, attributes]);
         at = 3;
     }
-    let places = command[at..].iter_mut().chain(answers[0].iter_mut());
-    for (to, b) in places.zip(word::front(statement, s.bytes)) {
+    let bytes = word::front(statement, s.bytes);
+    let room = &mut command[at..];
+    let n = bytes.len().min(room.len());
+    room[..n].copy_from_slice(&bytes[..n]);
+    for (to, b) in answers[0].iter_mut().zip(&bytes[n..]) {
         *to = *b;
     }
 }

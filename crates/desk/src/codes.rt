@@ -1,13 +1,26 @@
 // Codes of parties by their place.
-ghost use Rattle.std.specs.Prelude.{◌≤◌, ◌<◌, length, IfSome};
+ghost use Rattle.std.specs.Prelude.{◌≡◌, ◌≤◌, ◌<◌, ⊤, length, IfSome};
+
+use std::alloc::AllocError;
 
 // The codes of up to N parties. There is no heap, so they are counted.
-#[derive(Drop)]
 pub struct Codes<T, const N: usize> {
     codes: [T; N],
     count: usize,
     ghost within: { count ≤ N },
 }
+
+impl<T: Copy, const N: usize> Clone for Codes<T, N> {
+    ghost is_clone = { λ codes copy. copy ≡ codes };
+
+    ghost is_infallible = { λ _. ⊤ };
+
+    fn clone(&self) -> Result<Codes<T, N>, AllocError> {
+        Ok(*self)
+    }
+}
+
+impl<T: Copy, const N: usize> Copy for Codes<T, N> {}
 
 impl<T: Copy + Eq + Drop, const N: usize> Codes<T, N> {
     // None yet. In the places that are left stands a code that is never seen.

@@ -83,7 +83,7 @@ pub struct Pending {
     pub start: usize,
 }
 
-#[derive(Drop)]
+#[derive(Clone, Copy)]
 pub struct Desk {
     // The place in the script, and the parties that there are.
     pub plan: Plan,

@@ -5,7 +5,7 @@ use crate::{Codes, OTHER};
 use statement::{Form, Statement, Value, Values};
 use std::fmt;
 
-#[derive(Drop)]
+#[derive(Clone, Copy)]
 pub struct Plan {
     // The codes of units, and of stand-ins, none for one of every code; whether rounds are run.
     pub units: Codes<u8, 16>,

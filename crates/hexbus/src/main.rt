@@ -7,11 +7,12 @@ mod played;
 
 use asked::files::{Content, Unavailable};
 use asked::{Wanted, Wrong, files};
+use bench::Lent;
 use desk::tally::Tally;
 use desk::{Desk, Failures, Script, reading};
 use page::{Page, STDOUT};
 use played::Play;
-use statement::{Form, MOST};
+use statement::{Form, Store};
 use std::fs::File;
 use std::io::Input;
 use std::rt::{Env, Files};
@@ -72,15 +73,26 @@ fn run<R: Env + Files<File = File> + Input>(rt: &R) -> bool {
         return false;
     };
     let mut text = [0; LARGEST];
+    let mut store = Store::new();
+    let mut lent = Lent::new();
     let mut failures = Failures::new();
     let mut tally = Tally::new();
     for i in 2..asked::count(rt) {
         let name = asked::arg(rt, i);
         if wanted.is_script(i, name.letters()) {
-            let played = named(rt, &wanted, name.letters(), &mut text, &mut failures);
+            let name = name.letters();
+            let played = named(
+                rt,
+                &wanted,
+                name,
+                &mut text,
+                &mut store,
+                &mut lent,
+                &mut failures,
+            );
             match played {
-                Ok(desk) => tally.played(&desk, name.letters()),
-                Err(Unavailable) => tally.not_run(&mut failures, name.letters()),
+                Ok(desk) => tally.played(&desk, name),
+                Err(Unavailable) => tally.not_run(&mut failures, name),
             }
         }
     }
@@ -93,23 +105,24 @@ fn named<R: Env + Files<File = File> + Input>(
     wanted: &Wanted,
     name: &[u8],
     text: &mut [u8; LARGEST],
+    store: &mut Store,
+    lent: &mut Lent,
     failures: &mut Failures,
 ) -> Result<Desk, Unavailable> {
     let text = files::load(rt, name, text)?;
     let script = Script { name, text };
-    check(script)?;
+    check(script, store)?;
     let dump = files::open(rt, wanted.dump, Content::Dump)?;
     page::show(STDOUT, name);
     page::say(STDOUT, b"\n");
     let screens = files::open(rt, wanted.screen, Content::Screens)?;
-    let play = Play::new(script, dump, wanted.is_pictured);
-    Ok(play.whole(screens, failures))
+    let mut play = Play::new(script, dump, wanted.is_pictured);
+    Ok(play.whole(store, lent, screens, failures))
 }
 
 // Whether every line can be played.
-fn check(script: Script<'_>) -> Result<(), Unavailable> {
-    let mut bytes = [0; MOST];
-    let plan = reading::read(script, &mut bytes);
+fn check(script: Script<'_>, store: &mut Store) -> Result<(), Unavailable> {
+    let plan = reading::read(script, &mut store.statement);
     if 0 < plan.faults {
         page::show(STDOUT, script.name);
         page::say(STDOUT, b": nothing was run\n\n");

@@ -1,18 +1,18 @@
 // A script without faults is played, step by step.
-use bench::Bench;
+use bench::{Bench, Lent};
 use desk::{Desk, Failures, Script};
 use page::Out;
 use play::{Look, Rows, found, noted, pictured};
 use statement::{Doing, Event, Form, Stepped, Store, Told};
 
-// A script, the desk, the hosts and stand-ins of the bus, the bus, and what is lent beside it.
+// A script, the desk, the hosts and stand-ins of the bus, and the bus. What is lent to the bus and beside it is large, and the scripts of a
+// run take it one after the other.
 #[derive(Drop)]
 pub struct Play<'a> {
     script: Script<'a>,
     desk: Desk,
     rows: Rows,
     bench: Bench,
-    store: Store,
 }
 
 impl<'a> Play<'a> {
@@ -26,93 +26,86 @@ impl<'a> Play<'a> {
             desk,
             rows: Rows::new(),
             bench: Bench::new(),
-            store: Store::new(),
         }
     }
 
-    // All of it; what it has come to. The screens of the bus are written to a file at its end.
-    pub fn whole(mut self, screens: Out, failures: &mut Failures) -> Desk {
+    // All of it; what it has come to. The screens of the bus are written to a file at its end. Nothing that a script before it has left in
+    // the store is looked at.
+    pub fn whole(
+        &mut self,
+        store: &mut Store,
+        lent: &mut Lent,
+        screens: Out,
+        failures: &mut Failures,
+    ) -> Desk {
+        lent.renew();
         for _ in 0..u64::MAX {
             if (self.script.text.len() <= self.desk.plan.next) & !self.desk.is_under_way {
                 break;
             }
-            self.step(failures);
+            self.step(store, lent, failures);
         }
-        let Play {
-            script,
-            mut desk,
-            bench,
-            ..
-        } = self;
-        play::ended(script, &mut desk, failures);
-        found::write_screens(&mut desk, screens, &bench.memory);
-        desk
+        play::ended(self.script, &mut self.desk, failures);
+        found::write_screens(&mut self.desk, screens, &lent.memory);
+        self.desk
     }
 
     // The next statement, where none is under way; then an act of the bus for it, or what has come of all of them.
-    fn step(&mut self, failures: &mut Failures) {
+    fn step(&mut self, store: &mut Store, lent: &mut Lent, failures: &mut Failures) {
         if !self.desk.is_under_way {
-            play::next(
-                self.script,
-                &mut self.desk,
-                &mut self.rows,
-                &mut self.store,
-                failures,
-            );
+            play::next(self.script, &mut self.desk, &mut self.rows, store, failures);
         }
         if play::goes_on(&self.desk, &self.rows) {
-            self.act();
+            self.act(store, lent);
         } else {
-            self.conclude(failures);
+            self.conclude(store, lent, failures);
         }
     }
 
-    fn act(&mut self) {
+    fn act(&mut self, store: &mut Store, lent: &mut Lent) {
         let doing = play::doing(&self.desk, &mut self.rows);
-        let told = self
-            .bench
-            .act(&self.desk.statement, &doing, &mut self.store);
+        let told = self.bench.act(&self.desk.statement, &doing, store, lent);
         noted::acted(
             &mut self.desk,
             &doing,
             told,
             &mut self.rows,
-            &mut self.store,
-            &self.bench.response,
+            store,
+            &lent.response,
         );
-        self.see(&doing, told);
+        self.see(&doing, told, store);
     }
 
     // What is seen of the bus after an act. A request that is handed over is acknowledged at once, where the script says so.
-    fn see(&mut self, doing: &Doing, told: Told) {
+    fn see(&mut self, doing: &Doing, told: Told, store: &mut Store) {
         if let (Some(code), true) = (handed(told), self.desk.acknowledges) {
             self.bench.acknowledge(code);
         }
         noted::seen(&mut self.desk, self.bench.view());
         if pictured::is_wanted(&self.desk, doing.act) {
             let marks = self.bench.marks();
-            pictured::round(&mut self.desk, marks, &mut self.rows, &mut self.store);
+            pictured::round(&mut self.desk, marks, &mut self.rows, store);
         }
     }
 
     // After a look at the bus.
-    fn conclude(&mut self, failures: &mut Failures) {
+    fn conclude(&mut self, store: &mut Store, lent: &Lent, failures: &mut Failures) {
         let s = self.desk.statement;
-        self.desk.entries = self.bench.entries(&mut self.store);
+        self.desk.entries = self.bench.entries(store);
         if s.is(Form::ShowUnits) {
             self.show_units();
         }
         let look = Look {
             values: self.bench.looks(s.form, self.desk.plan.subject(&s)),
-            response: &self.bench.response,
-            memory: &self.bench.memory,
+            response: &lent.response,
+            memory: &lent.memory,
         };
         play::concluded(
             self.script,
             &mut self.desk,
             &look,
             &self.rows,
-            &self.store,
+            store,
             failures,
         );
     }

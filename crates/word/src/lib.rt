@@ -109,9 +109,7 @@ fn number(w: &[u8], base: u32, most: usize) -> Option<u64>
     let mut value = 0u64;
     for b in w {
         let digit = char::from(*b).to_digit(base)?;
-        value = value
-            .saturating_mul(u64::from(base))
-            .saturating_add(u64::from(digit));
+        value = value % 4294967296 * u64::from(base) + u64::from(digit);
     }
     Some(value)
 }
