@@ -9,7 +9,7 @@ use desk::View;
 use picture::Marks;
 use statement::{Act, Doing, Form, Refusal, Statement, Stepped, Store, Told, UNIT_MEMORY, Values};
 
-// A bus.
+// The bus of a script. It lies apart from what is lent to it, which is too large to be made anew for each script.
 #[derive(Drop)]
 pub struct Bench {
     bus: Bus,
@@ -23,6 +23,7 @@ pub struct Lent {
 }
 
 impl Lent {
+    // Blank. It is renewed before each script.
     pub fn new() -> Lent
         ensures response { result.response ≡ replicate 65536 0 }
         ensures memory { result.memory ≡ replicate 38912 0 }
